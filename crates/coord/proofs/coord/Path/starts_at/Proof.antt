@@ -1,0 +1,31 @@
+use mathlib.Core.Path.{sym, _∙_}
+use borrow.Author.Needs.{needs}
+use Rattle.coord.specs.Paths.{elements, startsAt}
+use Rattle.coord.proofs.Laws.{no-first, first-element}
+use Rattle.coord.proofs.coord.Path.starts_at.Statement.{statement}
+use Rattle.coord.proofs.coord.Path.starts_at.Tie as tie
+
+count-requires : tie.Need-count-requires
+count-requires c κs = search needs
+
+returns : tie.Need-returns
+unfolding startsAt
+returns c =
+    let n = c .before in
+    sym (no-first _ (elements (n .before .args .t1)) (sym (n .count .ensures .0) ∙ c .if1 .taken))
+
+element-copy-out-x : tie.Need-element-copy-out-x
+element-copy-out-x c = search needs
+
+same-as-requires : tie.Need-same-as-requires
+same-as-requires c κs = search needs
+
+returns-2 : tie.Need-returns-2
+unfolding startsAt
+returns-2 c =
+    let n = c .before .before .before .before in
+    c .same-as .ensures ∙ sym (first-element _ (n .before .args .t1) (λ e. c .before .before .before .if1 .left (n .count .ensures .0 ∙ e)))
+
+pub starts-at-spec : {M : Type 1} → statement M
+starts-at-spec =
+    tie.close (tie.spec count-requires returns element-copy-out-x same-as-requires returns-2)

@@ -1,0 +1,39 @@
+// A node's routing address. As in the original it is a type of its own, so that no other sixteen bytes pass for one.
+ghost use mathlib.Core.Path.{_≡_};
+ghost use Rattle.coord.specs.Addresses.{sameAddr, addrBefore};
+
+pub struct NodeAddr(pub [u8; 16]);
+
+impl NodeAddr {
+    // Byte by byte.
+    pub fn same_as(self, other: NodeAddr) -> bool
+        ensures { λ r. ⌜ r ≡ sameAddr self other ⌝ }
+    {
+        let x = self.0;
+        let y = other.0;
+        let mut i = 0;
+        while i < 16 {
+            if x[i] != y[i] {
+                return false;
+            }
+            i += 1;
+        }
+        true
+    }
+
+    // The bytewise order: the first byte that differs decides.
+    pub fn before(self, other: NodeAddr) -> bool
+        ensures { λ r. ⌜ r ≡ addrBefore self other ⌝ }
+    {
+        let a = self.0;
+        let b = other.0;
+        let mut at = 0;
+        while at < 16 {
+            if a[at] != b[at] {
+                return a[at] < b[at];
+            }
+            at += 1;
+        }
+        false
+    }
+}

@@ -1,0 +1,138 @@
+-- Any memory of bytes that holds a head: its view fits; and the memory of a state that fits is bytes.
+use mathlib.Core.Path.{_≡_, refl, sym, ap, _∙_, subst}
+use Prim.Native.Nat.{ℕ, zero, suc, _+_, _*_, _-_, _/_, _%_, _≤_, _<_, min}
+use native.Mathlib.Omega.{arith}
+use mathlib.Core.List.{List, [], _∷_, _++_}
+use lib.ListN.{length, take, drop, length-drop}
+use lib.Seq.{length-take-le}
+use Rattle.coord.specs.declared.coord.CoordEntry.{CoordEntry}
+use Rattle.rules.specs.Cases.{Every}
+use Rattle.rules.specs.Records.{Entry, Row, State}
+use Rattle.rules.specs.Memory.{coordEntriesBytes, coordEntriesOf, coordEntryOf, cut, entryBytes, entryOf, heldRows, leBytes, leNumber, memory, pathOf, rowBytes, rowOf, rowsBytes, rowsOf, view}
+use Rattle.rules.specs.Lent.{AddrFits, Bytes, CoordEntryFits, Small}
+use Rattle.rules.proofs.MemoryLaws.{bytes-append, bytes-cut, bytes-drop, bytes-take, held-fits, length-cut}
+use Rattle.rules.proofs.ViewLaws.{EntryFits, Fits, RowFits}
+
+-- ---- a number read from n bytes has n bytes
+
+number-small : (c : List ℕ) → Bytes c → Small (length c) (leNumber c)
+unfolding leNumber
+number-small [] b = refl
+number-small (x ∷ xs) b = let h = b .0 in let d : (x + leNumber xs * 256) / 256 ≡ leNumber xs = omega arith in subst (Small (length xs)) (sym d) (number-small xs (b .1))
+
+cut-small : (k w : ℕ) (c : List ℕ) → k + w ≤ length c → Bytes c → Small w (leNumber (cut k w c))
+cut-small k w c h b = subst (λ (n : ℕ). Small n (leNumber (cut k w c))) (length-cut k w c h) (number-small (cut k w c) (bytes-cut k w c b))
+
+address-fits : (k : ℕ) (c : List ℕ) → k + 16 ≤ length c → Bytes c → AddrFits (record { 0 = cut k 16 c })
+address-fits k c h b = record { size = length-cut k 16 c h; bytes = bytes-cut k 16 c b }
+
+entry-of-fits : (c : List ℕ) → length c ≡ 32 → Bytes c → CoordEntryFits (coordEntryOf c)
+unfolding coordEntryOf
+entry-of-fits c h b = record { address = address-fits 0 c (omega arith) b; sequence = cut-small 16 8 c (omega arith) b; timestamp = cut-small 24 8 c (omega arith) b }
+
+entries-of-length : (n : ℕ) (l : List ℕ) → length (coordEntriesOf n l) ≡ n
+unfolding coordEntriesOf
+entries-of-length zero l = refl
+entries-of-length (suc n) l = ap suc (entries-of-length n (drop 32 l))
+
+entries-of-fit : (n : ℕ) (l : List ℕ) → n * 32 ≤ length l → Bytes l → Every CoordEntryFits (coordEntriesOf n l)
+unfolding coordEntriesOf
+entries-of-fit zero l h b = tt
+entries-of-fit (suc n) l h b =
+    let d : n * 32 ≤ length (drop 32 l) = rw length-drop (omega arith) in
+    (entry-of-fits (take 32 l) (length-take-le 32 l (omega arith)) (bytes-take 32 l b), entries-of-fit n (drop 32 l) d (bytes-drop 32 l b))
+
+entry-fits-of : (c : List ℕ) → length c ≡ 1061 → Bytes c → EntryFits (entryOf c)
+unfolding entryOf pathOf
+entry-fits-of c h b =
+    let d : 32 * 32 ≤ length (drop 1 c) = rw length-drop (omega arith) in
+    record {
+      len = cut-small 0 1 c (omega arith) b;
+      entries = entries-of-length 32 (drop 1 c);
+      each = entries-of-fit 32 (drop 1 c) d (bytes-drop 1 c b);
+      createdAt = cut-small 1025 8 c (omega arith) b;
+      lastUsed = cut-small 1033 8 c (omega arith) b;
+      expiresAt = cut-small 1041 8 c (omega arith) b;
+      mtuMark = cut-small 1049 1 c (omega arith) b;
+      mtu = cut-small 1050 2 c (omega arith) b;
+      source = cut-small 1052 1 c (omega arith) b;
+      verifiedUntil = cut-small 1053 8 c (omega arith) b;
+    }
+
+row-fits-of : (c : List ℕ) → length c ≡ 1095 → Bytes c → RowFits (rowOf c)
+unfolding rowOf
+row-fits-of c h b =
+    record {
+      key = address-fits 0 c (omega arith) b;
+      entry = entry-fits-of (cut 16 1061 c) (length-cut 16 1061 c (omega arith)) (bytes-cut 16 1061 c b);
+      place = cut-small 1077 1 c (omega arith) b;
+      stampFirst = cut-small 1078 8 c (omega arith) b;
+      stampSeq = cut-small 1086 8 c (omega arith) b;
+      weight = cut-small 1094 1 c (omega arith) b;
+    }
+
+rows-of-fit : (n : ℕ) (l : List ℕ) → n * 1095 ≤ length l → Bytes l → Every RowFits (rowsOf n l)
+unfolding rowsOf
+rows-of-fit zero l h b = tt
+rows-of-fit (suc n) l h b =
+    let d : n * 1095 ≤ length (drop 1095 l) = rw length-drop (omega arith) in
+    (row-fits-of (take 1095 l) (length-take-le 1095 l (omega arith)) (bytes-take 1095 l b), rows-of-fit n (drop 1095 l) d (bytes-drop 1095 l b))
+
+pub rows-of-length : (n : ℕ) (l : List ℕ) → length (rowsOf n l) ≡ n
+unfolding rowsOf
+rows-of-length zero l = refl
+rows-of-length (suc n) l = ap suc (rows-of-length n (drop 1095 l))
+
+-- ANY MEMORY'S VIEW FITS, where the head fits and counts the rows
+pub view-fits : (l : List ℕ) → 40 ≤ length l → Bytes l → view l .rowCount ≡ length (view l .rows) → Fits (length l) (view l)
+unfolding view
+view-fits l h b c =
+    let n = heldRows l in
+    let f = held-fits l h in
+    let d : n * 1095 ≤ length (drop 40 l) = rw length-drop (omega arith) in
+    record {
+      maxEntries = cut-small 0 8 l (omega arith) b;
+      defaultTtl = cut-small 8 8 l (omega arith) b;
+      seq = cut-small 16 8 l (omega arith) b;
+      storedWeight = cut-small 24 8 l (omega arith) b;
+      rowCount = cut-small 32 8 l (omega arith) b;
+      counted = c;
+      rows = rows-of-fit n (drop 40 l) d (bytes-drop 40 l b);
+      rest = bytes-drop (40 + n * 1095) l b;
+      size = rw (length-drop (40 + n * 1095) l, rows-of-length n (drop 40 l)) (omega arith);
+    }
+
+-- ---- the memory of a state that fits is bytes
+
+le-bytes : (n v : ℕ) → Bytes (leBytes n v)
+unfolding leBytes
+le-bytes zero v = tt
+le-bytes (suc n) v = (omega arith, le-bytes n (v / 256))
+
+-- a number, and bytes behind it
+number-then : (n v : ℕ) (t : List ℕ) → Bytes t → Bytes (leBytes n v ++ t)
+number-then n v t b = bytes-append (leBytes n v) t (le-bytes n v) b
+
+entries-bytes : (xs : List CoordEntry) → Every CoordEntryFits xs → Bytes (coordEntriesBytes xs)
+unfolding coordEntriesBytes
+entries-bytes [] h = tt
+entries-bytes (x ∷ xs) h = bytes-append (x .«node_addr» .0) _ (h .0 .address .bytes) (number-then 8 (x .sequence) _ (number-then 8 (x .timestamp) _ (entries-bytes xs (h .1))))
+
+entry-bytes : (e : Entry) → EntryFits e → Bytes (entryBytes e)
+unfolding entryBytes
+entry-bytes e h =
+    number-then 1 (e .path .len) _ (bytes-append (coordEntriesBytes (e .path .entries)) _ (entries-bytes (e .path .entries) (h .each))
+    (number-then 8 (e .createdAt) _ (number-then 8 (e .lastUsed) _ (number-then 8 (e .expiresAt) _ (number-then 1 (e .mtuMark) _ (number-then 2 (e .mtu) _ (number-then 1 (e .source) _ (le-bytes 8 (e .verifiedUntil)))))))))
+
+row-bytes : (r : Row) → RowFits r → Bytes (rowBytes r)
+unfolding rowBytes
+row-bytes r h = bytes-append (r .key .0) _ (h .key .bytes) (bytes-append (entryBytes (r .entry)) _ (entry-bytes (r .entry) (h .entry)) (number-then 1 (r .place) _ (number-then 8 (r .stampFirst) _ (number-then 8 (r .stampSeq) _ (le-bytes 1 (r .weight))))))
+
+rows-bytes : (rs : List Row) → Every RowFits rs → Bytes (rowsBytes rs)
+unfolding rowsBytes
+rows-bytes [] h = tt
+rows-bytes (r ∷ rs) h = bytes-append (rowBytes r) (rowsBytes rs) (row-bytes r (h .0)) (rows-bytes rs (h .1))
+
+pub memory-bytes : (L : ℕ) (s : State) → Fits L s → Bytes (memory s)
+unfolding memory
+memory-bytes L s h = number-then 8 (s .maxEntries) _ (number-then 8 (s .defaultTtl) _ (number-then 8 (s .seq) _ (number-then 8 (s .storedWeight) _ (number-then 8 (s .rowCount) _ (bytes-append (rowsBytes (s .rows)) (s .rest) (rows-bytes (s .rows) (h .rows)) (h .rest))))))

@@ -1,0 +1,126 @@
+-- The memory is the memory of its state: an equation of states is an equation of the memory.
+use mathlib.Core.Path.{_≡_, refl, sym, ap, _∙_, subst}
+use Prim.Native.Nat.{ℕ, zero, suc, _+_, _*_, _-_, _/_, _%_, _≤_, _<_, min}
+use native.Mathlib.Omega.{arith}
+use mathlib.Core.List.{List, [], _∷_, _++_, append-assoc}
+use lib.ListN.{length, take, drop, getD, length-drop, take-append-drop}
+use lib.Seq.{length-take-le, take-all, drop-drop}
+use Rattle.coord.specs.declared.coord.CoordEntry.{CoordEntry}
+use Rattle.rules.specs.Memory.{addrBytes, capacity, coordEntriesBytes, coordEntriesOf, coordEntryOf, cut, entryBytes, entryOf, heldRows, leBytes, leNumber, memory, pathOf, rowBytes, rowOf, rowsBytes, rowsOf, view}
+use Rattle.rules.specs.Lent.{Bytes}
+
+pub all-bytes : (l : List ℕ) → ((i : ℕ) → getD l i 0 < 256) → Bytes l
+all-bytes [] h = tt
+all-bytes (x ∷ xs) h = (h 0, all-bytes xs (λ i. h (suc i)))
+
+pub bytes-drop : (k : ℕ) (l : List ℕ) → Bytes l → Bytes (drop k l)
+bytes-drop zero l b = b
+bytes-drop (suc k) [] b = tt
+bytes-drop (suc k) (x ∷ xs) b = bytes-drop k xs (b .1)
+
+pub bytes-take : (k : ℕ) (l : List ℕ) → Bytes l → Bytes (take k l)
+bytes-take zero l b = tt
+bytes-take (suc k) [] b = tt
+bytes-take (suc k) (x ∷ xs) b = (b .0, bytes-take k xs (b .1))
+
+pub bytes-append : (a b : List ℕ) → Bytes a → Bytes b → Bytes (a ++ b)
+bytes-append [] b h g = g
+bytes-append (x ∷ xs) b h g = (h .0, bytes-append xs b (h .1) g)
+
+pub bytes-cut : (k w : ℕ) (l : List ℕ) → Bytes l → Bytes (cut k w l)
+bytes-cut k w l b = bytes-take w (drop k l) (bytes-drop k l b)
+
+pub length-cut : (k w : ℕ) (l : List ℕ) → k + w ≤ length l → length (cut k w l) ≡ w
+length-cut k w l h = length-take-le w (drop k l) (rw length-drop (omega arith))
+
+le-num : (c : List ℕ) → Bytes c → leBytes (length c) (leNumber c) ≡ c
+unfolding leBytes leNumber
+le-num [] b = refl
+le-num (x ∷ xs) b =
+    let h = b .0 in
+    let m : (x + leNumber xs * 256) % 256 ≡ x = omega arith in
+    let d : (x + leNumber xs * 256) / 256 ≡ leNumber xs = omega arith in
+    rw (m, d) (ap (λ (t : List ℕ). x ∷ t) (le-num xs (b .1)))
+
+module _ (c : List ℕ) (b : Bytes c) where
+  part : (k w : ℕ) (t : List ℕ) → t ≡ drop (k + w) c → cut k w c ++ t ≡ drop k c
+  part k w t e = ap (λ (u : List ℕ). cut k w c ++ u) (e ∙ sym (drop-drop w k c)) ∙ take-append-drop w (drop k c)
+
+  number : (k w : ℕ) (t : List ℕ) → k + w ≤ length c → t ≡ drop (k + w) c → leBytes w (leNumber (cut k w c)) ++ t ≡ drop k c
+  number k w t h e = ap (λ (u : List ℕ). u ++ t) (rw (length-cut k w c h) at (le-num (cut k w c) (bytes-cut k w c b))) ∙ part k w t e
+
+  -- the last field
+  last-number : (k w : ℕ) → length c ≡ k + w → leBytes w (leNumber (cut k w c)) ≡ drop k c
+  last-number k w h = (rw (length-cut k w c (omega arith)) at (le-num (cut k w c) (bytes-cut k w c b))) ∙ take-all w (drop k c) (rw length-drop (omega arith))
+
+entry-first : (x : CoordEntry) (xs : List CoordEntry) (t : List ℕ) → coordEntriesBytes (x ∷ xs) ++ t ≡ (addrBytes (x .«node_addr») ++ (leBytes 8 (x .sequence) ++ leBytes 8 (x .timestamp))) ++ (coordEntriesBytes xs ++ t)
+unfolding coordEntriesBytes
+entry-first x xs t = simp append-assoc
+
+no-entry : (l : List ℕ) → coordEntriesBytes [] ++ l ≡ l
+unfolding coordEntriesBytes
+no-entry l = refl
+
+pub no-entries : coordEntriesBytes [] ≡ []
+unfolding coordEntriesBytes
+no-entries = refl
+
+pub entries-cons : (x : CoordEntry) (xs : List CoordEntry) → coordEntriesBytes (x ∷ xs) ≡ (addrBytes (x .«node_addr») ++ (leBytes 8 (x .sequence) ++ leBytes 8 (x .timestamp))) ++ coordEntriesBytes xs
+unfolding coordEntriesBytes
+entries-cons x xs = simp append-assoc
+
+pub elem-memory : (c : List ℕ) → Bytes c → length c ≡ 32 → addrBytes (coordEntryOf c .«node_addr») ++ (leBytes 8 (coordEntryOf c .sequence) ++ leBytes 8 (coordEntryOf c .timestamp)) ≡ c
+unfolding coordEntryOf
+elem-memory c b k = part c b 0 16 _ (number c b 16 8 _ (omega arith) (last-number c b 24 8 k))
+
+elems-memory : (n : ℕ) (l : List ℕ) → n * 32 ≤ length l → Bytes l → coordEntriesBytes (coordEntriesOf n l) ++ drop (n * 32) l ≡ l
+unfolding coordEntriesOf
+elems-memory zero l h b = no-entry l
+elems-memory (suc n) l h b =
+    let c = take 32 l in
+    let xs = coordEntriesOf n (drop 32 l) in
+    let k : length c ≡ 32 = length-take-le 32 l (omega arith) in
+    let e : suc n * 32 ≡ 32 + n * 32 = omega arith in
+    let t : drop (suc n * 32) l ≡ drop (n * 32) (drop 32 l) = ap (λ (m : ℕ). drop m l) e ∙ sym (drop-drop (n * 32) 32 l) in
+    let d : n * 32 ≤ length (drop 32 l) = rw length-drop (omega arith) in
+    let later : coordEntriesBytes xs ++ drop (suc n * 32) l ≡ drop 32 l = ap (λ (u : List ℕ). coordEntriesBytes xs ++ u) t ∙ elems-memory n (drop 32 l) d (bytes-drop 32 l b) in
+    entry-first (coordEntryOf c) xs (drop (suc n * 32) l)
+    ∙ ap (λ (u : List ℕ). u ++ (coordEntriesBytes xs ++ drop (suc n * 32) l)) (elem-memory c (bytes-take 32 l b) k)
+    ∙ ap (λ (u : List ℕ). c ++ u) later
+    ∙ take-append-drop 32 l
+
+entry-memory : (c : List ℕ) → Bytes c → length c ≡ 1061 → entryBytes (entryOf c) ≡ c
+unfolding entryBytes entryOf pathOf
+entry-memory c b h =
+    let d : 32 * 32 ≤ length (drop 1 c) = rw length-drop (omega arith) in
+    let entries : (t : List ℕ) → t ≡ drop 1025 c → coordEntriesBytes (coordEntriesOf 32 (drop 1 c)) ++ t ≡ drop 1 c = λ t e. ap (λ (u : List ℕ). coordEntriesBytes (coordEntriesOf 32 (drop 1 c)) ++ u) (e ∙ sym (drop-drop 1024 1 c)) ∙ elems-memory 32 (drop 1 c) d (bytes-drop 1 c b) in
+    number c b 0 1 _ (omega arith) (entries _ (number c b 1025 8 _ (omega arith) (number c b 1033 8 _ (omega arith) (number c b 1041 8 _ (omega arith) (number c b 1049 1 _ (omega arith) (number c b 1050 2 _ (omega arith) (number c b 1052 1 _ (omega arith) (last-number c b 1053 8 h))))))))
+
+row-memory : (c : List ℕ) → Bytes c → length c ≡ 1095 → rowBytes (rowOf c) ≡ c
+unfolding rowBytes rowOf
+row-memory c b h =
+    part c b 0 16 _ (ap (λ (u : List ℕ). u ++ (leBytes 1 (leNumber (cut 1077 1 c)) ++ (leBytes 8 (leNumber (cut 1078 8 c)) ++ (leBytes 8 (leNumber (cut 1086 8 c)) ++ leBytes 1 (leNumber (cut 1094 1 c)))))) (entry-memory (cut 16 1061 c) (bytes-cut 16 1061 c b) (length-cut 16 1061 c (omega arith)))
+    ∙ part c b 16 1061 _ (number c b 1077 1 _ (omega arith) (number c b 1078 8 _ (omega arith) (number c b 1086 8 _ (omega arith) (last-number c b 1094 1 h)))))
+
+rows-memory : (n : ℕ) (l : List ℕ) → n * 1095 ≤ length l → Bytes l → rowsBytes (rowsOf n l) ++ drop (n * 1095) l ≡ l
+unfolding rowsOf rowsBytes
+rows-memory zero l h b = refl
+rows-memory (suc n) l h b =
+    let e : suc n * 1095 ≡ 1095 + n * 1095 = omega arith in
+    let t : length (take 1095 l) ≡ 1095 = length-take-le 1095 l (omega arith) in
+    let d : n * 1095 ≤ length (drop 1095 l) = rw length-drop (omega arith) in
+    rw (e, row-memory (take 1095 l) (bytes-take 1095 l b) t, append-assoc, ← drop-drop (n * 1095) 1095 l, rows-memory n (drop 1095 l) d (bytes-drop 1095 l b)) (take-append-drop 1095 l)
+
+pub held-fits : (l : List ℕ) → 40 ≤ length l → 40 + heldRows l * 1095 ≤ length l
+unfolding heldRows capacity
+held-fits l h = omega arith
+
+-- THE STATE SAYS ALL THAT THE MEMORY HOLDS, where the head fits
+pub view-memory : (l : List ℕ) → 40 ≤ length l → Bytes l → memory (view l) ≡ l
+unfolding view memory
+view-memory l h b =
+    let n = heldRows l in
+    let f = held-fits l h in
+    let d : n * 1095 ≤ length (drop 40 l) = rw length-drop (omega arith) in
+    let r : rowsBytes (rowsOf n (drop 40 l)) ++ drop (40 + n * 1095) l ≡ drop 40 l = rw (← drop-drop (n * 1095) 40 l) (rows-memory n (drop 40 l) d (bytes-drop 40 l b)) in
+    number l b 0 8 _ (omega arith) (number l b 8 8 _ (omega arith) (number l b 16 8 _ (omega arith) (number l b 24 8 _ (omega arith) (number l b 32 8 _ (omega arith) r))))

@@ -1,0 +1,195 @@
+-- Refusals: each number is given exactly if document 01 says so, and a refusal leaves the state.
+use Prim.Native.Nat.{ℕ, zero, suc, _+_, _<_, _≤_}
+use mathlib.Core.Path.{_≡_, refl, sym, _∙_, ap, subst}
+use mathlib.Core.List.{List, [], _∷_}
+use mathlib.Core.Option.{Option, none, some}
+use mathlib.Core.Bool.{Bool, true, false, cond, _&&_, _||_, not}
+use native.Mathlib.Omega.{arith}
+use Rattle.rules.specs.Cases.{maybe}
+use Rattle.rules.specs.Records.{State}
+use Rattle.rules.specs.Sound.{sound}
+use Rattle.rules.specs.Calls.{Answer, Call, Clear, ClearPathMtu, Demote, Get, GetAndTouch, Insert, InsertFunded, InsertStated, InsertVerified, InsertVerifiedWithPathMtu, InsertWithTtl, InvalidateOtherRoots, InvalidateViaNode, NextExpiry, PurgeExpired, Refused, Remove, Stats, drawsStamps, pathGiven, verifiedWrite, wasRefused}
+use Rattle.rules.specs.Refusals.{Asked, Fresh, Request, Step, badPath, badSize, firstGiven, gives, hinted, noPlaceFor, perform, performRequest, reason, reasons, refusal, seqSpent, serve, step, sweeps, verifies}
+use Rattle.rules.proofs.Addresses.{contradiction}
+use Rattle.rules.proofs.RowLists.{by-maybe}
+
+-- ---- what holds of a call that is not refused
+
+pub record Allowed (R : ℕ) (s : State) (q : Call) : Type 0 where
+  pub sound : sound R s ≡ true
+  pub path : maybe (pathGiven q) false badPath ≡ false
+  pub stamps : drawsStamps q && seqSpent s ≡ false
+  pub place : maybe (verifiedWrite q) false (noPlaceFor R s) ≡ false
+
+not-true-false : (b : Bool) → not b ≡ false → b ≡ true
+not-true-false true h = refl
+not-true-false false h = sym h
+
+not-false-true : (b : Bool) → not b ≡ true → b ≡ false
+not-false-true true h = sym h
+not-false-true false h = refl
+
+-- the first of four reasons: its number, with those before it not given
+record First (a b c d : Bool) (o : Option ℕ) : Type 0 where
+  none-given : o ≡ none → (a ≡ false) × (b ≡ false) × (c ≡ false) × (d ≡ false)
+  one : (a ≡ true → o ≡ some 1) × (o ≡ some 1 → a ≡ true)
+  two : (a ≡ false → b ≡ true → o ≡ some 2) × (o ≡ some 2 → (a ≡ false) × (b ≡ true))
+  three : (a ≡ false → b ≡ false → c ≡ true → o ≡ some 3) × (o ≡ some 3 → (a ≡ false) × (b ≡ false) × (c ≡ true))
+  four : (a ≡ false → b ≡ false → c ≡ false → d ≡ true → o ≡ some 4) × (o ≡ some 4 → (a ≡ false) × (b ≡ false) × (c ≡ false) × (d ≡ true))
+  number : (n : ℕ) → o ≡ some n → (1 ≤ n) × (n ≤ 4)
+
+no-number : {C : Type 0} {m n : ℕ} {o : Option ℕ} → o ≡ some m → o ≡ some n → (m ≡ n → ⊥) → C
+no-number {C} {m} {n} p q h = absurd (h (let e : m ≡ n = cc in e))
+
+some-none : {C : Type 0} {m : ℕ} {o : Option ℕ} → o ≡ some m → o ≡ none → C
+some-none p q = contradiction {b = true} refl (cc)
+
+tf : {C : Type 0} → true ≡ false → C
+tf e = contradiction {b = true} refl e
+
+ft : {C : Type 0} → false ≡ true → C
+ft e = contradiction {b = false} e refl
+
+first-of : (a b c d : Bool) → First a b c d (firstGiven (reason 1 a ∷ reason 2 b ∷ reason 3 c ∷ reason 4 d ∷ []))
+unfolding firstGiven reason
+first-of true b c d = record {
+  none-given = λ e. some-none {o = some 1} refl e;
+  one = ((λ p. refl), (λ e. refl));
+  two = ((λ p q. tf p), (λ e. no-number {o = some 1} refl e (λ z. let w : ⊥ = omega arith in w)));
+  three = ((λ p q r. tf p), (λ e. no-number {o = some 1} refl e (λ z. let w : ⊥ = omega arith in w)));
+  four = ((λ p q r t. tf p), (λ e. no-number {o = some 1} refl e (λ z. let w : ⊥ = omega arith in w)));
+  number = λ m e. let z : 1 ≡ m = cc in (omega arith, omega arith);
+}
+first-of false true c d = record {
+  none-given = λ e. some-none {o = some 2} refl e;
+  one = ((λ p. ft p), (λ e. no-number {o = some 2} refl e (λ z. let w : ⊥ = omega arith in w)));
+  two = ((λ p q. refl), (λ e. (refl, refl)));
+  three = ((λ p q r. tf q), (λ e. no-number {o = some 2} refl e (λ z. let w : ⊥ = omega arith in w)));
+  four = ((λ p q r t. tf q), (λ e. no-number {o = some 2} refl e (λ z. let w : ⊥ = omega arith in w)));
+  number = λ m e. let z : 2 ≡ m = cc in (omega arith, omega arith);
+}
+first-of false false true d = record {
+  none-given = λ e. some-none {o = some 3} refl e;
+  one = ((λ p. ft p), (λ e. no-number {o = some 3} refl e (λ z. let w : ⊥ = omega arith in w)));
+  two = ((λ p q. ft q), (λ e. no-number {o = some 3} refl e (λ z. let w : ⊥ = omega arith in w)));
+  three = ((λ p q r. refl), (λ e. (refl, refl, refl)));
+  four = ((λ p q r t. tf r), (λ e. no-number {o = some 3} refl e (λ z. let w : ⊥ = omega arith in w)));
+  number = λ m e. let z : 3 ≡ m = cc in (omega arith, omega arith);
+}
+first-of false false false true = record {
+  none-given = λ e. some-none {o = some 4} refl e;
+  one = ((λ p. ft p), (λ e. no-number {o = some 4} refl e (λ z. let w : ⊥ = omega arith in w)));
+  two = ((λ p q. ft q), (λ e. no-number {o = some 4} refl e (λ z. let w : ⊥ = omega arith in w)));
+  three = ((λ p q r. ft r), (λ e. no-number {o = some 4} refl e (λ z. let w : ⊥ = omega arith in w)));
+  four = ((λ p q r t. refl), (λ e. (refl, refl, refl, refl)));
+  number = λ m e. let z : 4 ≡ m = cc in (omega arith, omega arith);
+}
+first-of false false false false = record {
+  none-given = λ e. (refl, refl, refl, refl);
+  one = ((λ p. ft p), (λ e. some-none {o = none} e refl));
+  two = ((λ p q. ft q), (λ e. some-none {o = none} e refl));
+  three = ((λ p q r. ft r), (λ e. some-none {o = none} e refl));
+  four = ((λ p q r t. ft t), (λ e. some-none {o = none} e refl));
+  number = λ m e. some-none {o = none} e refl;
+}
+
+refusal-first : (R : ℕ) (s : State) (q : Call) → First (not (sound R s)) (maybe (pathGiven q) false badPath) (drawsStamps q && seqSpent s) (maybe (verifiedWrite q) false (noPlaceFor R s)) (refusal R s (Asked q))
+unfolding refusal reasons
+refusal-first R s q = first-of (not (sound R s)) (maybe (pathGiven q) false badPath) (drawsStamps q && seqSpent s) (maybe (verifiedWrite q) false (noPlaceFor R s))
+
+pub allowed : (R : ℕ) (s : State) (q : Call) → refusal R s (Asked q) ≡ none → Allowed R s q
+allowed R s q e = let f = refusal-first R s q .none-given e in record { sound = not-true-false (sound R s) (f .0); path = f .1; stamps = f .2; place = f .3 }
+
+-- ---- a request is refused, or done
+
+pub done-perform : (s : State) (q : Call) → wasRefused (perform s q .answer) ≡ false
+unfolding perform hinted verifies sweeps gives wasRefused
+done-perform s (Insert k p t) = refl
+done-perform s (InsertWithTtl k p t l) = refl
+done-perform s (InsertFunded k p t f) = refl
+done-perform s (InsertStated k p t f) = refl
+done-perform s (InsertVerified k p t) = refl
+done-perform s (InsertVerifiedWithPathMtu k p t m) = refl
+done-perform s (Get k t) = refl
+done-perform s (GetAndTouch k t) = refl
+done-perform s (Remove k) = refl
+done-perform s (Demote k) = refl
+done-perform s (ClearPathMtu k) = refl
+done-perform s (PurgeExpired t) = refl
+done-perform s Clear = refl
+done-perform s (InvalidateViaNode a) = refl
+done-perform s (InvalidateOtherRoots a) = refl
+done-perform s (Stats t) = refl
+done-perform s NextExpiry = refl
+
+done-request : (R : ℕ) (s : State) (x : Request) → wasRefused (performRequest R s x .answer) ≡ false
+unfolding performRequest gives wasRefused
+done-request R s (Fresh m ttl) = refl
+done-request R s (Asked q) = done-perform s q
+
+pub by-serve {κ} : (R : ℕ) (s : State) (x : Request) (P : Step → Type κ) → ((n : ℕ) → refusal R s x ≡ some n → P (gives (Refused n) s)) → (refusal R s x ≡ none → P (performRequest R s x)) → P (serve R s x)
+unfolding serve
+by-serve R s x P f g = by-maybe P (refusal R s x) g f
+
+-- a call is refused and leaves the state, or it is allowed and done
+pub by-step {κ} : (R : ℕ) (s : State) (q : Call) (P : Step → Type κ) → ((n : ℕ) → P (gives (Refused n) s)) → (Allowed R s q → P (perform s q)) → P (step R s q)
+unfolding performRequest
+by-step R s q P f g = by-serve R s (Asked q) P (λ n e. f n) (λ e. g (allowed R s q e))
+
+refused-by : (R : ℕ) (s : State) (x : Request) (n : ℕ) → serve R s x .answer ≡ Refused n → refusal R s x ≡ some n
+unfolding gives wasRefused
+refused-by R s x n = by-serve R s x (λ (t : Step). t .answer ≡ Refused n → refusal R s x ≡ some n) (λ m e g. let z : m ≡ n = cc in e ∙ ap some z) (λ e g. contradiction (let w : wasRefused (performRequest R s x .answer) ≡ true = rw g in w) (done-request R s x))
+
+gives-number : (R : ℕ) (s : State) (x : Request) (n : ℕ) → refusal R s x ≡ some n → serve R s x .answer ≡ Refused n
+unfolding serve gives
+gives-number R s x n e = rw e
+
+-- A REFUSAL RETURNS ITS NUMBER ALONE AND LEAVES THE STATE AS IT WAS
+pub refused-left : (R : ℕ) (s : State) (x : Request) → wasRefused (serve R s x .answer) ≡ true → serve R s x .state ≡ s
+unfolding gives
+refused-left R s x = by-serve R s x (λ (t : Step). wasRefused (t .answer) ≡ true → t .state ≡ s) (λ n e g. refl) (λ e g. contradiction g (done-request R s x))
+
+-- ---- each number is given exactly if
+
+abbrev pub Iff : Type 0 → Type 0 → Type 0
+Iff A B = (A → B) × (B → A)
+
+-- a call on any state, in the order 1, 2, 3, 4
+pub record GivenExactly (R : ℕ) (s : State) (q : Call) (m : Answer) : Type 0 where
+  pub one : Iff (m ≡ Refused 1) (sound R s ≡ false)
+  pub two : Iff (m ≡ Refused 2) ((sound R s ≡ true) × (maybe (pathGiven q) false badPath ≡ true))
+  pub three : Iff (m ≡ Refused 3) ((sound R s ≡ true) × (maybe (pathGiven q) false badPath ≡ false) × (drawsStamps q && seqSpent s ≡ true))
+  pub four : Iff (m ≡ Refused 4) ((sound R s ≡ true) × (maybe (pathGiven q) false badPath ≡ false) × (drawsStamps q && seqSpent s ≡ false) × (maybe (verifiedWrite q) false (noPlaceFor R s) ≡ true))
+  pub no-other : (n : ℕ) → m ≡ Refused n → (1 ≤ n) × (n ≤ 4)
+
+pub given-exactly : (R : ℕ) (s : State) (q : Call) → GivenExactly R s q (step R s q .answer)
+given-exactly R s q =
+    let f = refusal-first R s q in
+    let by = refused-by R s (Asked q) in
+    let is = gives-number R s (Asked q) in
+    record {
+      one = (λ e. not-false-true (sound R s) (f .one .1 (by 1 e)), λ e. is 1 (f .one .0 (rw e)));
+      two = (λ e. let g = f .two .1 (by 2 e) in (not-true-false (sound R s) (g .0), g .1), λ g. is 2 (f .two .0 (ap not (g .0)) (g .1)));
+      three = (λ e. let g = f .three .1 (by 3 e) in (not-true-false (sound R s) (g .0), g .1, g .2), λ g. is 3 (f .three .0 (ap not (g .0)) (g .1) (g .2)));
+      four = (λ e. let g = f .four .1 (by 4 e) in (not-true-false (sound R s) (g .0), g .1, g .2, g .3), λ g. is 4 (f .four .0 (ap not (g .0)) (g .1) (g .2) (g .3)));
+      no-other = λ n e. f .number n (by n e);
+    }
+
+-- fresh, on any state
+fresh-refusal : (R m ttl : ℕ) (s : State) → refusal R s (Fresh m ttl) ≡ cond (badSize R m) (some 5) none
+unfolding refusal reasons firstGiven reason
+fresh-refusal R m ttl s = refl
+
+pub five-exactly : (R m ttl : ℕ) (s : State) → Iff (serve R s (Fresh m ttl) .answer ≡ Refused 5) (badSize R m ≡ true)
+five-exactly R m ttl s = (λ e. go (badSize R m) (sym (fresh-refusal R m ttl s) ∙ refused-by R s (Fresh m ttl) 5 e), λ e. gives-number R s (Fresh m ttl) 5 (fresh-refusal R m ttl s ∙ rw e))
+  where
+    go : (b : Bool) → cond {A = Option ℕ} b (some 5) none ≡ some 5 → b ≡ true
+    go true h = refl
+    go false h = some-none {o = none} h refl
+
+pub fresh-allowed : (R m ttl : ℕ) (s : State) → refusal R s (Fresh m ttl) ≡ none → badSize R m ≡ false
+fresh-allowed R m ttl s e = go (badSize R m) (sym (fresh-refusal R m ttl s) ∙ e)
+  where
+    go : (b : Bool) → cond {A = Option ℕ} b (some 5) none ≡ none → b ≡ false
+    go true h = some-none {o = some 5} refl h
+    go false h = refl

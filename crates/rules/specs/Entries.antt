@@ -1,0 +1,54 @@
+-- Entries of document 01 (entry.rs).
+use Prim.Native.Nat.{ℕ, _+_, min}
+use mathlib.Core.Bool.{Bool, _&&_}
+use lib.Dec.{ltb, leb}
+use Rattle.coord.specs.declared.coord.Path.{Path}
+use Rattle.coord.specs.Paths.{asWritten}
+use Rattle.rules.specs.Records.{Entry, verifiedSource, hintSource, noMtu, someMtu}
+use Rattle.rules.specs.Sound.{fromVerified}
+
+-- 2^64 − 1
+abbrev pub lastTime : ℕ
+lastTime = 18446744073709551615
+
+-- how long a verified entry outranks a hint, in milliseconds (VERIFIED_TTL_MS)
+abbrev pub verifiedTtl : ℕ
+verifiedTtl = 300000
+
+-- sums of times stop at 2^64 − 1
+unfoldable pub addTimes : ℕ → ℕ → ℕ
+addTimes a b = min (a + b) lastTime
+
+-- Expired: now > expires_at
+unfoldable pub expired : ℕ → Entry → Bool
+expired now e = ltb (e .expiresAt) now
+
+-- Verified: source Verified and now ≤ verified_until
+unfoldable pub verified : ℕ → Entry → Bool
+verified now e = fromVerified e && leb now (e .verifiedUntil)
+
+-- an update sets path, last_used (now), expires_at (now + ttl) and makes a hint; it keeps created_at and MTU
+unfoldable pub update : Path → ℕ → ℕ → Entry → Entry
+update p now ttl e = record { path = asWritten p; createdAt = e .createdAt; lastUsed = now; expiresAt = addTimes now ttl; mtuMark = e .mtuMark; mtu = e .mtu; source = hintSource; verifiedUntil = 0 }
+
+-- a new entry is the same with created_at now and no MTU
+unfoldable pub newEntry : Path → ℕ → ℕ → Entry
+newEntry p now ttl = record { path = asWritten p; createdAt = now; lastUsed = now; expiresAt = addTimes now ttl; mtuMark = noMtu; mtu = 0; source = hintSource; verifiedUntil = 0 }
+
+-- a refresh sets last_used and expires_at
+unfoldable pub refresh : ℕ → ℕ → Entry → Entry
+refresh now ttl e = record { path = e .path; createdAt = e .createdAt; lastUsed = now; expiresAt = addTimes now ttl; mtuMark = e .mtuMark; mtu = e .mtu; source = e .source; verifiedUntil = e .verifiedUntil }
+
+-- marked Verified, with verified_until = now + 300,000
+unfoldable pub markVerified : ℕ → Entry → Entry
+markVerified now e = record { path = e .path; createdAt = e .createdAt; lastUsed = e .lastUsed; expiresAt = e .expiresAt; mtuMark = e .mtuMark; mtu = e .mtu; source = verifiedSource; verifiedUntil = addTimes now verifiedTtl }
+
+-- made a hint
+unfoldable pub markHint : Entry → Entry
+markHint e = record { path = e .path; createdAt = e .createdAt; lastUsed = e .lastUsed; expiresAt = e .expiresAt; mtuMark = e .mtuMark; mtu = e .mtu; source = hintSource; verifiedUntil = 0 }
+
+unfoldable pub setMtu : ℕ → Entry → Entry
+setMtu m e = record { path = e .path; createdAt = e .createdAt; lastUsed = e .lastUsed; expiresAt = e .expiresAt; mtuMark = someMtu; mtu = m; source = e .source; verifiedUntil = e .verifiedUntil }
+
+unfoldable pub dropMtu : Entry → Entry
+dropMtu e = record { path = e .path; createdAt = e .createdAt; lastUsed = e .lastUsed; expiresAt = e .expiresAt; mtuMark = noMtu; mtu = 0; source = e .source; verifiedUntil = e .verifiedUntil }

@@ -1,0 +1,108 @@
+-- Records of document 01: entry, row, head; their codes; the bounds.
+-- Fields have 01's names, run together where 01 has an underscore.
+use Prim.Native.Nat.{ℕ, _*_, _-_, _/_, max}
+use mathlib.Core.List.{List}
+use mathlib.Core.Bool.{Bool, cond}
+use lib.Dec.{eqb}
+use Rattle.coord.specs.declared.node_addr.NodeAddr.{NodeAddr}
+use Rattle.coord.specs.declared.coord.Path.{Path}
+use Rattle.coord.specs.Paths.{unitsPerEntry}
+use Rattle.types.specs.declared.entry.CoordSource.{CoordSource}
+use Rattle.types.specs.declared.entry.CoordSource.the-variants.{Verified, Hint}
+use Rattle.types.specs.declared.entry.PathMtu.{PathMtu}
+use Rattle.types.specs.declared.entry.PathMtu.the-variants.{Unknown, Known}
+use Rattle.types.specs.declared.entry.CacheEntry.{CacheEntry}
+
+-- path, created_at, last_used, expires_at; path_mtu as a mark and a value; source; verified_until (0 for a hint)
+pub record Entry : Type 0 where
+  pub path : Path
+  pub createdAt : ℕ
+  pub lastUsed : ℕ
+  pub expiresAt : ℕ
+  pub mtuMark : ℕ
+  pub mtu : ℕ
+  pub source : ℕ
+  pub verifiedUntil : ℕ
+
+-- a key address, an entry, a place, a stamp (first, seq) and a weight
+pub record Row : Type 0 where
+  pub key : NodeAddr
+  pub entry : Entry
+  pub place : ℕ
+  pub stampFirst : ℕ
+  pub stampSeq : ℕ
+  pub weight : ℕ
+
+-- the head's five numbers, the rows held from row 0 on, and all bytes past them
+pub record State : Type 0 where
+  pub maxEntries : ℕ
+  pub defaultTtl : ℕ
+  pub seq : ℕ
+  pub storedWeight : ℕ
+  pub rowCount : ℕ
+  pub rows : List Row
+  pub rest : List ℕ
+
+-- ---- codes: numbers, so that every byte of the memory is seen, also one that names no kind
+
+-- places
+abbrev pub byUse : ℕ
+byUse = 0
+
+abbrev pub parked : ℕ
+parked = 1
+
+abbrev pub probation : ℕ
+probation = 2
+
+-- where a victim waits until it is known whether there is room; no state at rest has it (Keeps.no-row-aside)
+abbrev pub aside : ℕ
+aside = 3
+
+-- sources
+abbrev pub verifiedSource : ℕ
+verifiedSource = 0
+
+abbrev pub hintSource : ℕ
+hintSource = 1
+
+-- MTU marks
+abbrev pub noMtu : ℕ
+noMtu = 0
+
+abbrev pub someMtu : ℕ
+someMtu = 1
+
+-- an entry as `remove` answers it; an MTU value under mark 0 is not shown
+unfoldable pub entryValue : Entry → CacheEntry
+entryValue e =
+    record {
+      path = e .path;
+      «created_at» = e .createdAt;
+      «last_used» = e .lastUsed;
+      «expires_at» = e .expiresAt;
+      «path_mtu» = cond (eqb (e .mtuMark) someMtu) (Known (e .mtu)) Unknown;
+      source = cond (eqb (e .source) verifiedSource) Verified Hint;
+      «verified_until» = e .verifiedUntil;
+    }
+
+-- ---- bounds
+
+-- R is at most this
+abbrev pub maxRows : ℕ
+maxRows = 1024
+
+abbrev pub probationDivisor : ℕ
+probationDivisor = 32
+
+-- B = 16 × max_entries
+abbrev pub weightBound : ℕ → ℕ
+weightBound m = unitsPerEntry * m
+
+-- Q = max(max_entries / 32, 1), rounded down
+abbrev pub probationBound : ℕ → ℕ
+probationBound m = max (m / probationDivisor) 1
+
+-- M = R − Q
+abbrev pub mainBound : ℕ → ℕ → ℕ
+mainBound R m = R - probationBound m

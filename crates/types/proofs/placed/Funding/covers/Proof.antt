@@ -1,0 +1,21 @@
+use borrow.Author.Needs.{needs}
+use Rattle.types.specs.Values.{covers}
+use Rattle.types.proofs.placed.Funding.covers.Statement.{statement}
+use Rattle.types.proofs.placed.Funding.covers.Tie as tie
+
+enum-known-self : tie.Need-enum-known-self
+enum-known-self c = search needs
+
+enum-told : tie.Need-enum-told
+enum-told c = search needs
+
+returns : tie.Need-returns
+unfolding covers
+returns c = rw (c .before .self .given .1)
+
+returns-2 : tie.Need-returns-2
+unfolding covers
+returns-2 c = search needs
+
+pub covers-spec : {M : Type 1} → statement M
+covers-spec = tie.close (tie.spec enum-known-self enum-told returns returns-2)
