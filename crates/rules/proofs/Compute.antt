@@ -12,7 +12,7 @@ use Rattle.coord.specs.Addresses.{addrBefore, bytesBefore, sameAddr, sameBytes}
 use Rattle.coord.specs.Paths.{among, appended, asWritten, contains, elements, emptyPath, firstIs, lastAddr, pathWeight, rootOf, sameEntries, sameEntry, samePath, startsAt, zeroEntry}
 use Rattle.types.specs.declared.placed.HintOutcome.{HintOutcome}
 use Rattle.types.specs.declared.placed.Segment.{Segment}
-use Rattle.types.specs.Values.{bit, covers, outcomeCode, placedReply, refuses, says, segmentCode, statsReply, verifiedReply}
+use Rattle.types.specs.Values.{bit, covers, outcomeCode, placedReply, refuses, says, segmentCode, statsReply, tallied, verifiedReply}
 use Rattle.rules.specs.Records.{Row, State, entryValue}
 use Rattle.rules.specs.Rows.{atPlace, changeRow, find, inMain, insertInOrder, keepRows, lowerOf, lowestStamp, nextIndex, stampBefore, total, withOnlyRows, withRows, withoutRow}
 use Rattle.rules.specs.Sound.{all, ascends, leads, legal, rowSound, sound, sourced, weighed}
@@ -25,7 +25,7 @@ use Rattle.rules.specs.Calls.{Answer, Call, Hinted, PathFound, VerifiedD
 use Rattle.rules.specs.Refusals.{badPath, badSize, firstGiven, fresh, gives, hinted, keyInMain, noPlaceFor, perform, performRequest, reason, reasons, refusal, seqSpent, serve, sweeps, verifies}
 use Rattle.rules.specs.Lists.{run}
 use Rattle.rules.specs.Memory.{coordEntryOf, leNumber}
-use Rattle.rules.specs.Commands.{Line, code, codeOf, codes, coordrun, decimal, decimalDigits, decode, funded, hexDigit, line, lineText, linesText, obey, obeyed, pended, reply, runCommands, spaced, unknown}
+use Rattle.rules.specs.Commands.{Line, code, codeOf, codes, coordrun, decimal, decimalDigits, decode, funded, hexDigit, line, lineText, linesText, obey, obeyed, pended, reply, runCommands, spaced, tallyAfter, unknown}
 
 -- an address of sixteen bytes n
 unfoldable pub addr : ℕ → NodeAddr
@@ -101,5 +101,5 @@ answersOf R m ttl qs = seen R m ttl qs .answers
 
 -- coordrun's lines
 unfoldable pub linesOf : List ℕ → List Line
-unfolding seenFrom emptyPath appended outcomeCode segmentCode bit says refuses placedReply verifiedReply statsReply leNumber coordEntryOf reply code funded codes codeOf decode obeyed pended obey unknown line runCommands coordrun hexDigit decimalDigits decimal spaced lineText linesText
+unfolding seenFrom tallied tallyAfter emptyPath appended outcomeCode segmentCode bit says refuses placedReply verifiedReply statsReply leNumber coordEntryOf reply code funded codes codeOf decode obeyed pended obey unknown line runCommands coordrun hexDigit decimalDigits decimal spaced lineText linesText
 linesOf bs = coordrun bs

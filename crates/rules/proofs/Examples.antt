@@ -17,7 +17,7 @@ use Rattle.rules.specs.Calls.{Answer, Call, Clear, Demote, Done, Get, Ge
 use Rattle.rules.specs.Refusals.{Asked, Fresh, fresh, refusal, serve, step}
 use Rattle.rules.specs.Lists.{run}
 use Rattle.rules.specs.Memory.{coordEntriesBytes, entryBytes, leBytes, memory, rowBytes, rowsBytes}
-use Rattle.rules.specs.Commands.{decimal, line, lineText}
+use Rattle.rules.specs.Commands.{decimal, line, lineText, tallyAfter}
 use Rattle.rules.proofs.Compute.{A, B, C, addr, answersOf, done, elementsFrom, hint, linesOf, path, seenFrom}
 
 -- ---- foreign states
@@ -157,6 +157,11 @@ thirty-third = refl
 pending-kept-and-emptied : linesOf (element 1 ++ freshTo 8 ++ (0x41 ∷ []) ++ insertAt 1 ++ insertAt 2 ++ element 1 ++ freshTo 24 ++ element 1) ≡ line 0x01 (says 1 0 0 0 0) ∷ line 0x00 (says 0 0 0 0 0) ∷ line 0x41 (says 0 0 0 0 0) ∷ line 0x10 (says 0 16 0 0 0) ∷ line 0x10 (refuses 2) ∷ line 0x01 (says 1 0 0 0 0) ∷ line 0x00 (refuses 5) ∷ line 0x01 (says 2 0 0 0 0) ∷ []
 unfolding element insertAt freshTo linesOf
 pending-kept-and-emptied = refl
+
+-- the tally of a run: three done, one refused
+tally-of-a-run : tallyAfter (record { done = 0; refused = 0 }) (linesOf (element 1 ++ insertAt 1 ++ insertAt 1 ++ (0x41 ∷ []))) ≡ record { done = 3; refused = 1 }
+unfolding element insertAt linesOf
+tally-of-a-run = refl
 
 -- a line's largest numbers, in text: "ff 6 0 0 0 0 0", and 18446744073709551615 in twenty digits
 largest-in-text : decimal 18446744073709551615 ≡ 49 ∷ 56 ∷ 52 ∷ 52 ∷ 54 ∷ 55 ∷ 52 ∷ 52 ∷ 48 ∷ 55 ∷ 51 ∷ 55 ∷ 48 ∷ 57 ∷ 53 ∷ 53 ∷ 49 ∷ 54 ∷ 49 ∷ 53 ∷ []

@@ -8,7 +8,7 @@ use lib.Seq.{length-take-le}
 use Rattle.coord.specs.declared.coord.CoordEntry.{CoordEntry}
 use Rattle.rules.specs.Cases.{Every}
 use Rattle.rules.specs.Records.{Entry, Row, State}
-use Rattle.rules.specs.Memory.{coordEntriesBytes, coordEntriesOf, coordEntryOf, cut, entryBytes, entryOf, heldRows, leBytes, leNumber, memory, pathOf, rowBytes, rowOf, rowsBytes, rowsOf, view}
+use Rattle.rules.specs.Memory.{coordEntriesBytes, coordEntriesOf, coordEntryOf, cut, entryBytes, entryOf, heldRows, leBytes, leNumber, memory, pathOf, rowBytes, rowOf, rowsBytes, rowsOf, view, viewRows}
 use Rattle.rules.specs.Lent.{AddrFits, Bytes, CoordEntryFits, Small}
 use Rattle.rules.proofs.MemoryLaws.{bytes-append, bytes-cut, bytes-drop, bytes-take, held-fits, length-cut}
 use Rattle.rules.proofs.ViewLaws.{EntryFits, Fits, RowFits}
@@ -85,7 +85,7 @@ rows-of-length (suc n) l = ap suc (rows-of-length n (drop 1095 l))
 
 -- ANY MEMORY'S VIEW FITS, where the head fits and counts the rows
 pub view-fits : (l : List ℕ) → 40 ≤ length l → Bytes l → view l .rowCount ≡ length (view l .rows) → Fits (length l) (view l)
-unfolding view
+unfolding view viewRows
 view-fits l h b c =
     let n = heldRows l in
     let f = held-fits l h in

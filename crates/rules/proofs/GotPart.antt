@@ -19,7 +19,7 @@ use Rattle.rules.specs.Room.{takeOut}
 use Rattle.rules.specs.Lookups.{get, rewrite, touched, unexpiredRow, withEntry}
 use Rattle.rules.specs.Calls.{Answer, Call, Done, EntryRemoved, ExpiryGiven, Get, GetAndTouch, Hinted, KeyHeld, PathFound, Refused, RowsRemoved, StatsGiven, VerifiedDone, drawsStamps, pathGiven, verifiedWrite}
 use Rattle.rules.specs.Refusals.{Asked, Step, firstGiven, gives, perform, performRequest, reason, reasons, refusal, serve, step}
-use Rattle.rules.specs.Memory.{capacity, coordEntriesBytes, coordEntriesOf, coordEntryOf, cut, entryOf, heldRows, pathOf, rowOf, rowsOf, view}
+use Rattle.rules.specs.Memory.{capacity, coordEntriesBytes, coordEntriesOf, coordEntryOf, cut, entryOf, heldRows, pathOf, rowOf, rowsOf, view, viewRows}
 use Rattle.rules.specs.Lent.{Bytes, Typed, call, foundPart, gotPart, lent, pathPart}
 use Rattle.rules.proofs.Addresses.{contradiction, same-ne}
 use Rattle.rules.proofs.RowLists.{by-cond, by-maybe, cores, every-at, find-at, rising-unique}
@@ -78,7 +78,7 @@ path-in-row n c h g b =
 
 -- row i's path, in the memory
 path-in-memory : (i n : ℕ) (l : List ℕ) → 40 ≤ length l → Bytes l → i < length (view l .rows) → n ≤ 32 → coordEntriesBytes (take n (rowAt i (view l .rows) .entry .path .entries)) ≡ pathPart i n l
-unfolding view pathPart
+unfolding view viewRows pathPart
 path-in-memory i n l h b j m =
     let r = heldRows l in
     let f = held-fits l h in

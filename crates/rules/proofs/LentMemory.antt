@@ -16,7 +16,7 @@ use Rattle.rules.specs.Calls.{Call, Clear, ClearPathMtu, Demote, Get, Ge
 use Rattle.rules.specs.Refusals.{Asked, Fresh, Request, Step, badSize, fresh, gives, perform, performRequest, serve, step}
 use Rattle.rules.specs.Lists.{run}
 use Rattle.rules.specs.Demand.{ThirdDemand}
-use Rattle.rules.specs.Memory.{capacity, heldRows, memory, view}
+use Rattle.rules.specs.Memory.{capacity, heldRows, memory, view, viewRows}
 use Rattle.rules.specs.Lent.{Bytes, Small, Typed, TypedRequest, call, calls, lent}
 use Rattle.rules.proofs.Addresses.{contradiction}
 use Rattle.rules.proofs.SoundTest.{sound-is}
@@ -59,11 +59,11 @@ abbrev pub tailOf : List ℕ → List ℕ
 tailOf l = drop ((capacity l - length (view l .rows)) * 1095) (view l .rest)
 
 tail-bytes : (l : List ℕ) → Bytes l → Bytes (tailOf l)
-unfolding view
+unfolding view viewRows
 tail-bytes l b = bytes-drop ((capacity l - length (view l .rows)) * 1095) (view l .rest) (bytes-drop (40 + heldRows l * 1095) l b)
 
 fresh-size : (l : List ℕ) → 40 ≤ length l → 40 + capacity l * 1095 + length (tailOf l) ≡ length l
-unfolding view heldRows capacity
+unfolding view viewRows heldRows capacity
 fresh-size l h = rw (length-drop ((capacity l - length (view l .rows)) * 1095) (view l .rest), length-drop (40 + heldRows l * 1095) l, rows-of-length (heldRows l) (drop 40 l)) (omega arith)
 
 keeps-size : (R m : ℕ) → badSize R m ≡ false → m + probationBound m ≤ R

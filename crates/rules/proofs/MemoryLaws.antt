@@ -6,7 +6,7 @@ use mathlib.Core.List.{List, [], _∷_, _++_, append-assoc}
 use lib.ListN.{length, take, drop, getD, length-drop, take-append-drop}
 use lib.Seq.{length-take-le, take-all, drop-drop}
 use Rattle.coord.specs.declared.coord.CoordEntry.{CoordEntry}
-use Rattle.rules.specs.Memory.{addrBytes, capacity, coordEntriesBytes, coordEntriesOf, coordEntryOf, cut, entryBytes, entryOf, heldRows, leBytes, leNumber, memory, pathOf, rowBytes, rowOf, rowsBytes, rowsOf, view}
+use Rattle.rules.specs.Memory.{addrBytes, capacity, coordEntriesBytes, coordEntriesOf, coordEntryOf, cut, entryBytes, entryOf, heldRows, leBytes, leNumber, memory, pathOf, rowBytes, rowOf, rowsBytes, rowsOf, view, viewRows}
 use Rattle.rules.specs.Lent.{Bytes}
 
 pub all-bytes : (l : List ℕ) → ((i : ℕ) → getD l i 0 < 256) → Bytes l
@@ -117,7 +117,7 @@ held-fits l h = omega arith
 
 -- THE STATE SAYS ALL THAT THE MEMORY HOLDS, where the head fits
 pub view-memory : (l : List ℕ) → 40 ≤ length l → Bytes l → memory (view l) ≡ l
-unfolding view memory
+unfolding view viewRows memory
 view-memory l h b =
     let n = heldRows l in
     let f = held-fits l h in

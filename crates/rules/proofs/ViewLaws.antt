@@ -8,15 +8,15 @@ use lib.Seq.{take-at, drop-at, drop-drop, take-all}
 use Rattle.coord.specs.declared.coord.CoordEntry.{CoordEntry}
 use Rattle.rules.specs.Cases.{Every}
 use Rattle.rules.specs.Records.{Entry, Row, State}
-use Rattle.rules.specs.Memory.{addrBytes, capacity, coordEntriesBytes, coordEntriesOf, coordEntryOf, cut, entryBytes, entryOf, heldRows, leBytes, leNumber, memory, pathOf, rowBytes, rowOf, rowsBytes, rowsOf, view}
+use Rattle.rules.specs.Memory.{addrBytes, capacity, coordEntriesBytes, coordEntriesOf, coordEntryOf, cut, entryBytes, entryOf, heldRows, leBytes, leNumber, memory, pathOf, rowBytes, rowOf, rowsBytes, rowsOf, view, viewRows}
 use Rattle.rules.specs.Lent.{AddrFits, Bytes, CoordEntryFits, Small}
 
-num-le : (n v : ℕ) → Small n v → leNumber (leBytes n v) ≡ v
+pub num-le : (n v : ℕ) → Small n v → leNumber (leBytes n v) ≡ v
 unfolding leNumber leBytes
 num-le zero v h = sym h
 num-le (suc n) v h = rw (num-le n (v / 256) h) (omega arith)
 
-length-le : (n v : ℕ) → length (leBytes n v) ≡ n
+pub length-le : (n v : ℕ) → length (leBytes n v) ≡ n
 unfolding leBytes
 length-le zero v = refl
 length-le (suc n) v = ap suc (length-le n (v / 256))
@@ -159,7 +159,7 @@ same-state {s} {a} {b} {c} {d} {e} {rs} {re} p q r t u v w = let z : _≡_ {A = 
 
 -- A STATE THAT FITS IS THE VIEW OF ITS MEMORY
 pub memory-view : (L : ℕ) (s : State) → Fits L s → view (memory s) ≡ s
-unfolding view heldRows capacity
+unfolding view viewRows heldRows capacity
 memory-view L s h =
     let c = memory s in
     let n = length (s .rows) in

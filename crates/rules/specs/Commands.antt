@@ -1,5 +1,5 @@
 -- The command stream of document 01: commands from bytes, replies as numbers, lines as text, a run.
-use Prim.Native.Nat.{ℕ, zero, suc, _+_, _/_, _%_, min}
+use Prim.Native.Nat.{ℕ, zero, suc, _+_, _/_, _%_}
 use mathlib.Core.List.{List, [], _∷_, _++_}
 use mathlib.Core.Option.{Option, none, some}
 use mathlib.Core.Bool.{Bool, true, false, cond}
@@ -13,10 +13,10 @@ use Rattle.coord.specs.Paths.{emptyPath, appended}
 use Rattle.types.specs.declared.placed.Funding.{Funding}
 use Rattle.types.specs.declared.placed.Funding.the-variants.{Upto, Uncharged}
 use Rattle.types.specs.declared.reply.Reply.{Reply}
-use Rattle.types.specs.Values.{bit, says, refuses, placedReply, verifiedReply, statsReply}
+use Rattle.types.specs.declared.reply.Tally.{Tally}
+use Rattle.types.specs.Values.{bit, says, refuses, placedReply, verifiedReply, statsReply, tallied}
 use Rattle.rules.specs.Cases.{maybe}
 use Rattle.rules.specs.Records.{State}
-use Rattle.rules.specs.Entries.{lastTime}
 use Rattle.rules.specs.Memory.{cut, leNumber, coordEntryOf}
 use Rattle.rules.specs.Calls.{Call, Insert, InsertWithTtl, InsertFunded, InsertStated, InsertVerified, InsertVerifiedWithPathMtu, Get, GetAndTouch, Remove, Demote, ClearPathMtu, PurgeExpired, Clear, InvalidateViaNode, InvalidateOtherRoots, Stats, NextExpiry, Answer, Refused, Hinted, VerifiedDone, PathFound, EntryRemoved, KeyHeld, Done, RowsRemoved, StatsGiven, ExpiryGiven}
 use Rattle.rules.specs.Refusals.{Request, Fresh, Asked, Step, serve, fresh}
@@ -158,6 +158,11 @@ runCommands (suc n) R s bs =
           let later = runCommands n R (o .session) (d .left) in
           record { lines = line b (o .reply) ∷ later .lines; session = later .session })
     ]
+
+-- a run's tally (commands done, commands refused) after its lines
+unfoldable pub tallyAfter : Tally → List Line → Tally
+tallyAfter t [] = t
+tallyAfter t (l ∷ ls) = tallyAfter (tallied t (l .reply .refusal)) ls
 
 -- coordrun: R 24, starting fresh at max 8, ttl 300000, with no pending path
 unfoldable pub coordrun : List ℕ → List Line

@@ -153,17 +153,21 @@ capacity l = (length l - headSize) / rowSize
 unfoldable pub heldRows : List ℕ → ℕ
 heldRows l = min (leNumber (cut rowCountOffset 8 l)) (capacity l)
 
-unfoldable pub view : List ℕ → State
-view l =
+-- the head, the first n rows, and what is past them
+unfoldable pub viewRows : ℕ → List ℕ → State
+viewRows n l =
     record {
       maxEntries = leNumber (cut maxEntriesOffset 8 l);
       defaultTtl = leNumber (cut defaultTtlOffset 8 l);
       seq = leNumber (cut seqOffset 8 l);
       storedWeight = leNumber (cut storedWeightOffset 8 l);
       rowCount = leNumber (cut rowCountOffset 8 l);
-      rows = rowsOf (heldRows l) (drop headSize l);
-      rest = drop (headSize + heldRows l * rowSize) l;
+      rows = rowsOf n (drop headSize l);
+      rest = drop (headSize + n * rowSize) l;
     }
+
+unfoldable pub view : List ℕ → State
+view l = viewRows (heldRows l) l
 
 -- ---- a state as memory
 

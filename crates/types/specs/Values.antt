@@ -1,5 +1,5 @@
 -- Document 01's number and values for each case of an answer.
-use Prim.Native.Nat.{ℕ}
+use Prim.Native.Nat.{ℕ, _+_, min}
 use mathlib.Core.List.{List, [], _∷_}
 use mathlib.Core.Bool.{Bool, true, false, cond}
 use lib.Dec.{leb, eqb}
@@ -18,6 +18,7 @@ use Rattle.types.specs.declared.placed.Placed.{Placed}
 use Rattle.types.specs.declared.placed.VerifiedInsert.{VerifiedInsert}
 use Rattle.types.specs.declared.stats.CacheStats.{CacheStats}
 use Rattle.types.specs.declared.reply.Reply.{Reply}
+use Rattle.types.specs.declared.reply.Tally.{Tally}
 
 -- ---- an entry's codes, in the order in which 01 names the kinds
 
@@ -94,3 +95,12 @@ statsReply s = says (s .entries) (s .«max_entries») (s .expired) (s .«avg_age
 -- what is not 0 counts as Hint
 unfoldable pub sourceOf : ℕ → CoordSource
 sourceOf n = cond (eqb n 0) Verified Hint
+
+-- ---- a run's tally
+
+-- a command with refusal 0 was done, any other refused; each number stops at 2^64 − 1
+unfoldable pub tallied : Tally → ℕ → Tally
+tallied t refusal =
+    cond (eqb refusal 0)
+    (record { done = min (t .done + 1) 18446744073709551615; refused = t .refused })
+    (record { done = t .done; refused = min (t .refused + 1) 18446744073709551615 })

@@ -1,6 +1,7 @@
 // A command's reply: the number of its refusal, or 0, and five numbers.
 ghost use mathlib.Core.Path.{_≡_};
-ghost use Rattle.types.specs.Values.{says, refuses};
+ghost use Prim.Native.Nat.{_+_, min};
+ghost use Rattle.types.specs.Values.{says, refuses, tallied};
 
 pub struct Reply {
     pub refusal: u8,
@@ -24,5 +25,35 @@ pub fn refused(n: u8) -> Reply
     Reply {
         refusal: n,
         values: [0u64; 5],
+    }
+}
+
+// A run's tally: commands done, and commands refused. Each stops at the largest number.
+pub struct Tally {
+    pub done: u64,
+    pub refused: u64,
+}
+
+fn up_one(n: u64) -> u64
+    ensures { λ r. ⌜ r ≡ min (n + 1) 18446744073709551615 ⌝ }
+{
+    if n < 18446744073709551615 { n + 1 } else { n }
+}
+
+impl Tally {
+    // The tally after a command with this refusal, or 0.
+    pub fn counted(self, refusal: u8) -> Tally
+        ensures { λ r. ⌜ r ≡ tallied self refusal ⌝ }
+    {
+        if refusal == 0 {
+            return Tally {
+                done: up_one(self.done),
+                refused: self.refused,
+            };
+        }
+        Tally {
+            done: self.done,
+            refused: up_one(self.refused),
+        }
     }
 }

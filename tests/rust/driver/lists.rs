@@ -68,7 +68,8 @@ fn addresses() -> Vec<Addr> {
     all
 }
 
-/// The place of demote among the kinds of calls.
+/// The places of get_and_touch and demote among the kinds of calls.
+const TOUCH: usize = 7;
 const DEMOTE: usize = 9;
 
 const LENGTHS: [usize; 20] = [1, 1, 1, 2, 3, 7, 15, 16, 16, 16, 17, 17, 17, 18, 20, 24, 31, 32, 32, 32];
@@ -205,6 +206,7 @@ impl Stock {
         let old = row.map_or(weight, |row| row.weight);
         let near = match dice.below(10) {
             0..2 => return Funding::Uncharged,
+            2 if row.is_none() => return Funding::Upto(weight - 1),
             2..6 if weight > old => weight - old,
             2..6 => weight,
             6..9 => weight.max(old),
@@ -215,7 +217,11 @@ impl Stock {
 
     fn call(&mut self, dice: &mut Dice, held: &Held) -> Call {
         let kind = dice.weighted(&self.weights);
-        let key = self.key(dice, held);
+        let mut key = self.key(dice, held);
+        let on_probation: Vec<Addr> = held.rows.iter().filter(|row| !row.in_main()).map(|row| row.key).collect();
+        if kind == TOUCH && !on_probation.is_empty() && dice.chance(40) {
+            key = dice.pick(&on_probation);
+        }
         let row = held.rows.iter().find(|row| row.key == key);
         let path = self.path(dice, &key, row);
         let funding = self.funding(dice, &path, row);

@@ -1,0 +1,29 @@
+use mathlib.Core.Path.{refl, _∙_}
+use native.Mathlib.Omega.{arith}
+use Rattle.rules.specs.Memory.{entryOf, pathOf}
+use Rattle.memory.proofs.Fields.{entry-number}
+use borrow.Author.Needs.{needs}
+use Rattle.memory.proofs.row.created_at.Statement.{statement}
+use Rattle.memory.proofs.row.created_at.Tie as tie
+
+mul-read-u64 : tie.Need-mul-read-u64
+mul-read-u64 c = search needs
+
+add-read-u64 : tie.Need-add-read-u64
+add-read-u64 c = search needs
+
+add-read-u64-2 : tie.Need-add-read-u64-2
+add-read-u64-2 c = search needs
+
+read-u64-requires : tie.Need-read-u64-requires
+read-u64-requires c κs = search needs
+
+returns : tie.Need-returns
+unfolding entryOf pathOf
+returns c =
+    let s = c .before .before in
+    c .read-u64 .ensures ∙ entry-number (λ e. e .createdAt) 1025 8 (λ c. refl) (omega arith) (s .args .state .now) (s .args .n) (s .args .i) (s .pre .0)
+
+pub created-at-spec : {M : Type 1} → statement M
+created-at-spec =
+    tie.close (tie.spec mul-read-u64 add-read-u64 add-read-u64-2 read-u64-requires returns)

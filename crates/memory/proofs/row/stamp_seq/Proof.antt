@@ -1,0 +1,29 @@
+use mathlib.Core.Path.{refl, _∙_}
+use native.Mathlib.Omega.{arith}
+use Rattle.rules.specs.Memory.{rowOf}
+use Rattle.memory.proofs.Fields.{row-number}
+use borrow.Author.Needs.{needs}
+use Rattle.memory.proofs.row.stamp_seq.Statement.{statement}
+use Rattle.memory.proofs.row.stamp_seq.Tie as tie
+
+mul-read-u64 : tie.Need-mul-read-u64
+mul-read-u64 c = search needs
+
+add-read-u64 : tie.Need-add-read-u64
+add-read-u64 c = search needs
+
+add-read-u64-2 : tie.Need-add-read-u64-2
+add-read-u64-2 c = search needs
+
+read-u64-requires : tie.Need-read-u64-requires
+read-u64-requires c κs = search needs
+
+returns : tie.Need-returns
+unfolding rowOf
+returns c =
+    let s = c .before .before in
+    c .read-u64 .ensures ∙ row-number (λ r. r .stampSeq) 1086 8 (λ c. refl) (omega arith) (s .args .state .now) (s .args .n) (s .args .i) (s .pre .0)
+
+pub stamp-seq-spec : {M : Type 1} → statement M
+stamp-seq-spec =
+    tie.close (tie.spec mul-read-u64 add-read-u64 add-read-u64-2 read-u64-requires returns)

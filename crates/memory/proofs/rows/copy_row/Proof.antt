@@ -1,0 +1,87 @@
+use mathlib.Core.Path.{_≡_, refl, ap, _∙_}
+use Prim.Native.Nat.{ℕ, _+_, _*_, _-_, _≤_}
+use native.Mathlib.Omega.{arith}
+use lib.ListN.{length, length-set, take}
+use lib.Seq.{sets}
+use borrow.Author.Needs.{needs}
+use Rattle.rules.specs.Memory.{cut}
+use Rattle.memory.proofs.RowLaws.{copy-turn, whole-cut}
+use Rattle.memory.proofs.rows.copy_row.Statement.{statement}
+use Rattle.memory.proofs.rows.copy_row.Tie as tie
+
+abbrev Inv-loop : tie.InvT-loop
+Inv-loop state₀ n i j from to k₀ state k = (k ≤ 1095) × (length state ≡ length state₀) × (state ≡ sets state₀ to (take k (cut from 1095 state₀))) × (from ≡ 40 + i * 1095) × (to ≡ 40 + j * 1095)
+
+abbrev μ-loop : tie.MeasureT-loop
+μ-loop state₀ n i j from to k₀ state k = 1095 - k
+
+mul-from : tie.Need-mul-from Inv-loop μ-loop
+mul-from c = search needs
+
+add-from : tie.Need-add-from Inv-loop μ-loop
+add-from c = search needs
+
+mul-to : tie.Need-mul-to Inv-loop μ-loop
+mul-to c = search needs
+
+add-to : tie.Need-add-to Inv-loop μ-loop
+add-to c = search needs
+
+loop-holds : tie.Need-loop-holds Inv-loop μ-loop
+loop-holds c = (omega arith, refl, refl, refl, refl)
+
+add-state : tie.Need-add-state Inv-loop μ-loop
+add-state c = search needs
+
+slice-read-state : tie.Need-slice-read-state Inv-loop μ-loop
+slice-read-state c = search needs
+
+add-state-2 : tie.Need-add-state-2 Inv-loop μ-loop
+add-state-2 c = search needs
+
+slice-write-state : tie.Need-slice-write-state Inv-loop μ-loop
+slice-write-state c = search needs
+
+add-k : tie.Need-add-k Inv-loop μ-loop
+add-k c = search needs
+
+loop-less : tie.Need-loop-less Inv-loop μ-loop
+loop-less c = search needs
+
+loop-again : tie.Need-loop-again Inv-loop μ-loop
+loop-again c =
+    let p = c .before .before in
+    let v = p .loop .inv in
+    let s = p .before in
+    (omega arith, simp length-set (v .1), rw (v .2) (copy-turn (s .args .state .now) (40 + s .args .i * 1095) (40 + s .args .j * 1095) (p .loop .k) (omega arith) (omega arith) (omega arith)), refl, refl)
+
+same-length : tie.Need-same-length Inv-loop μ-loop
+same-length c = c .before .loop .inv .1
+
+returns : tie.Need-returns Inv-loop μ-loop
+returns c =
+    let p = c .before in
+    let s = p .before in
+    let e : p .loop .k ≡ 1095 = omega arith in
+    p .loop .inv .2 ∙ ap (λ (k : ℕ). sets (s .args .state .now) (40 + s .args .j * 1095) (take k (cut (40 + s .args .i * 1095) 1095 (s .args .state .now)))) e ∙ ap (sets (s .args .state .now) (40 + s .args .j * 1095)) (whole-cut (40 + s .args .i * 1095) (s .args .state .now))
+
+pub copy-row-spec : {M : Type 1} → statement M
+copy-row-spec =
+    tie.close
+    (tie.spec
+    Inv-loop
+    μ-loop
+    mul-from
+    add-from
+    mul-to
+    add-to
+    loop-holds
+    add-state
+    slice-read-state
+    add-state-2
+    slice-write-state
+    add-k
+    loop-less
+    loop-again
+    same-length
+    returns)

@@ -1,0 +1,37 @@
+use mathlib.Core.Path.{_∙_}
+use Rattle.memory.proofs.RowLaws.{out-view}
+use borrow.Author.Needs.{needs}
+use Rattle.memory.proofs.rows.remove_row.Statement.{statement}
+use Rattle.memory.proofs.rows.remove_row.Tie as tie
+
+weight-without-requires : tie.Need-weight-without-requires
+weight-without-requires c κs = search needs
+
+close-gap-requires : tie.Need-close-gap-requires
+close-gap-requires c κs = search needs
+
+sub-shrink : tie.Need-sub-shrink
+sub-shrink c = search needs
+
+shrink-requires : tie.Need-shrink-requires
+shrink-requires c κs = search needs
+
+same-length : tie.Need-same-length
+same-length c = search needs
+
+returns : tie.Need-returns
+returns c =
+    let s = c .before .before .before .before .before .before .before .before .before .before .before in
+    let n = s .args .n in
+    (rw (c .before .before .before .before .before .before .before .before .weight-without .ensures) at (c .before .before .shrink .ensures)) ∙ out-view n (s .args .i) (s .args .state .now) _ (s .pre .0) (c .before .before .before .before .before .before .close-gap .ensures)
+
+pub remove-row-spec : {M : Type 1} → statement M
+remove-row-spec =
+    tie.close
+    (tie.spec
+    weight-without-requires
+    close-gap-requires
+    sub-shrink
+    shrink-requires
+    same-length
+    returns)

@@ -1,0 +1,35 @@
+-- States with one number of the head changed, and rows with one field changed.
+use Prim.Native.Nat.{ℕ, _-_}
+use mathlib.Core.Path.{_≡_}
+use mathlib.Core.List.{List, _++_}
+use lib.ListN.{length, take}
+use Rattle.rules.specs.Records.{Entry, Row, State}
+use Rattle.rules.specs.Rows.{zeroRows}
+use Rattle.rules.specs.Memory.{headSize, viewRows}
+
+unfoldable pub withSeq : ℕ → State → State
+withSeq v s = record { maxEntries = s .maxEntries; defaultTtl = s .defaultTtl; seq = v; storedWeight = s .storedWeight; rowCount = s .rowCount; rows = s .rows; rest = s .rest }
+
+unfoldable pub withStoredWeight : ℕ → State → State
+withStoredWeight v s = record { maxEntries = s .maxEntries; defaultTtl = s .defaultTtl; seq = s .seq; storedWeight = v; rowCount = s .rowCount; rows = s .rows; rest = s .rest }
+
+unfoldable pub withRowCount : ℕ → State → State
+withRowCount v s = record { maxEntries = s .maxEntries; defaultTtl = s .defaultTtl; seq = s .seq; storedWeight = s .storedWeight; rowCount = v; rows = s .rows; rest = s .rest }
+
+-- a place and a stamp
+unfoldable pub stampedAs : ℕ → ℕ → ℕ → Row → Row
+stampedAs p f q r = record { key = r .key; entry = r .entry; place = p; stampFirst = f; stampSeq = q; weight = r .weight }
+
+unfoldable pub withTimes : ℕ → ℕ → Entry → Entry
+withTimes used expires e = record { path = e .path; createdAt = e .createdAt; lastUsed = used; expiresAt = expires; mtuMark = e .mtuMark; mtu = e .mtu; source = e .source; verifiedUntil = e .verifiedUntil }
+
+-- of a memory l with n rows, m has the same head, the same bytes past them, and these j rows in front
+pub record OnlyRows (n j : ℕ) (rs : List Row) (l m : List ℕ) : Type 0 where
+  pub size : length m ≡ length l
+  pub head : take headSize m ≡ take headSize l
+  pub rows : viewRows j m .rows ≡ rs
+  pub rest : viewRows n m .rest ≡ viewRows n l .rest
+
+-- the first j of n rows stay, with this stored weight; the others become zero
+unfoldable pub shrunk : ℕ → ℕ → ℕ → List ℕ → State
+shrunk n j w l = record { maxEntries = viewRows n l .maxEntries; defaultTtl = viewRows n l .defaultTtl; seq = viewRows n l .seq; storedWeight = w; rowCount = j; rows = viewRows j l .rows; rest = zeroRows (n - j) ++ viewRows n l .rest }

@@ -1,0 +1,78 @@
+// The head's five numbers, and R.
+ghost use mathlib.Core.Path.{_≡_};
+ghost use Prim.Native.Nat.{_≤_, _*_, _+_};
+ghost use lib.ListN.{length};
+ghost use Rattle.rules.specs.Rows.{rowSize};
+ghost use Rattle.rules.specs.Memory.{headSize, capacity, viewRows};
+ghost use Rattle.memory.specs.Edits.{withSeq, withStoredWeight, withRowCount};
+
+pub const HEAD: usize = 40;
+
+pub const ROW: usize = 1095;
+
+// R: the rows that fit whole; 0 where the head doesn't fit.
+pub fn rows_that_fit(state: &[u8]) -> usize
+    ensures { λ r. ⌜ r ≡ capacity (now (state .entry)) ⌝ }
+{
+    if state.len() < HEAD {
+        return 0;
+    }
+    (state.len() - HEAD) / ROW
+}
+
+pub fn max_entries(state: &[u8]) -> u64
+    requires { ⌜ headSize ≤ length (now state) ⌝ }
+    ensures { λ r. ⌜ r ≡ viewRows 0 (now (state .entry)) .maxEntries ⌝ }
+{
+    raw::numbers::read_u64(state, 0)
+}
+
+pub fn default_ttl(state: &[u8]) -> u64
+    requires { ⌜ headSize ≤ length (now state) ⌝ }
+    ensures { λ r. ⌜ r ≡ viewRows 0 (now (state .entry)) .defaultTtl ⌝ }
+{
+    raw::numbers::read_u64(state, 8)
+}
+
+pub fn seq(state: &[u8]) -> u64
+    requires { ⌜ headSize ≤ length (now state) ⌝ }
+    ensures { λ r. ⌜ r ≡ viewRows 0 (now (state .entry)) .seq ⌝ }
+{
+    raw::numbers::read_u64(state, 16)
+}
+
+pub fn stored_weight(state: &[u8]) -> u64
+    requires { ⌜ headSize ≤ length (now state) ⌝ }
+    ensures { λ r. ⌜ r ≡ viewRows 0 (now (state .entry)) .storedWeight ⌝ }
+{
+    raw::numbers::read_u64(state, 24)
+}
+
+pub fn row_count(state: &[u8]) -> u64
+    requires { ⌜ headSize ≤ length (now state) ⌝ }
+    ensures { λ r. ⌜ r ≡ viewRows 0 (now (state .entry)) .rowCount ⌝ }
+{
+    raw::numbers::read_u64(state, 32)
+}
+
+// Head numbers are set one at a time; n is any number of rows.
+pub fn set_seq(state: &mut [u8], n: usize, v: u64)
+    requires { ⌜ headSize ≤ length (now state) ⌝ }
+    ensures { λ _. ⌜ viewRows n (now (state .exit)) ≡ withSeq v (viewRows n (now (state .entry))) ⌝ }
+{
+    raw::numbers::write_u64(state, 16, v);
+}
+
+pub fn set_stored_weight(state: &mut [u8], n: usize, v: u64)
+    requires { ⌜ headSize ≤ length (now state) ⌝ }
+    ensures { λ _. ⌜ viewRows n (now (state .exit)) ≡ withStoredWeight v (viewRows n (now (state .entry))) ⌝ }
+{
+    raw::numbers::write_u64(state, 24, v);
+}
+
+pub fn set_row_count(state: &mut [u8], n: usize, v: u64)
+    requires { ⌜ headSize ≤ length (now state) ⌝ }
+    ensures { λ _. ⌜ viewRows n (now (state .exit)) ≡ withRowCount v (viewRows n (now (state .entry))) ⌝ }
+{
+    raw::numbers::write_u64(state, 32, v);
+}

@@ -1,0 +1,3 @@
+pub mod MoveLaws
+pub mod StoreLaws
+pub mod NumberLaws

@@ -1,0 +1,76 @@
+use borrow.Author.Needs.{needs}
+use mathlib.Core.Path.{_≡_, refl}
+use Prim.Native.Nat.{_+_, _-_, _≤_}
+use native.Mathlib.Omega.{arith}
+use native.Mathlib.Numerals.{add-one}
+use lib.ListN.{length, length-set}
+use Rattle.raw.proofs.MoveLaws.{down, down-start, down-step}
+use Rattle.raw.proofs.moves.shift_down.Statement.{statement}
+use Rattle.raw.proofs.moves.shift_down.Tie as tie
+
+abbrev Inv-loop : tie.InvT-loop
+Inv-loop s₀ at end stop i₀ s i = (at ≤ i) × ((i ≤ stop) × ((s ≡ down at i 1095 s₀) × (length s ≡ length s₀)))
+
+abbrev μ-loop : tie.MeasureT-loop
+μ-loop s₀ at end stop i₀ s i = stop - i
+
+sub-stop : tie.Need-sub-stop Inv-loop μ-loop
+sub-stop c = search needs
+
+loop-holds : tie.Need-loop-holds Inv-loop μ-loop
+loop-holds c = (search needs, (search needs, (down-start _ (c .args .at) 1095, refl)))
+
+add-s : tie.Need-add-s Inv-loop μ-loop
+add-s c = search needs
+
+slice-read-s : tie.Need-slice-read-s Inv-loop μ-loop
+slice-read-s c = search needs
+
+slice-write-s : tie.Need-slice-write-s Inv-loop μ-loop
+slice-write-s c = search needs
+
+add-i : tie.Need-add-i Inv-loop μ-loop
+add-i c = search needs
+
+loop-less : tie.Need-loop-less Inv-loop μ-loop
+loop-less c = search needs
+
+loop-again : tie.Need-loop-again Inv-loop μ-loop
+loop-again c =
+    let at-loop = c .before .before .loop in (
+      omega arith,
+      (
+        omega arith,
+        (
+          rw (at-loop .inv .1 .1 .0, add-one) (down-step _ _ 1095 (at-loop .i) (at-loop .inv .0) (omega arith)),
+          simp length-set (at-loop .inv .1 .1 .1),
+        ),
+      ),
+    )
+
+same-length : tie.Need-same-length Inv-loop μ-loop
+same-length c = c .before .loop .inv .1 .1 .1
+
+returns : tie.Need-returns Inv-loop μ-loop
+returns c =
+    let at-loop = c .before .loop in
+    let e : at-loop .i ≡ c .before .before .args .end - 1095 = omega arith in
+    let f : c .before .before .args .end - 1095 + 1095 ≡ c .before .before .args .end = omega arith in
+    rw (e, f) at (at-loop .inv .1 .1 .0)
+
+pub shift-down-spec : {M : Type 1} → statement M
+shift-down-spec =
+    tie.close
+    (tie.spec
+    Inv-loop
+    μ-loop
+    sub-stop
+    loop-holds
+    add-s
+    slice-read-s
+    slice-write-s
+    add-i
+    loop-less
+    loop-again
+    same-length
+    returns)

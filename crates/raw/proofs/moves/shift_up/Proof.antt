@@ -1,0 +1,71 @@
+use borrow.Author.Needs.{needs}
+use mathlib.Core.Path.{_≡_, refl}
+use Prim.Native.Nat.{_≤_}
+use native.Mathlib.Omega.{arith}
+use lib.ListN.{length, length-set}
+use Rattle.raw.proofs.MoveLaws.{up, up-start, up-turn}
+use Rattle.raw.proofs.moves.shift_up.Statement.{statement}
+use Rattle.raw.proofs.moves.shift_up.Tie as tie
+
+abbrev Inv-loop : tie.InvT-loop
+Inv-loop s₀ from to i₀ s i = (from ≤ i) × ((i ≤ to) × ((s ≡ up i to 1095 s₀) × (length s ≡ length s₀)))
+
+abbrev μ-loop : tie.MeasureT-loop
+μ-loop s₀ from to i₀ s i = i
+
+loop-holds : tie.Need-loop-holds Inv-loop μ-loop
+loop-holds c = (search needs, (search needs, (up-start _ (c .args .to) 1095, refl)))
+
+sub-i : tie.Need-sub-i Inv-loop μ-loop
+sub-i c = search needs
+
+slice-read-s : tie.Need-slice-read-s Inv-loop μ-loop
+slice-read-s c = search needs
+
+add-s : tie.Need-add-s Inv-loop μ-loop
+add-s c = search needs
+
+slice-write-s : tie.Need-slice-write-s Inv-loop μ-loop
+slice-write-s c = search needs
+
+loop-less : tie.Need-loop-less Inv-loop μ-loop
+loop-less c = search needs
+
+loop-again : tie.Need-loop-again Inv-loop μ-loop
+loop-again c =
+    let start = c .before .before .before in
+    let at-loop = c .before .before .loop in (
+      omega arith,
+      (
+        omega arith,
+        (
+          up-turn (start .args .s .now) (at-loop .s) (start .args .from) (start .args .to) 1095 (at-loop .i) (at-loop .inv .1 .1 .0) (c .before .loop-test .taken) (at-loop .inv .1 .0) (start .pre .1),
+          simp length-set (at-loop .inv .1 .1 .1),
+        ),
+      ),
+    )
+
+same-length : tie.Need-same-length Inv-loop μ-loop
+same-length c = c .before .loop .inv .1 .1 .1
+
+returns : tie.Need-returns Inv-loop μ-loop
+returns c =
+    let at-loop = c .before .loop in
+    let e : at-loop .i ≡ c .before .before .args .from = omega arith in
+    rw e at (at-loop .inv .1 .1 .0)
+
+pub shift-up-spec : {M : Type 1} → statement M
+shift-up-spec =
+    tie.close
+    (tie.spec
+    Inv-loop
+    μ-loop
+    loop-holds
+    sub-i
+    slice-read-s
+    add-s
+    slice-write-s
+    loop-less
+    loop-again
+    same-length
+    returns)

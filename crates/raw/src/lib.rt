@@ -1,0 +1,3 @@
+// Bytes of the lent memory: little-endian numbers at an offset, rows moved and zeroed.
+pub mod moves;
+pub mod numbers;
