@@ -1,3 +1,4 @@
 pub mod Fields
 pub mod RowBlocks
 pub mod RowLaws
+pub mod KeepLaws

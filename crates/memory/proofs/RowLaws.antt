@@ -130,7 +130,7 @@ module _ (l : List ℕ) (n i : ℕ) (h : i < n) (k : 40 + n * 1095 ≤ length l)
   unfolding viewRows
   gap-closed = record { size = gap-size; head = gap-head; rows = gap-rows; rest = gap-rest }
 
-length-without : (i : ℕ) (rs : List Row) → i < length rs → length (withoutRow i rs) ≡ length rs - 1
+pub length-without : (i : ℕ) (rs : List Row) → i < length rs → length (withoutRow i rs) ≡ length rs - 1
 unfolding withoutRow
 length-without i [] h = absurd (let z : ⊥ = omega arith in z)
 length-without zero (r ∷ rs) h = omega arith

@@ -1,10 +1,10 @@
 -- States with one number of the head changed, and rows with one field changed.
-use Prim.Native.Nat.{ℕ, _-_}
+use Prim.Native.Nat.{ℕ, _+_, _*_, _-_}
 use mathlib.Core.Path.{_≡_}
 use mathlib.Core.List.{List, _++_}
-use lib.ListN.{length, take}
+use lib.ListN.{length, take, drop}
 use Rattle.rules.specs.Records.{Entry, Row, State}
-use Rattle.rules.specs.Rows.{zeroRows}
+use Rattle.rules.specs.Rows.{rowSize, zeroRows}
 use Rattle.rules.specs.Memory.{headSize, viewRows}
 
 unfoldable pub withSeq : ℕ → State → State
@@ -33,3 +33,10 @@ pub record OnlyRows (n j : ℕ) (rs : List Row) (l m : List ℕ) : Type 0 where
 -- the first j of n rows stay, with this stored weight; the others become zero
 unfoldable pub shrunk : ℕ → ℕ → ℕ → List ℕ → State
 shrunk n j w l = record { maxEntries = viewRows n l .maxEntries; defaultTtl = viewRows n l .defaultTtl; seq = viewRows n l .seq; storedWeight = w; rowCount = j; rows = viewRows j l .rows; rest = zeroRows (n - j) ++ viewRows n l .rest }
+
+-- while rows are kept together: of a memory l, m has the same head, these j rows in front, and from row i on the same bytes
+pub record Keeping (i j : ℕ) (rs : List Row) (l m : List ℕ) : Type 0 where
+  pub size : length m ≡ length l
+  pub head : take headSize m ≡ take headSize l
+  pub rows : viewRows j m .rows ≡ rs
+  pub tail : drop (headSize + i * rowSize) m ≡ drop (headSize + i * rowSize) l

@@ -66,9 +66,9 @@ fresh-size : (l : List ℕ) → 40 ≤ length l → 40 + capacity l * 1095 + len
 unfolding view viewRows heldRows capacity
 fresh-size l h = rw (length-drop ((capacity l - length (view l .rows)) * 1095) (view l .rest), length-drop (40 + heldRows l * 1095) l, rows-of-length (heldRows l) (drop 40 l)) (omega arith)
 
-keeps-size : (R m : ℕ) → badSize R m ≡ false → m + probationBound m ≤ R
+pub size-allowed : (R m : ℕ) → badSize R m ≡ false → m + probationBound m ≤ R
 unfolding badSize
-keeps-size R m h = go (ltb 1024 R) (ltb R (m + probationBound m)) refl h
+size-allowed R m h = go (ltb 1024 R) (ltb R (m + probationBound m)) refl h
   where
     go : (a b : Bool) → ltb R (m + probationBound m) ≡ b → a || b ≡ false → m + probationBound m ≤ R
     go true b e g = contradiction {b = true} refl g
@@ -78,7 +78,7 @@ keeps-size R m h = go (ltb 1024 R) (ltb R (m + probationBound m)) refl h
 fresh-leaves : (l : List ℕ) (m ttl : ℕ) → Bytes l → Small 8 m → Small 8 ttl → Leaves l (serve (capacity l) (view l) (Fresh m ttl))
 unfolding gives wasRefused performRequest
 fresh-leaves l m ttl b hm ht = by-serve (capacity l) (view l) (Fresh m ttl) (Leaves l) (λ n e. (b, refl, refl))
-    (λ e. let h = head-fits l m (keeps-size (capacity l) m (fresh-allowed (capacity l) m ttl (view l) e)) in
+    (λ e. let h = head-fits l m (size-allowed (capacity l) m (fresh-allowed (capacity l) m ttl (view l) e)) in
     leaves-done l (performRequest (capacity l) (view l) (Fresh m ttl)) refl (subst (λ (L : ℕ). Fits L (fresh (capacity l) m ttl (tailOf l))) (fresh-size l h) (fresh-fits (capacity l) m ttl (tailOf l) hm ht (tail-bytes l b))))
 
 pub record OnBytes (l : List ℕ) (x : Request) : Type 0 where

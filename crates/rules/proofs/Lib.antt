@@ -18,6 +18,7 @@ pub mod Fitting
 pub mod Foreign
 pub mod LentMemory
 pub mod GotPart
+pub mod Public
 pub mod Compute
 pub mod TableP
 pub mod Branches

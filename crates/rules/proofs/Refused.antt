@@ -176,7 +176,7 @@ given-exactly R s q =
     }
 
 -- fresh, on any state
-fresh-refusal : (R m ttl : ℕ) (s : State) → refusal R s (Fresh m ttl) ≡ cond (badSize R m) (some 5) none
+pub fresh-refusal : (R m ttl : ℕ) (s : State) → refusal R s (Fresh m ttl) ≡ cond (badSize R m) (some 5) none
 unfolding refusal reasons firstGiven reason
 fresh-refusal R m ttl s = refl
 
@@ -193,3 +193,17 @@ fresh-allowed R m ttl s e = go (badSize R m) (sym (fresh-refusal R m ttl s) ∙ 
     go : (b : Bool) → cond {A = Option ℕ} b (some 5) none ≡ none → b ≡ false
     go true h = some-none {o = some 5} refl h
     go false h = refl
+
+-- the table's answer, where it is 1, 3 or none
+pub refused-one : (R : ℕ) (s : State) (q : Call) → sound R s ≡ false → refusal R s (Asked q) ≡ some 1
+unfolding refusal reasons firstGiven reason
+refused-one R s q h = rw h
+
+pub refused-three : (R : ℕ) (s : State) (q : Call) → sound R s ≡ true → pathGiven q ≡ none → drawsStamps q ≡ true → seqSpent s ≡ true → refusal R s (Asked q) ≡ some 3
+unfolding refusal reasons firstGiven reason
+refused-three R s q h p d w = rw (h, p, d, w)
+
+-- a call that takes no path and draws no stamps is refused by 1 alone
+pub refused-only-one : (R : ℕ) (s : State) (q : Call) → sound R s ≡ true → pathGiven q ≡ none → verifiedWrite q ≡ none → drawsStamps q && seqSpent s ≡ false → refusal R s (Asked q) ≡ none
+unfolding refusal reasons firstGiven reason
+refused-only-one R s q h p v d = rw (h, p, v, d)

@@ -123,13 +123,13 @@ rows-test q (r ∷ rs) h = and-both (row-test q r (h .0)) (rows-test q rs (h .1)
 before-rest : (k : NodeAddr) (r : Row) (rs : List Row) → addrBefore k (r .key) ≡ true → Rising (cores (r ∷ rs)) → Every (λ y. addrBefore k (y .key) ≡ true) (cores (r ∷ rs))
 before-rest k r rs h g = (h, every-map (λ y a. before-trans k (r .key) (y .key) h a) (cores rs) (g .0))
 
-ascends-ok : (rs : List Row) → ascends rs ≡ true → Rising (cores rs)
+pub ascends-ok : (rs : List Row) → ascends rs ≡ true → Rising (cores rs)
 unfolding ascends leads
 ascends-ok [] h = tt
 ascends-ok (r ∷ []) h = (tt, tt)
 ascends-ok (r ∷ x ∷ xs) h = let g = ascends-ok (x ∷ xs) (and-right (addrBefore (r .key) (x .key)) (ascends (x ∷ xs)) h) in (before-rest (r .key) x xs (and-left (addrBefore (r .key) (x .key)) (ascends (x ∷ xs)) h) g, g)
 
-ascends-test : (rs : List Row) → Rising (cores rs) → ascends rs ≡ true
+pub ascends-test : (rs : List Row) → Rising (cores rs) → ascends rs ≡ true
 unfolding ascends leads
 ascends-test [] h = refl
 ascends-test (r ∷ []) h = refl

@@ -13,5 +13,6 @@ pub mod Refusals
 pub mod Lists
 pub mod Demand
 pub mod Memory
+pub mod Answers
 pub mod Lent
 pub mod Commands

@@ -1,0 +1,5 @@
+pub mod Sizes
+pub mod Totals
+pub mod Frame
+pub mod Demoting
+pub mod Touching

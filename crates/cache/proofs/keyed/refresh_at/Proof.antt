@@ -1,0 +1,46 @@
+use mathlib.Core.Path.{_≡_, ap, _∙_}
+use Prim.Native.Nat.{ℕ}
+use Rattle.rules.specs.Entries.{addTimes}
+use Rattle.rules.specs.Lookups.{rewrite}
+use Rattle.rules.specs.Memory.{viewRows}
+use Rattle.memory.specs.Edits.{withTimes}
+use Rattle.memory.proofs.Fields.{same-head}
+use Rattle.cache.proofs.Demoting.{refreshed}
+use borrow.Author.Needs.{needs}
+use Rattle.cache.proofs.keyed.refresh_at.Statement.{statement}
+use Rattle.cache.proofs.keyed.refresh_at.Tie as tie
+use Rattle.cache.proofs.keyed.refresh_at.Reads as reads
+use Rattle.cache.proofs.keyed.refresh_at.Lts as lts
+use Rattle.cache.proofs.keyed.add_times.Reads as add-times-reads
+use Rattle.memory.proofs.head.default_ttl.Reads as default-ttl-reads
+use Rattle.memory.proofs.row.set_times.Reads as set-times-reads
+
+-- src/keyed.rt:87:35
+default-ttl-requires : tie.Need-default-ttl-requires
+default-ttl-requires c κs = search needs
+
+-- src/keyed.rt:87:9
+add-times-requires : tie.Need-add-times-requires
+add-times-requires c κs = search needs
+
+-- src/keyed.rt:88:5
+set-times-requires : tie.Need-set-times-requires
+set-times-requires c κs = search needs
+
+-- src/keyed.rt:83:1
+same-length : tie.Need-same-length
+same-length c = search needs
+
+-- src/keyed.rt:83:1
+returns : tie.Need-returns
+returns c =
+    let s = c .before .before .before .before .before .before .before .before .args in
+    let v = viewRows (s .n) (s .state .now) in
+    c .before .before .set-times .ensures
+    ∙ ap (λ (x : ℕ). rewrite (withTimes (s .time) x) (s .i) v) (c .before .before .before .before .add-times .ensures ∙ ap (addTimes (s .time)) (c .before .before .before .before .before .default-ttl .ensures ∙ same-head 0 (s .n) (s .state .now) .defaultTtl))
+    ∙ refreshed (s .i) (s .time) (v .defaultTtl) v
+
+pub refresh-at-spec : {M : Type 1} → statement M
+refresh-at-spec =
+    tie.close
+    (tie.spec default-ttl-requires add-times-requires set-times-requires same-length returns)

@@ -1,0 +1,4 @@
+// The coordinate cache: every public call, on lent memory in any condition.
+pub mod fresh;
+pub mod keyed;
+pub mod statistics;

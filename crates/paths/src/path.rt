@@ -1,0 +1,75 @@
+// The path of row i of n. Its places begin 17 bytes into the row, 32 bytes each.
+use crate::addr;
+use coord::coord::CoordEntry;
+use coord::coord::Path;
+use coord::node_addr::NodeAddr;
+use memory::head::HEAD;
+use memory::head::ROW;
+use memory::row;
+ghost use mathlib.Core.Path.{_≡_};
+ghost use Prim.Native.Nat.{_+_, _*_, _≤_, _<_};
+ghost use lib.ListN.{length};
+ghost use Rattle.coord.specs.Addresses.{sameAddr};
+ghost use Rattle.coord.specs.Paths.{pathPlaces, contains, rootOf};
+ghost use Rattle.rules.specs.Rows.{rowSize, rowAt};
+ghost use Rattle.rules.specs.Memory.{headSize, viewRows};
+ghost use Rattle.rules.specs.Lent.{pathPart};
+
+// Whether an element up to the length has the address.
+pub fn path_contains(state: &[u8], n: usize, i: usize, a: NodeAddr) -> bool
+    requires { ⌜ (i < n) × (headSize + n * rowSize ≤ length (now state)) × (rowAt i (viewRows n (now state) .rows) .entry .path .len ≤ pathPlaces) ⌝ }
+    ensures { λ r. ⌜ r ≡ contains a (rowAt i (viewRows n (now (state .entry)) .rows) .entry .path) ⌝ }
+{
+    let len = row::path_len(state, n, i) as usize;
+    let places = HEAD + i * ROW + 17;
+    let mut k = 0;
+    while k < len {
+        if addr::addr_at(state, places + k * 32, a) {
+            return true;
+        }
+        k += 1;
+    }
+    false
+}
+
+// Whether the last element up to the length has the address.
+pub fn root_is(state: &[u8], n: usize, i: usize, a: NodeAddr) -> bool
+    requires { ⌜ (i < n) × (headSize + n * rowSize ≤ length (now state)) × (rowAt i (viewRows n (now state) .rows) .entry .path .len ≤ pathPlaces) × (1 ≤ rowAt i (viewRows n (now state) .rows) .entry .path .len) ⌝ }
+    ensures { λ r. ⌜ r ≡ sameAddr (rootOf (rowAt i (viewRows n (now (state .entry)) .rows) .entry .path)) a ⌝ }
+{
+    let len = row::path_len(state, n, i) as usize;
+    let places = HEAD + i * ROW + 17;
+    addr::addr_at(state, places + (len - 1) * 32, a)
+}
+
+// The elements up to the length, where they stand in the memory.
+pub fn path_part<'a>(state: &'a [u8], n: usize, i: usize) -> &'a [u8]
+    requires { ⌜ (i < n) × (headSize + n * rowSize ≤ length (now state)) × (rowAt i (viewRows n (now state) .rows) .entry .path .len ≤ pathPlaces) ⌝ }
+    ensures { λ r. ⌜ now r ≡ pathPart i (rowAt i (viewRows n (now (state .entry)) .rows) .entry .path .len) (now (state .entry)) ⌝ }
+{
+    let len = row::path_len(state, n, i) as usize;
+    let start = HEAD + i * ROW + 17;
+    let end = start + len * 32;
+    &state[start..end]
+}
+
+// All 32 places and the length.
+pub fn load_path(state: &[u8], n: usize, i: usize) -> Path
+    requires { ⌜ (i < n) × (headSize + n * rowSize ≤ length (now state)) ⌝ }
+    ensures { λ r. ⌜ r ≡ rowAt i (viewRows n (now (state .entry)) .rows) .entry .path ⌝ }
+{
+    let places = HEAD + i * ROW + 17;
+    let blank = CoordEntry {
+        node_addr: NodeAddr([0u8; 16]),
+        sequence: 0,
+        timestamp: 0,
+    };
+    let mut entries = [blank; 32];
+    let mut place = 0;
+    while place < 32 {
+        entries[place] = addr::load_coord_entry(state, places + place * 32);
+        place += 1;
+    }
+    let len = row::path_len(state, n, i) as usize;
+    Path { entries, len }
+}

@@ -1,0 +1,4 @@
+pub mod OrderLaws
+pub mod KeyBytes
+pub mod Halves
+pub mod SearchLaws
