@@ -33,7 +33,7 @@ use Rattle.cache.proofs.Frame.{done-with, not-refused, rewritten-length
 
 -- ---- row i
 
-out-length : (l : List ℕ) (n i : ℕ) → i < n → length (takeOut i (viewRows n l) .rows) ≡ n - 1
+pub out-length : (l : List ℕ) (n i : ℕ) → i < n → length (takeOut i (viewRows n l) .rows) ≡ n - 1
 unfolding takeOut withOnlyRows
 out-length l n i h = length-without i (viewRows n l .rows) (omega (arith, view-length n l)) ∙ ap (λ (x : ℕ). x - 1) (view-length n l)
 

@@ -1,17 +1,20 @@
 // stats, and the next expiry.
 use types::answers::ExpiryAnswer;
+use types::answers::StatsAnswer;
 use types::stats::CacheStats;
 ghost use mathlib.Core.Path.{_≡_};
-ghost use mathlib.Core.Bool.{Bool};
+ghost use mathlib.Core.Bool.{Bool, true};
 ghost use mathlib.Core.Option.{Option, none, some};
 ghost use Prim.Native.Nat.{_+_, _*_, _-_, _≤_, _<_, min};
 ghost use lib.ListN.{length};
 ghost use Rattle.rules.specs.Rows.{rowSize, rowAt, countRows};
 ghost use Rattle.rules.specs.Entries.{expired};
 ghost use Rattle.rules.specs.Statistics.{totalAge, mean, stats, nextExpiry};
-ghost use Rattle.rules.specs.Memory.{headSize, viewRows};
-ghost use Rattle.rules.specs.Calls.{ExpiryGiven};
-ghost use Rattle.rules.specs.Answers.{expirySaid};
+ghost use Rattle.rules.specs.Sound.{sound};
+ghost use Rattle.rules.specs.Memory.{headSize, capacity, viewRows, view};
+ghost use Rattle.rules.specs.Lent.{call};
+ghost use Rattle.rules.specs.Calls.{Stats, NextExpiry, ExpiryGiven};
+ghost use Rattle.rules.specs.Answers.{statsSaid, expirySaid};
 
 // Whether row i is expired: now > expires_at.
 pub fn is_expired(state: &[u8], n: usize, i: usize, time: u64) -> bool
@@ -101,4 +104,20 @@ pub fn next_expiry_of(state: &[u8], n: usize) -> ExpiryAnswer
         soonest = lesser(memory::row::expires_at(state, n, i), soonest);
     }
     ExpiryAnswer::At(soonest)
+}
+
+pub fn stats_unchecked(state: &[u8], time: u64) -> StatsAnswer
+    requires { ⌜ sound (capacity (now state)) (view (now state)) ≡ true ⌝ }
+    ensures { λ r. ⌜ statsSaid r ≡ call (now (state .entry)) (Stats time) .answer ⌝ }
+{
+    let n = memory::head::row_count(state) as usize;
+    StatsAnswer::Stats(stats_of(state, n, time))
+}
+
+pub fn next_expiry_unchecked(state: &[u8]) -> ExpiryAnswer
+    requires { ⌜ sound (capacity (now state)) (view (now state)) ≡ true ⌝ }
+    ensures { λ r. ⌜ expirySaid r ≡ call (now (state .entry)) NextExpiry .answer ⌝ }
+{
+    let n = memory::head::row_count(state) as usize;
+    next_expiry_of(state, n)
 }

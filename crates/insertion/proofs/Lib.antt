@@ -1,0 +1,5 @@
+pub mod Owned
+pub mod Runs
+pub mod PathLaws
+pub mod RowImage
+pub mod InsertLaws

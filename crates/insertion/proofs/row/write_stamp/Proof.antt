@@ -1,0 +1,56 @@
+use native.Mathlib.Omega.{arith}
+use Rattle.rules.specs.Memory.{leBytes}
+use Rattle.rules.proofs.ViewLaws.{length-le}
+use Rattle.rules.proofs.Sizes.{small1, small8}
+use Rattle.insertion.proofs.Runs.{four}
+use borrow.Author.Needs.{needs}
+use Rattle.insertion.proofs.row.write_stamp.Statement.{statement}
+use Rattle.insertion.proofs.row.write_stamp.Tie as tie
+
+write-u8-requires : tie.Need-write-u8-requires
+write-u8-requires c κs = search needs
+
+add-write-u64 : tie.Need-add-write-u64
+add-write-u64 c = search needs
+
+write-u64-requires : tie.Need-write-u64-requires
+write-u64-requires c κs = search needs
+
+add-write-u64-2 : tie.Need-add-write-u64-2
+add-write-u64-2 c = search needs
+
+write-u64-requires-2 : tie.Need-write-u64-requires-2
+write-u64-requires-2 c κs = search needs
+
+add-write-u8 : tie.Need-add-write-u8
+add-write-u8 c = search needs
+
+write-u8-requires-2 : tie.Need-write-u8-requires-2
+write-u8-requires-2 c κs = search needs
+
+same-length : tie.Need-same-length
+same-length c = search needs
+
+returns : tie.Need-returns
+returns c =
+    let w4 = c .before .before in
+    let w3 = w4 .before .before .before .before in
+    let w2 = w3 .before .before .before .before in
+    let w1 = w2 .before .before .before .before in
+    let s = w1 .before .before .before in
+    let a = s .args in
+    (rw (w4 .write-u82 .ensures, w3 .write-u642 .ensures, w2 .write-u64 .ensures, w1 .write-u8 .ensures) (four (a .s .now) (leBytes 1 (a .place)) (leBytes 8 (a .first)) (leBytes 8 (a .seq)) (leBytes 1 (a .weight)) (a .at) 1 9 17 (length-le 1 (a .place)) (omega (arith, length-le 8 (a .first))) (omega (arith, length-le 8 (a .seq)))), (small1 (a .place) (s .fits .place .fits), small8 (a .first) (s .fits .first .fits), small8 (a .seq) (s .fits .seq .fits), small1 (a .weight) (s .fits .weight .fits)))
+
+pub write-stamp-spec : {M : Type 1} → statement M
+write-stamp-spec =
+    tie.close
+    (tie.spec
+    write-u8-requires
+    add-write-u64
+    write-u64-requires
+    add-write-u64-2
+    write-u64-requires-2
+    add-write-u8
+    write-u8-requires-2
+    same-length
+    returns)

@@ -1,0 +1,47 @@
+use native.Mathlib.Omega.{arith}
+use Rattle.rules.specs.Memory.{leBytes}
+use Rattle.rules.proofs.ViewLaws.{length-le}
+use Rattle.rules.proofs.Sizes.{small8}
+use Rattle.insertion.proofs.Runs.{three}
+use borrow.Author.Needs.{needs}
+use Rattle.insertion.proofs.row.write_times.Statement.{statement}
+use Rattle.insertion.proofs.row.write_times.Tie as tie
+
+write-u64-requires : tie.Need-write-u64-requires
+write-u64-requires c κs = search needs
+
+add-write-u64 : tie.Need-add-write-u64
+add-write-u64 c = search needs
+
+write-u64-requires-2 : tie.Need-write-u64-requires-2
+write-u64-requires-2 c κs = search needs
+
+add-write-u64-2 : tie.Need-add-write-u64-2
+add-write-u64-2 c = search needs
+
+write-u64-requires-3 : tie.Need-write-u64-requires-3
+write-u64-requires-3 c κs = search needs
+
+same-length : tie.Need-same-length
+same-length c = search needs
+
+returns : tie.Need-returns
+returns c =
+    let w3 = c .before .before in
+    let w2 = w3 .before .before .before .before in
+    let w1 = w2 .before .before .before .before in
+    let s = w1 .before .before .before in
+    let a = s .args in
+    (rw (w3 .write-u643 .ensures, w2 .write-u642 .ensures, w1 .write-u64 .ensures) (three (a .s .now) (leBytes 8 (a .created)) (leBytes 8 (a .used)) (leBytes 8 (a .expires)) (a .at) 8 16 (length-le 8 (a .created)) (omega (arith, length-le 8 (a .used)))), (small8 (a .created) (s .fits .created .fits), small8 (a .used) (s .fits .used .fits), small8 (a .expires) (s .fits .expires .fits)))
+
+pub write-times-spec : {M : Type 1} → statement M
+write-times-spec =
+    tie.close
+    (tie.spec
+    write-u64-requires
+    add-write-u64
+    write-u64-requires-2
+    add-write-u64-2
+    write-u64-requires-3
+    same-length
+    returns)

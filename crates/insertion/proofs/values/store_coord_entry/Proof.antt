@@ -1,0 +1,51 @@
+use mathlib.Core.List.{append-nil}
+use native.Mathlib.Omega.{arith}
+use Rattle.rules.specs.Memory.{leBytes, coordEntriesBytes}
+use Rattle.rules.proofs.ViewLaws.{length-le}
+use Rattle.insertion.proofs.Owned.{owned-entry}
+use Rattle.insertion.proofs.Runs.{three}
+use borrow.Author.Needs.{needs}
+use Rattle.insertion.proofs.values.store_coord_entry.Statement.{statement}
+use Rattle.insertion.proofs.values.store_coord_entry.Tie as tie
+
+store-addr-requires : tie.Need-store-addr-requires
+store-addr-requires c κs = search needs
+
+add-write-u64 : tie.Need-add-write-u64
+add-write-u64 c = search needs
+
+write-u64-requires : tie.Need-write-u64-requires
+write-u64-requires c κs = search needs
+
+add-write-u64-2 : tie.Need-add-write-u64-2
+add-write-u64-2 c = search needs
+
+write-u64-requires-2 : tie.Need-write-u64-requires-2
+write-u64-requires-2 c κs = search needs
+
+same-length : tie.Need-same-length
+same-length c = search needs
+
+returns : tie.Need-returns
+unfolding coordEntriesBytes
+returns c =
+    let w3 = c .before .before in
+    let w2 = w3 .before .before .before .before in
+    let w1 = w2 .before .before .before .before in
+    let s = w1 .before .before .before in
+    let a = s .args in
+    let f = owned-entry (a .e) _ (s .good .1 .1 .0) in
+    let n = f .address .size in
+    (rw (w3 .write-u642 .ensures, w2 .write-u64 .ensures, w1 .store-addr .ensures .0, append-nil (leBytes 8 (a .e .timestamp))) (three (a .s .now) (a .e .«node_addr» .0) (leBytes 8 (a .e .sequence)) (leBytes 8 (a .e .timestamp)) (a .at) 16 24 n (omega (arith, length-le 8 (a .e .sequence)))), f)
+
+pub store-coord-entry-spec : {M : Type 1} → statement M
+store-coord-entry-spec =
+    tie.close
+    (tie.spec
+    store-addr-requires
+    add-write-u64
+    write-u64-requires
+    add-write-u64-2
+    write-u64-requires-2
+    same-length
+    returns)

@@ -1,0 +1,38 @@
+-- A path's bytes; a row by value, as a row of the state; a state with a row inserted; an entry with another path.
+use Prim.Native.Nat.{ℕ, _+_}
+use mathlib.Core.List.{List, _∷_, _++_}
+use lib.ListN.{length, take, drop}
+use Rattle.coord.specs.declared.coord.Path.{Path}
+use Rattle.coord.specs.Paths.{asWritten}
+use Rattle.rules.specs.Records.{Entry, Row, State}
+use Rattle.rules.specs.Rows.{rowSize}
+use Rattle.rules.specs.Memory.{leBytes, coordEntriesBytes}
+use Rattle.insertion.specs.declared.row.NewRow.{NewRow}
+
+-- the length and 32 places
+abbrev pub pathSize : ℕ
+pathSize = 1025
+
+-- places past the length are zero
+abbrev pub pathBytes : Path → List ℕ
+pathBytes p = leBytes 1 (p .len) ++ coordEntriesBytes (asWritten p .entries)
+
+-- every field of a row by value; its path as a row holds it
+unfoldable pub rowFrom : NewRow → Row
+rowFrom r =
+    record {
+      key = r .key;
+      entry = record { path = asWritten (r .path); createdAt = r .«created_at»; lastUsed = r .«last_used»; expiresAt = r .«expires_at»; mtuMark = r .«mtu_mark»; mtu = r .mtu; source = r .source; verifiedUntil = r .«verified_until» };
+      place = r .place;
+      stampFirst = r .«stamp_first»;
+      stampSeq = r .«stamp_seq»;
+      weight = r .weight;
+    }
+
+-- row r goes in at i; what is past the rows loses a row's bytes
+unfoldable pub inserted : ℕ → Row → State → State
+inserted i r s = record { maxEntries = s .maxEntries; defaultTtl = s .defaultTtl; seq = s .seq; storedWeight = s .storedWeight; rowCount = length (s .rows) + 1; rows = take i (s .rows) ++ r ∷ drop i (s .rows); rest = drop rowSize (s .rest) }
+
+-- another path, as a row holds it
+unfoldable pub withPath : Path → Entry → Entry
+withPath p e = record { path = asWritten p; createdAt = e .createdAt; lastUsed = e .lastUsed; expiresAt = e .expiresAt; mtuMark = e .mtuMark; mtu = e .mtu; source = e .source; verifiedUntil = e .verifiedUntil }

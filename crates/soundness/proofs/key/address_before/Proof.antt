@@ -1,0 +1,77 @@
+-- The loop has the rest of the bytes still to compare, and the answer depends on them alone.
+use mathlib.Core.Path.{_≡_, sym, _∙_}
+use Prim.Native.Nat.{_-_, _≤_}
+use native.Mathlib.Omega.{arith}
+use lib.ListN.{drop}
+use borrow.Author.Needs.{needs}
+use Rattle.coord.specs.Addresses.{bytesBefore}
+use Rattle.coord.proofs.Laws.{before-end}
+use Rattle.rules.specs.Memory.{cut}
+use Rattle.rules.proofs.MemoryLaws.{length-cut}
+use Rattle.soundness.proofs.KeyLaws.{bytes-differ, bytes-agree}
+use Rattle.soundness.proofs.key.address_before.Statement.{statement}
+use Rattle.soundness.proofs.key.address_before.Tie as tie
+
+abbrev Inv-loop : tie.InvT-loop
+Inv-loop s a b at₀ at = (at ≤ 16) × (bytesBefore (cut a 16 s) (cut b 16 s) ≡ bytesBefore (drop at (cut a 16 s)) (drop at (cut b 16 s)))
+
+abbrev μ-loop : tie.MeasureT-loop
+μ-loop s a b at₀ at = 16 - at
+
+loop-holds : tie.Need-loop-holds Inv-loop μ-loop
+loop-holds c = search needs
+
+add-x : tie.Need-add-x Inv-loop μ-loop
+add-x c = search needs
+
+shared-slice-read-x : tie.Need-shared-slice-read-x Inv-loop μ-loop
+shared-slice-read-x c = search needs
+
+add-y : tie.Need-add-y Inv-loop μ-loop
+add-y c = search needs
+
+shared-slice-read-y : tie.Need-shared-slice-read-y Inv-loop μ-loop
+shared-slice-read-y c = search needs
+
+returns : tie.Need-returns Inv-loop μ-loop
+returns c =
+    let l = c .before .before .before .before in
+    let g = l .before .args in
+    sym (l .loop .inv .1 ∙ bytes-differ (g .s .now) (g .a) (g .b) (l .loop .at) (l .before .pre .0) (l .before .pre .1) (omega arith) (c .if1 .taken))
+
+add-at : tie.Need-add-at Inv-loop μ-loop
+add-at c = search needs
+
+loop-less : tie.Need-loop-less Inv-loop μ-loop
+loop-less c = search needs
+
+loop-again : tie.Need-loop-again Inv-loop μ-loop
+loop-again c =
+    let l = c .before .before .before .before in
+    let g = l .before .args in
+    (omega arith, l .loop .inv .1 ∙ bytes-agree (g .s .now) (g .a) (g .b) (l .loop .at) (l .before .pre .0) (l .before .pre .1) (omega arith) (c .if1 .left))
+
+returns-2 : tie.Need-returns-2 Inv-loop μ-loop
+returns-2 c =
+    let l = c .before in
+    let g = l .before .args in
+    let x = length-cut (g .a) 16 (g .s .now) (l .before .pre .0) in
+    let y = length-cut (g .b) 16 (g .s .now) (l .before .pre .1) in
+    sym (l .loop .inv .1 ∙ before-end (cut (g .a) 16 (g .s .now)) (cut (g .b) 16 (g .s .now)) (l .loop .at) (omega arith) (omega arith))
+
+pub address-before-spec : {M : Type 1} → statement M
+address-before-spec =
+    tie.close
+    (tie.spec
+    Inv-loop
+    μ-loop
+    loop-holds
+    add-x
+    shared-slice-read-x
+    add-y
+    shared-slice-read-y
+    returns
+    add-at
+    loop-less
+    loop-again
+    returns-2)

@@ -1,0 +1,95 @@
+-- The loop has the rest of the rows still to check, and the totals are those of the rows passed.
+use Prim.Native.Nat.{_-_, _≤_, _<_}
+use native.Mathlib.Omega.{arith}
+use lib.ListN.{length}
+use borrow.Author.Needs.{needs}
+use Rattle.rules.specs.Memory.{viewRows}
+use Rattle.memory.proofs.RowLaws.{view-length}
+use Rattle.soundness.proofs.PassLaws.{Passing, passing-start, passing-turn, passing-end, row-stops, key-stops}
+use Rattle.soundness.proofs.pass.rows_are_sound.Statement.{statement}
+use Rattle.soundness.proofs.pass.rows_are_sound.Tie as tie
+
+abbrev Inv-loop : tie.InvT-loop
+Inv-loop state n seq main probation stored t₀ i₀ t i = (i ≤ n) × Passing seq (viewRows n state .rows) t i
+
+abbrev μ-loop : tie.MeasureT-loop
+μ-loop state n seq main probation stored t₀ i₀ t i = n - i
+
+loop-holds : tie.Need-loop-holds Inv-loop μ-loop
+loop-holds c = (omega arith, passing-start _ _)
+
+row-is-sound-requires : tie.Need-row-is-sound-requires Inv-loop μ-loop
+row-is-sound-requires c κs = search needs
+
+returns : tie.Need-returns Inv-loop μ-loop
+returns c =
+    let p = c .before .before .before in
+    let s = p .before .before .args in
+    let rs = viewRows (s .n) (s .state .now) .rows in
+    let h : p .loop .i < length rs = rw view-length (omega arith) in
+    row-stops (s .seq) rs (p .loop .t) (p .loop .i) (p .loop .inv .1) h _ _ _ (c .before .row-is-sound .ensures) (c .if1 .taken)
+
+key-rises-requires : tie.Need-key-rises-requires Inv-loop μ-loop
+key-rises-requires c κs = search needs
+
+returns-2 : tie.Need-returns-2 Inv-loop μ-loop
+returns-2 c =
+    let p = c .before .before .before .before .before in
+    let s = p .before .before .args in
+    let rs = viewRows (s .n) (s .state .now) .rows in
+    let h : p .loop .i < length rs = rw view-length (omega arith) in
+    key-stops (s .seq) rs (p .loop .t) (p .loop .i) (p .loop .inv .1) h _ _ _ (c .before .key-rises .ensures) (c .if2 .taken)
+
+place-requires : tie.Need-place-requires Inv-loop μ-loop
+place-requires c κs = search needs
+
+weight-requires : tie.Need-weight-requires Inv-loop μ-loop
+weight-requires c κs = search needs
+
+counted-requires : tie.Need-counted-requires Inv-loop μ-loop
+counted-requires c κs = search needs
+
+add-i : tie.Need-add-i Inv-loop μ-loop
+add-i c = search needs
+
+loop-less : tie.Need-loop-less Inv-loop μ-loop
+loop-less c = search needs
+
+loop-again : tie.Need-loop-again Inv-loop μ-loop
+loop-again c =
+    let w = c .before in
+    let f = w .before in
+    let k = f .before .before in
+    let r = k .before .before in
+    let p = r .before .before in
+    let s = p .before .before .args in
+    let rs = viewRows (s .n) (s .state .now) .rows in
+    let h : p .loop .i < length rs = rw view-length (omega arith) in
+    (omega arith, rw (c .counted .ensures) (passing-turn (s .seq) rs (p .loop .t) (p .loop .i) (p .loop .inv .1) h (r .row-is-sound .ensures) (k .before .if1 .left) (k .key-rises .ensures) (f .before .if2 .left) (f .place .ensures) (w .weight .ensures) (search needs)))
+
+returns-3 : tie.Need-returns-3 Inv-loop μ-loop
+returns-3 c =
+    let p = c .before .before .before .before in
+    let s = p .before .before .args in
+    let rs = viewRows (s .n) (s .state .now) .rows in
+    let h : length rs ≤ p .loop .i = rw view-length (omega arith) in
+    passing-end (s .seq) (s .main) (s .probation) (s .stored) rs (p .loop .t) (p .loop .i) (p .loop .inv .1) h
+
+pub rows-are-sound-spec : {M : Type 1} → statement M
+rows-are-sound-spec =
+    tie.close
+    (tie.spec
+    Inv-loop
+    μ-loop
+    loop-holds
+    row-is-sound-requires
+    returns
+    key-rises-requires
+    returns-2
+    place-requires
+    weight-requires
+    counted-requires
+    add-i
+    loop-less
+    loop-again
+    returns-3)
