@@ -6,3 +6,5 @@ pub mod Touching
 pub mod Asking
 pub mod Removing
 pub mod Sweeping
+pub mod Refusing
+pub mod Looking

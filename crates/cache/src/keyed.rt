@@ -115,3 +115,30 @@ pub fn touch_unchecked(state: &mut [u8], key: NodeAddr, time: u64) -> TouchAnswe
         Search::Absent(_) => TouchAnswer::Absent,
     }
 }
+
+pub fn clear_path_mtu(state: &mut [u8], key: NodeAddr) -> u8
+    ensures { λ r. ⌜ (r ≡ refusalOf (call (now (state .entry)) (ClearPathMtu key) .answer)) × (now (state .exit) ≡ call (now (state .entry)) (ClearPathMtu key) .memory) ⌝ }
+{
+    if !soundness::is_sound(state) {
+        return 1;
+    }
+    clear_path_mtu_unchecked(state, key)
+}
+
+pub fn demote(state: &mut [u8], key: NodeAddr) -> DemoteAnswer
+    ensures { λ r. ⌜ (demoteSaid r ≡ call (now (state .entry)) (Demote key) .answer) × (now (state .exit) ≡ call (now (state .entry)) (Demote key) .memory) ⌝ }
+{
+    if !soundness::is_sound(state) {
+        return DemoteAnswer::Refused(1);
+    }
+    demote_unchecked(state, key)
+}
+
+pub fn touch(state: &mut [u8], key: NodeAddr, time: u64) -> TouchAnswer
+    ensures { λ r. ⌜ (r ≡ touchAnswer (call (now (state .entry)) (GetAndTouch key time) .answer)) × (now (state .exit) ≡ call (now (state .entry)) (GetAndTouch key time) .memory) ⌝ }
+{
+    if !soundness::is_sound(state) {
+        return TouchAnswer::Refused(1);
+    }
+    touch_unchecked(state, key, time)
+}

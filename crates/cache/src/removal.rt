@@ -51,3 +51,15 @@ pub fn remove_unchecked(state: &mut [u8], key: NodeAddr) -> RemoveAnswer
         },
     }
 }
+
+pub fn remove(state: &mut [u8], key: NodeAddr) -> RemoveAnswer
+    ensures { λ r. ⌜ (removalSaid (r .removal) (r .entry) ≡ call (now (state .entry)) (Remove key) .answer) × (r .entry ≡ entryGiven (call (now (state .entry)) (Remove key) .answer)) × (now (state .exit) ≡ call (now (state .entry)) (Remove key) .memory) ⌝ }
+{
+    if !soundness::is_sound(state) {
+        return RemoveAnswer {
+            removal: Removal::Refused(1),
+            entry: blank_entry(),
+        };
+    }
+    remove_unchecked(state, key)
+}

@@ -121,3 +121,21 @@ pub fn next_expiry_unchecked(state: &[u8]) -> ExpiryAnswer
     let n = memory::head::row_count(state) as usize;
     next_expiry_of(state, n)
 }
+
+pub fn stats(state: &[u8], time: u64) -> StatsAnswer
+    ensures { λ r. ⌜ statsSaid r ≡ call (now (state .entry)) (Stats time) .answer ⌝ }
+{
+    if !soundness::is_sound(state) {
+        return StatsAnswer::Refused(1);
+    }
+    stats_unchecked(state, time)
+}
+
+pub fn next_expiry(state: &[u8]) -> ExpiryAnswer
+    ensures { λ r. ⌜ expirySaid r ≡ call (now (state .entry)) NextExpiry .answer ⌝ }
+{
+    if !soundness::is_sound(state) {
+        return ExpiryAnswer::Refused(1);
+    }
+    next_expiry_unchecked(state)
+}

@@ -150,3 +150,39 @@ pub fn invalidate_other_roots_unchecked(state: &mut [u8], addr: NodeAddr) -> Swe
     let n = memory::head::row_count(state) as usize;
     SweepAnswer::Removed(sweep_rows(state, n, OTHER_ROOT, 0, addr))
 }
+
+pub fn clear(state: &mut [u8]) -> u8
+    ensures { λ r. ⌜ (r ≡ refusalOf (call (now (state .entry)) Clear .answer)) × (now (state .exit) ≡ call (now (state .entry)) Clear .memory) ⌝ }
+{
+    if !soundness::is_sound(state) {
+        return 1;
+    }
+    clear_unchecked(state)
+}
+
+pub fn purge_expired(state: &mut [u8], time: u64) -> SweepAnswer
+    ensures { λ r. ⌜ (sweepSaid r ≡ call (now (state .entry)) (PurgeExpired time) .answer) × (now (state .exit) ≡ call (now (state .entry)) (PurgeExpired time) .memory) ⌝ }
+{
+    if !soundness::is_sound(state) {
+        return SweepAnswer::Refused(1);
+    }
+    purge_expired_unchecked(state, time)
+}
+
+pub fn invalidate_via_node(state: &mut [u8], addr: NodeAddr) -> SweepAnswer
+    ensures { λ r. ⌜ (sweepSaid r ≡ call (now (state .entry)) (InvalidateViaNode addr) .answer) × (now (state .exit) ≡ call (now (state .entry)) (InvalidateViaNode addr) .memory) ⌝ }
+{
+    if !soundness::is_sound(state) {
+        return SweepAnswer::Refused(1);
+    }
+    invalidate_via_node_unchecked(state, addr)
+}
+
+pub fn invalidate_other_roots(state: &mut [u8], addr: NodeAddr) -> SweepAnswer
+    ensures { λ r. ⌜ (sweepSaid r ≡ call (now (state .entry)) (InvalidateOtherRoots addr) .answer) × (now (state .exit) ≡ call (now (state .entry)) (InvalidateOtherRoots addr) .memory) ⌝ }
+{
+    if !soundness::is_sound(state) {
+        return SweepAnswer::Refused(1);
+    }
+    invalidate_other_roots_unchecked(state, addr)
+}
