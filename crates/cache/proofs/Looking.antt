@@ -4,21 +4,26 @@ use Prim.Native.Nat.{ℕ, _<_, _≤_, _+_, _*_}
 use native.Mathlib.Omega.{arith}
 use mathlib.Core.List.{List, []}
 use mathlib.Core.Option.{none, some}
-use mathlib.Core.Bool.{true, false}
+use mathlib.Core.Bool.{Bool, true, false}
 use Rattle.coord.specs.declared.node_addr.NodeAddr.{NodeAddr}
 use Rattle.rules.specs.Records.{State}
 use Rattle.rules.specs.Rows.{rowAt, find}
 use Rattle.rules.specs.Sound.{sound}
 use Rattle.rules.specs.Entries.{expired}
 use Rattle.rules.specs.Lookups.{get, unexpiredRow}
-use Rattle.rules.specs.Calls.{Call, Get, PathFound, pathGiven, verifiedWrite, drawsStamps}
+use Rattle.rules.specs.Calls.{Answer, Call, Get, GetAndTouch, Refused, Hinted, VerifiedDone, PathFound, EntryRemoved, KeyHeld, Done, RowsRemoved, StatsGiven, ExpiryGiven, pathGiven, verifiedWrite, drawsStamps}
 use Rattle.rules.specs.Refusals.{refusal, Asked, perform, gives}
-use Rattle.rules.specs.Answers.{refusalOf}
+use Rattle.rules.specs.Answers.{refusalOf, touchAnswer}
+use Rattle.types.specs.declared.answers.TouchAnswer.{TouchAnswer}
 use Rattle.rules.specs.Memory.{capacity, viewRows, view}
-use Rattle.rules.specs.Lent.{Bytes, call, pathPart, foundPart, gotPart}
+use Rattle.rules.specs.Lent.{Bytes, Typed, call, pathPart, foundPart, gotPart}
+use Rattle.rules.proofs.Addresses.{contradiction}
 use Rattle.rules.proofs.SoundTest.{RowOk}
 use Rattle.rules.proofs.RowLists.{every-at}
-use Rattle.rules.proofs.Public.{SoundMemory}
+use Rattle.rules.proofs.Public.{SoundMemory, unsound-one}
+use Rattle.rules.proofs.SoundKept.{step-sound}
+use Rattle.rules.proofs.LentMemory.{capacity-same, lent-request}
+use Rattle.rules.proofs.GotPart.{answerBytes, touched-part}
 use Rattle.cache.proofs.Frame.{not-refused}
 use Rattle.cache.proofs.Asking.{read-answer}
 
@@ -58,3 +63,61 @@ path-short l n i s j = every-at (RowOk (viewRows n l .seq)) i (viewRows n l .row
 pub get-done : (l : List ℕ) (n : ℕ) (k : NodeAddr) (time : ℕ) → sound (capacity l) (view l) ≡ true → SoundMemory l n → Bytes l → 0 ≡ refusalOf (call l (Get k time) .answer)
 unfolding perform gives refusalOf
 get-done l n k time h s b = sym (ap refusalOf (read-answer l n (Get k time) s (get-allowed l k time h) b refl))
+
+-- ---- get_and_touch: what touch answers tells the number and the part
+
+-- the number in touch's answer, 0 if done
+unfoldable pub touchNumber : TouchAnswer → ℕ
+touchNumber (TouchAnswer.Refused n) = n
+touchNumber (TouchAnswer.Found n) = 0
+touchNumber TouchAnswer.Absent = 0
+
+unfoldable pub finds : TouchAnswer → Bool
+finds (TouchAnswer.Refused n) = false
+finds (TouchAnswer.Found n) = true
+finds TouchAnswer.Absent = false
+
+number-kept : (a : Answer) → touchNumber (touchAnswer a) ≡ refusalOf a
+unfolding touchNumber touchAnswer refusalOf
+number-kept (Refused n) = refl
+number-kept (Hinted p) = refl
+number-kept (VerifiedDone v) = refl
+number-kept (PathFound none) = refl
+number-kept (PathFound (some es)) = refl
+number-kept (EntryRemoved o) = refl
+number-kept (KeyHeld b) = refl
+number-kept Done = refl
+number-kept (RowsRemoved n) = refl
+number-kept (StatsGiven c) = refl
+number-kept (ExpiryGiven o) = refl
+
+nothing-found : (a : Answer) → finds (touchAnswer a) ≡ false → answerBytes a ≡ []
+unfolding finds touchAnswer answerBytes
+nothing-found (Refused n) h = refl
+nothing-found (Hinted p) h = refl
+nothing-found (VerifiedDone v) h = refl
+nothing-found (PathFound none) h = refl
+nothing-found (PathFound (some es)) h = contradiction refl h
+nothing-found (EntryRemoved o) h = refl
+nothing-found (KeyHeld b) h = refl
+nothing-found Done h = refl
+nothing-found (RowsRemoved n) h = refl
+nothing-found (StatsGiven c) h = refl
+nothing-found (ExpiryGiven o) h = refl
+
+pub touch-number : (l : List ℕ) (k : NodeAddr) (time : ℕ) (r : TouchAnswer) → r ≡ touchAnswer (call l (GetAndTouch k time) .answer) → touchNumber r ≡ refusalOf (call l (GetAndTouch k time) .answer)
+touch-number l k time r e = ap touchNumber e ∙ number-kept (call l (GetAndTouch k time) .answer)
+
+pub touch-nothing : (l : List ℕ) (k : NodeAddr) (time : ℕ) (r : TouchAnswer) → Bytes l → Typed (GetAndTouch k time) → r ≡ touchAnswer (call l (GetAndTouch k time) .answer) → finds r ≡ false → [] ≡ gotPart k time (call l (GetAndTouch k time) .memory)
+touch-nothing l k time r b g e h = sym (touched-part l k time b g ∙ nothing-found (call l (GetAndTouch k time) .answer) (sym (ap finds e) ∙ h))
+
+-- the memory that a touch which found something leaves is sound
+pub touch-sound : (l : List ℕ) (k : NodeAddr) (time : ℕ) (r : TouchAnswer) (m : List ℕ) → Bytes l → Typed (GetAndTouch k time) → r ≡ touchAnswer (call l (GetAndTouch k time) .answer) → finds r ≡ true → m ≡ call l (GetAndTouch k time) .memory → sound (capacity m) (view m) ≡ true
+unfolding touchAnswer finds
+touch-sound l k time r m b g e f v = rw v (go (sound (capacity l) (view l)) refl)
+  where
+    go : (x : Bool) → sound (capacity l) (view l) ≡ x → sound (capacity (call l (GetAndTouch k time) .memory)) (view (call l (GetAndTouch k time) .memory)) ≡ true
+    go true h =
+        let o = lent-request l (Asked (GetAndTouch k time)) b g in
+        rw (capacity-same l (call l (GetAndTouch k time) .memory) (o .size), o .state) (step-sound (capacity l) (view l) (GetAndTouch k time) h)
+    go false h = contradiction f (ap finds e ∙ ap (λ (a : Answer). finds (touchAnswer a)) (unsound-one l (GetAndTouch k time) h .answer))
