@@ -3,7 +3,7 @@ use mathlib.Core.Path.{_≡_, refl, sym, ap, _∙_}
 use Prim.Native.Nat.{ℕ}
 use mathlib.Core.List.{List}
 use mathlib.Core.Option.{none}
-use mathlib.Core.Bool.{true, false}
+use mathlib.Core.Bool.{true}
 use lib.ListN.{length}
 use Rattle.types.specs.declared.stats.CacheStats.{CacheStats}
 use Rattle.types.specs.declared.answers.StatsAnswer.{StatsAnswer}
@@ -16,7 +16,7 @@ use Rattle.rules.specs.Refusals.{refusal, Asked, perform, gives}
 use Rattle.rules.specs.Answers.{statsSaid, expirySaid}
 use Rattle.rules.specs.Memory.{capacity, viewRows, view}
 use Rattle.rules.specs.Lent.{Bytes, call}
-use Rattle.rules.proofs.Public.{SoundMemory, sound-memory, DoneCall}
+use Rattle.rules.proofs.Public.{SoundMemory, sound-memory}
 use Rattle.cache.proofs.Frame.{done-with, not-refused}
 
 -- a call that leaves the state is answered by the rows that are there

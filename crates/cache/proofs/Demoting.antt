@@ -1,29 +1,26 @@
 -- demote and refresh, by row.
-use mathlib.Core.Path.{_≡_, refl, sym, ap, _∙_, subst}
+use mathlib.Core.Path.{_≡_, refl, sym, ap, _∙_}
 use Prim.Native.Nat.{ℕ, zero, suc, _+_, _≤_, _<_}
 use native.Mathlib.Omega.{arith}
 use mathlib.Core.List.{List, [], _∷_}
-use mathlib.Core.Option.{Option, none, some}
+use mathlib.Core.Option.{none, some}
 use mathlib.Core.Bool.{Bool, true, false, cond}
-use lib.Dec.{ltb, eqb}
 use lib.ListN.{length}
 use borrow.Author.Tests.{eq-eqb, ne-eqb, lt-ltb, le-ltb}
 use Rattle.coord.specs.declared.node_addr.NodeAddr.{NodeAddr}
-use Rattle.types.specs.declared.answers.DemoteAnswer.{DemoteAnswer}
-use Rattle.rules.specs.Records.{Entry, Row, State}
+use Rattle.rules.specs.Records.{Row, State}
 use Rattle.rules.specs.Rows.{rowAt, atPlace, inMain, find, changeRow, withRows}
 use Rattle.rules.specs.Sound.{sound}
 use Rattle.rules.specs.Entries.{addTimes, markHint, refresh}
 use Rattle.rules.specs.Room.{refile, stamp, raised, refiled}
 use Rattle.rules.specs.Lookups.{rewrite, withEntry, demoted, holds}
-use Rattle.rules.specs.Calls.{Call, Demote, Answer, Refused, KeyHeld, pathGiven, verifiedWrite, drawsStamps}
+use Rattle.rules.specs.Calls.{Demote, KeyHeld, pathGiven, verifiedWrite, drawsStamps}
 use Rattle.rules.specs.Refusals.{refusal, Asked, seqSpent, perform, gives}
-use Rattle.rules.specs.Answers.{demoteSaid}
 use Rattle.rules.specs.Memory.{capacity, viewRows, view}
 use Rattle.rules.specs.Lent.{Bytes, call}
 use Rattle.rules.proofs.RowLists.{length-change}
 use Rattle.rules.proofs.Refused.{refused-three, refused-only-one}
-use Rattle.rules.proofs.Public.{SoundMemory, RefusedCall, call-refused, DoneCall}
+use Rattle.rules.proofs.Public.{SoundMemory, RefusedCall, call-refused}
 use Rattle.memory.specs.Edits.{withSeq, stampedAs, withTimes}
 use Rattle.cache.specs.Steps.{demotedAt}
 use Rattle.cache.proofs.Frame.{done-with}

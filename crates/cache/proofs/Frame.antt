@@ -1,37 +1,30 @@
 -- What an unchecked call may use of a sound memory, and what it has to show.
 use mathlib.Core.Path.{_≡_, refl, sym, ap, _∙_, subst}
-use Prim.Native.Nat.{ℕ, zero, suc, _+_, _*_, _≤_, _<_}
-use native.Mathlib.Omega.{arith}
-use mathlib.Core.List.{List, [], _∷_}
-use mathlib.Core.Option.{Option, none, some}
-use mathlib.Core.Bool.{Bool, true, false, cond, _&&_}
-use lib.Dec.{ltb, eqb}
+use Prim.Native.Nat.{ℕ, _+_, _*_, _≤_, _<_}
+use mathlib.Core.List.{List}
+use mathlib.Core.Option.{none, some}
+use mathlib.Core.Bool.{true, false}
 use lib.ListN.{length}
-use borrow.Author.Tests.{lt-ltb, le-ltb, eq-eqb, ne-eqb}
 use Rattle.coord.specs.declared.node_addr.NodeAddr.{NodeAddr}
-use Rattle.rules.specs.Cases.{maybe}
-use Rattle.rules.specs.Records.{Entry, Row, State, parked}
-use Rattle.rules.specs.Rows.{rowAt, atPlace, find, changeRow, withRows}
+use Rattle.rules.specs.Records.{Entry, Row, State}
+use Rattle.rules.specs.Rows.{find, withRows}
 use Rattle.rules.specs.Sound.{sound, ascends}
-use Rattle.rules.specs.Entries.{markHint, dropMtu}
-use Rattle.rules.specs.Room.{refile, stamp, raised, refiled}
-use Rattle.rules.specs.Lookups.{rewrite, withEntry, clearPathMtu, demoted, holds}
-use Rattle.rules.specs.Calls.{Call, ClearPathMtu, Demote, Answer, Refused, KeyHeld, Done, pathGiven, verifiedWrite, drawsStamps}
-use Rattle.rules.specs.Refusals.{refusal, Asked, seqSpent, perform, gives}
-use Rattle.rules.specs.Answers.{refusalOf, demoteSaid}
-use Rattle.types.specs.declared.answers.DemoteAnswer.{DemoteAnswer}
+use Rattle.rules.specs.Entries.{dropMtu}
+use Rattle.rules.specs.Lookups.{rewrite, withEntry, clearPathMtu}
+use Rattle.rules.specs.Calls.{Call, ClearPathMtu, Done, pathGiven, verifiedWrite, drawsStamps}
+use Rattle.rules.specs.Refusals.{refusal, Asked, perform, gives}
+use Rattle.rules.specs.Answers.{refusalOf}
 use Rattle.rules.specs.Memory.{capacity, viewRows, view}
 use Rattle.rules.specs.Lent.{Bytes, call}
-use Rattle.rules.proofs.SoundTest.{Sound, sound-is, ascends-test}
+use Rattle.rules.proofs.SoundTest.{sound-is, ascends-test}
 use Rattle.rules.proofs.LentMemory.{head-fits}
 use Rattle.search.specs.declared.answers.Search.{Search}
 use Rattle.search.specs.declared.answers.Search.the-variants.{At, Absent}
 use Rattle.search.specs.ByKey.{searched}
 use Rattle.search.proofs.SearchLaws.{at-found, at-inside, absent-none}
 use Rattle.rules.proofs.RowLists.{length-change}
-use Rattle.rules.proofs.Refused.{refused-three, refused-only-one}
-use Rattle.rules.proofs.Public.{SoundMemory, sound-memory, RefusedCall, call-refused, DoneCall, call-done}
-use Rattle.cache.specs.Steps.{demotedAt}
+use Rattle.rules.proofs.Refused.{refused-only-one}
+use Rattle.rules.proofs.Public.{SoundMemory, sound-memory, DoneCall, call-done}
 
 -- ---- the frame
 

@@ -1,6 +1,6 @@
 -- get, by row.
 use mathlib.Core.Path.{_≡_, refl, sym, ap, _∙_, subst}
-use Prim.Native.Nat.{ℕ, _<_, _≤_, _+_, _*_}
+use Prim.Native.Nat.{ℕ, _<_, _≤_}
 use native.Mathlib.Omega.{arith}
 use mathlib.Core.List.{List, []}
 use mathlib.Core.Option.{none, some}
@@ -10,8 +10,8 @@ use Rattle.rules.specs.Records.{State}
 use Rattle.rules.specs.Rows.{rowAt, find}
 use Rattle.rules.specs.Sound.{sound}
 use Rattle.rules.specs.Entries.{expired}
-use Rattle.rules.specs.Lookups.{get, unexpiredRow}
-use Rattle.rules.specs.Calls.{Answer, Call, Get, GetAndTouch, Refused, Hinted, VerifiedDone, PathFound, EntryRemoved, KeyHeld, Done, RowsRemoved, StatsGiven, ExpiryGiven, pathGiven, verifiedWrite, drawsStamps}
+use Rattle.rules.specs.Lookups.{unexpiredRow}
+use Rattle.rules.specs.Calls.{Answer, Get, GetAndTouch, Refused, Hinted, VerifiedDone, PathFound, EntryRemoved, KeyHeld, Done, RowsRemoved, StatsGiven, ExpiryGiven, pathGiven, verifiedWrite, drawsStamps}
 use Rattle.rules.specs.Refusals.{refusal, Asked, perform, gives}
 use Rattle.rules.specs.Answers.{refusalOf, touchAnswer}
 use Rattle.types.specs.declared.answers.TouchAnswer.{TouchAnswer}

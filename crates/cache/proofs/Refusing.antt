@@ -1,9 +1,8 @@
 -- Number 1, as each public call says it.
-use mathlib.Core.Path.{_≡_, refl, sym, ap, _∙_}
+use mathlib.Core.Path.{_≡_, sym, ap, _∙_}
 use Prim.Native.Nat.{ℕ}
 use mathlib.Core.List.{List, []}
-use mathlib.Core.Option.{some}
-use mathlib.Core.Bool.{true, false}
+use mathlib.Core.Bool.{false}
 use Rattle.coord.specs.declared.node_addr.NodeAddr.{NodeAddr}
 use Rattle.types.specs.declared.entry.CacheEntry.{CacheEntry}
 use Rattle.types.specs.declared.answers.TouchAnswer.{TouchAnswer}

@@ -1,9 +1,9 @@
 -- remove, by row.
-use mathlib.Core.Path.{_≡_, refl, sym, ap, _∙_, subst}
+use mathlib.Core.Path.{_≡_, refl, sym, ap, _∙_}
 use Prim.Native.Nat.{ℕ, _-_, _<_}
 use mathlib.Core.List.{List}
-use mathlib.Core.Option.{Option, none, some}
-use mathlib.Core.Bool.{true, false}
+use mathlib.Core.Option.{none, some}
+use mathlib.Core.Bool.{true}
 use lib.ListN.{length}
 use Rattle.coord.specs.declared.node_addr.NodeAddr.{NodeAddr}
 use Rattle.coord.specs.declared.coord.Path.{Path}
@@ -12,19 +12,18 @@ use Rattle.types.specs.declared.entry.CacheEntry.{CacheEntry}
 use Rattle.types.specs.declared.entry.PathMtu.the-variants.{Unknown}
 use Rattle.types.specs.declared.entry.CoordSource.the-variants.{Hint}
 use Rattle.types.specs.declared.answers.Removal.{Removal}
-use Rattle.rules.specs.Cases.{maybe}
 use Rattle.rules.specs.Records.{State, entryValue}
 use Rattle.rules.specs.Rows.{rowAt, find}
 use Rattle.rules.specs.Sound.{sound}
 use Rattle.rules.specs.Room.{takeOut}
 use Rattle.rules.specs.Placement.{withoutKey}
 use Rattle.rules.specs.Lookups.{removedEntry}
-use Rattle.rules.specs.Calls.{Call, Remove, Answer, EntryRemoved, pathGiven, verifiedWrite, drawsStamps}
+use Rattle.rules.specs.Calls.{Remove, EntryRemoved, pathGiven, verifiedWrite, drawsStamps}
 use Rattle.rules.specs.Refusals.{refusal, Asked, perform, gives}
 use Rattle.rules.specs.Answers.{removalSaid, entryGiven, blankEntry}
 use Rattle.rules.specs.Memory.{capacity, viewRows, view}
 use Rattle.rules.specs.Lent.{Bytes, call}
-use Rattle.rules.proofs.Public.{SoundMemory, DoneCall}
+use Rattle.rules.proofs.Public.{SoundMemory}
 use Rattle.cache.proofs.Frame.{done-with, not-refused}
 use Rattle.cache.proofs.Touching.{out-length}
 

@@ -1,14 +1,13 @@
 -- Sweeps and clear.
 use mathlib.Core.Path.{_≡_, refl, sym, ap, _∙_, subst}
-use Prim.Native.Nat.{ℕ, zero, suc, _+_, _*_, _-_, _≤_, _<_}
+use Prim.Native.Nat.{ℕ, suc, _+_, _*_, _-_, _≤_, _<_}
 use native.Mathlib.Omega.{arith}
-use mathlib.Core.Logic.{inl, inr}
 use mathlib.Core.List.{List, [], _∷_, _++_, append-nil}
 use mathlib.Core.Option.{none}
 use mathlib.Core.Bool.{Bool, true, false, cond, not}
-use lib.ListN.{length, take, drop, length-append}
+use lib.ListN.{length, take, length-append}
 use lib.Seq.{sets}
-use lib.Dec.{ltb, eqb}
+use lib.Dec.{ltb}
 use borrow.Author.Tests.{lt-ltb, le-ltb, ltb-true, ltb-false, ne-eqb}
 use Rattle.coord.specs.declared.node_addr.NodeAddr.{NodeAddr}
 use Rattle.coord.specs.Addresses.{sameAddr}
@@ -16,18 +15,18 @@ use Rattle.coord.specs.Paths.{contains, rootOf}
 use Rattle.types.specs.declared.answers.SweepAnswer.{SweepAnswer}
 use Rattle.rules.specs.Cases.{Every}
 use Rattle.rules.specs.Records.{Entry, Row, State}
-use Rattle.rules.specs.Rows.{rowAt, keepRows, total, countRows, inMain, weighRows, withOnlyRows, zeroRows}
+use Rattle.rules.specs.Rows.{rowAt, keepRows, total, countRows, inMain, weighRows, withOnlyRows}
 use Rattle.rules.specs.Sound.{sound}
 use Rattle.rules.specs.Entries.{expired}
 use Rattle.rules.specs.Lookups.{sweep, matching}
-use Rattle.rules.specs.Calls.{Call, Clear, PurgeExpired, InvalidateViaNode, InvalidateOtherRoots, RowsRemoved, Done, pathGiven, verifiedWrite, drawsStamps}
+use Rattle.rules.specs.Calls.{Call, Clear, PurgeExpired, InvalidateViaNode, InvalidateOtherRoots, RowsRemoved, pathGiven, verifiedWrite, drawsStamps}
 use Rattle.rules.specs.Refusals.{refusal, Asked, Step, perform, gives, sweeps}
 use Rattle.rules.specs.Answers.{refusalOf, sweepSaid}
 use Rattle.rules.specs.Memory.{cut, capacity, rowsOf, viewRows, view}
 use Rattle.rules.specs.Lent.{Bytes, call}
 use Rattle.rules.proofs.SoundTest.{RowOk}
 use Rattle.rules.proofs.RowLists.{every-at}
-use Rattle.rules.proofs.Public.{SoundMemory, sound-memory, DoneCall}
+use Rattle.rules.proofs.Public.{sound-memory}
 use Rattle.memory.specs.Edits.{OnlyRows, Keeping, shrunk}
 use Rattle.memory.proofs.RowLaws.{view-length, only-shrunk}
 use Rattle.memory.proofs.KeepLaws.{keeping-start, keeping-row, keeping-skip, keeping-stay, keeping-copy, keeping-end, keep-next, keep-all}

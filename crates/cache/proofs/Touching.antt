@@ -1,31 +1,30 @@
 -- get_and_touch, by row.
 use mathlib.Core.Path.{_≡_, refl, sym, ap, _∙_, subst}
-use Prim.Native.Nat.{ℕ, zero, suc, _+_, _*_, _-_, _≤_, _<_, min}
+use Prim.Native.Nat.{ℕ, zero, suc, _+_, _*_, _-_, _≤_, _<_}
 use native.Mathlib.Omega.{arith}
-use mathlib.Core.List.{List, [], _∷_}
-use mathlib.Core.Option.{Option, none, some}
+use mathlib.Core.List.{List}
+use mathlib.Core.Option.{none, some}
 use mathlib.Core.Bool.{Bool, true, false, cond}
-use lib.ListN.{length, take, drop}
+use lib.ListN.{length, drop}
 use lib.Seq.{length-take-le}
 use Rattle.coord.specs.declared.node_addr.NodeAddr.{NodeAddr}
-use Rattle.coord.specs.declared.coord.CoordEntry.{CoordEntry}
 use Rattle.coord.specs.Paths.{elements}
 use Rattle.types.specs.declared.answers.TouchAnswer.{TouchAnswer}
 use Rattle.rules.specs.Cases.{maybe}
-use Rattle.rules.specs.Records.{Entry, Row, State}
-use Rattle.rules.specs.Rows.{rowAt, find, withoutRow, changeRow, withRows, withOnlyRows, mainWeight}
+use Rattle.rules.specs.Records.{Row, State}
+use Rattle.rules.specs.Rows.{rowAt, find, withOnlyRows}
 use Rattle.rules.specs.Sound.{sound}
 use Rattle.rules.specs.Entries.{expired, refresh}
 use Rattle.rules.specs.Room.{takeOut}
-use Rattle.rules.specs.Lookups.{rewrite, withEntry, unexpiredRow, get, touched}
-use Rattle.rules.specs.Calls.{Call, GetAndTouch, Answer, PathFound, pathGiven, verifiedWrite, drawsStamps}
+use Rattle.rules.specs.Lookups.{rewrite, unexpiredRow, get, touched}
+use Rattle.rules.specs.Calls.{GetAndTouch, pathGiven, verifiedWrite, drawsStamps}
 use Rattle.rules.specs.Refusals.{refusal, Asked, perform, gives}
 use Rattle.rules.specs.Answers.{touchAnswer}
 use Rattle.rules.specs.Memory.{capacity, coordEntriesOf, pathOf, entryOf, rowOf, cut, viewRows, view}
 use Rattle.rules.specs.Lent.{Bytes, call}
-use Rattle.rules.proofs.SoundTest.{RowOk, Sound}
-use Rattle.rules.proofs.RowLists.{length-change, every-at, by-cond}
-use Rattle.rules.proofs.Public.{SoundMemory, DoneCall}
+use Rattle.rules.proofs.SoundTest.{RowOk}
+use Rattle.rules.proofs.RowLists.{every-at}
+use Rattle.rules.proofs.Public.{SoundMemory}
 use Rattle.memory.proofs.Fields.{row-at}
 use Rattle.memory.proofs.RowLaws.{view-length, length-without}
 use Rattle.cache.specs.Steps.{touchedAt, touchSays}

@@ -1,4 +1,4 @@
--- A closed example for every branch that Table P does not reach. The figures are the original's: tests/branches.txt has the same
+-- Closed examples of branches that Table P does not reach. The figures are the original's: tests/branches.txt has the same
 -- lists, and tests/rules-against-rust --show prints them.
 use Prim.Native.Nat.{ℕ}
 use mathlib.Core.Path.{_≡_, refl}

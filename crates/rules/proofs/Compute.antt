@@ -12,7 +12,7 @@ use Rattle.coord.specs.Addresses.{addrBefore, bytesBefore, sameAddr, sameBytes}
 use Rattle.coord.specs.Paths.{among, appended, asWritten, contains, elements, emptyPath, firstIs, lastAddr, pathWeight, rootOf, sameEntries, sameEntry, samePath, startsAt, zeroEntry}
 use Rattle.types.specs.declared.placed.HintOutcome.{HintOutcome}
 use Rattle.types.specs.declared.placed.Segment.{Segment}
-use Rattle.types.specs.Values.{bit, covers, outcomeCode, placedReply, refuses, says, segmentCode, statsReply, tallied, verifiedReply}
+use Rattle.types.specs.Values.{bit, covers, outcomeCode, placedReply, refuses, says, segmentCode, sourceOf, statsReply, tallied, verifiedReply}
 use Rattle.rules.specs.Records.{Row, State, entryValue}
 use Rattle.rules.specs.Rows.{atPlace, changeRow, find, inMain, insertInOrder, keepRows, lowerOf, lowestStamp, nextIndex, stampBefore, total, withOnlyRows, withRows, withoutRow}
 use Rattle.rules.specs.Sound.{all, ascends, leads, legal, rowSound, sound, sourced, weighed}
@@ -25,7 +25,7 @@ use Rattle.rules.specs.Calls.{Answer, Call, Hinted, PathFound, VerifiedD
 use Rattle.rules.specs.Refusals.{badPath, badSize, firstGiven, fresh, gives, hinted, keyInMain, noPlaceFor, perform, performRequest, reason, reasons, refusal, seqSpent, serve, sweeps, verifies}
 use Rattle.rules.specs.Lists.{run}
 use Rattle.rules.specs.Memory.{coordEntryOf, leNumber}
-use Rattle.rules.specs.Commands.{Line, code, codeOf, codes, coordrun, decimal, decimalDigits, decode, funded, hexDigit, line, lineText, linesText, obey, obeyed, pended, reply, runCommands, spaced, tallyAfter, unknown}
+use Rattle.rules.specs.Commands.{Line, code, codeOf, codes, coordrun, decimal, decimalDigits, decode, funded, hexDigit, line, lineText, linesText, obey, obeyed, pended, refusedSix, reply, runCommands, spaced, takesPath, tallyAfter}
 
 -- an address of sixteen bytes n
 unfoldable pub addr : ℕ → NodeAddr
@@ -87,7 +87,7 @@ pub record Seen : Type 0 where
   pub storedWeight : ℕ
 
 unfoldable pub seenFrom : ℕ → State → List Call → Seen
-unfolding addr elementsFrom pathFrom path rowNumbers sameBytes bytesBefore sameAddr addrBefore zeroEntry elements asWritten sameEntry sameEntries samePath among contains lastAddr rootOf firstIs startsAt pathWeight covers entryValue atPlace inMain stampBefore nextIndex find lowerOf lowestStamp changeRow withoutRow keepRows insertInOrder total withRows withOnlyRows leads ascends all legal weighed sourced rowSound sound addTimes expired verified update newEntry refresh markVerified markHint setMtu dropMtu refiled parkedAt raised stamp refile restamp park fileNew takeOut takeUp untouched stale mainVisits returnLapsed sought seek nextVictim hasRoom atNewPlace setAside chooseVictims putBack settled makeRoom verifiedInMain roomCanBeMade probationVisits evictProbation makeProbationRoom placeResult rejected newInProbation newWithoutRoom placeNew heldOutcome staysVerified placeProbation placeMain placeHeld placeHint withoutKey verifiedEntry insertVerified unexpiredRow get withEntry rewrite touched removedEntry demoted holds clearPathMtu sweep matching totalAge mean stats nextExpiry keyNamed pathGiven timeGiven fundingOf drawsStamps verifiedWrite sweepMatches wasRefused chargeOf examinedOf badSize badPath seqSpent keyInMain noPlaceFor reason reasons firstGiven refusal gives hinted verifies sweeps perform fresh performRequest serve run
+unfolding addr elementsFrom pathFrom path rowNumbers sameBytes bytesBefore sameAddr addrBefore zeroEntry elements asWritten sameEntry sameEntries samePath among contains lastAddr rootOf firstIs startsAt pathWeight covers sourceOf entryValue atPlace inMain stampBefore nextIndex find lowerOf lowestStamp changeRow withoutRow keepRows insertInOrder total withRows withOnlyRows leads ascends all legal weighed sourced rowSound sound addTimes expired verified update newEntry refresh markVerified markHint setMtu dropMtu refiled parkedAt raised stamp refile restamp park fileNew takeOut takeUp untouched stale mainVisits returnLapsed sought seek nextVictim hasRoom atNewPlace setAside chooseVictims putBack settled makeRoom verifiedInMain roomCanBeMade probationVisits evictProbation makeProbationRoom placeResult rejected newInProbation newWithoutRoom placeNew heldOutcome staysVerified placeProbation placeMain placeHeld placeHint withoutKey verifiedEntry insertVerified unexpiredRow get withEntry rewrite touched removedEntry demoted holds clearPathMtu sweep matching totalAge mean stats nextExpiry keyNamed pathGiven timeGiven fundingOf drawsStamps verifiedWrite sweepMatches wasRefused chargeOf examinedOf badSize badPath seqSpent keyInMain noPlaceFor reason reasons firstGiven refusal gives hinted verifies sweeps perform fresh performRequest serve run
 seenFrom R s qs = let r = run R s qs in record { answers = map (λ e. e .answer) (r .events); rows = map rowNumbers (r .state .rows); seq = r .state .seq; storedWeight = r .state .storedWeight }
 
 -- on a fresh state of R rows, with these limits
@@ -101,5 +101,5 @@ answersOf R m ttl qs = seen R m ttl qs .answers
 
 -- coordrun's lines
 unfoldable pub linesOf : List ℕ → List Line
-unfolding seenFrom tallied tallyAfter emptyPath appended outcomeCode segmentCode bit says refuses placedReply verifiedReply statsReply leNumber coordEntryOf reply code funded codes codeOf decode obeyed pended obey unknown line runCommands coordrun hexDigit decimalDigits decimal spaced lineText linesText
+unfolding seenFrom tallied tallyAfter emptyPath appended outcomeCode segmentCode bit says refuses placedReply verifiedReply statsReply leNumber coordEntryOf reply code funded codes codeOf decode obeyed pended obey takesPath refusedSix line runCommands coordrun hexDigit decimalDigits decimal spaced lineText linesText
 linesOf bs = coordrun bs

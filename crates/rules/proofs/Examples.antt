@@ -1,24 +1,25 @@
--- Closed examples that the original cannot show: foreign states, refusals and their order, rows vacated, the command stream.
-use Prim.Native.Nat.{ℕ, zero, suc, _+_}
+-- Closed examples that the original cannot show: foreign states, refusals and their order, rows vacated, the memory.
+use Prim.Native.Nat.{ℕ}
 use mathlib.Core.Path.{_≡_, refl}
 use mathlib.Core.List.{List, [], _∷_, _++_, map}
-use mathlib.Core.Option.{Option, none, some}
-use mathlib.Core.Bool.{Bool, true, false}
+use mathlib.Core.Option.{none, some}
+use mathlib.Core.Bool.{false}
 use lib.ListN.{length, replicate}
 use Rattle.coord.specs.declared.coord.Path.{Path}
 use Rattle.coord.specs.Paths.{zeroEntry}
+use Rattle.types.specs.declared.entry.CoordSource.the-variants.{Hint, Verified}
+use Rattle.types.specs.declared.entry.PathMtu.the-variants.{Known, Unknown}
 use Rattle.types.specs.declared.placed.Funding.the-variants.{Upto}
 use Rattle.types.specs.declared.placed.HintOutcome.the-variants.{Inserted}
 use Rattle.types.specs.declared.placed.Segment.the-variants.{Main}
-use Rattle.types.specs.Values.{refuses, says}
-use Rattle.rules.specs.Records.{Row, State}
+use Rattle.types.specs.Values.{mtuMarkOf, sourceCode}
+use Rattle.rules.specs.Records.{Row, State, hintSource, noMtu, someMtu, verifiedSource}
 use Rattle.rules.specs.Rows.{inMain, weighRows, zeroRows}
-use Rattle.rules.specs.Calls.{Answer, Call, Clear, Demote, Done, Get, GetAndTouch, Insert, InsertFunded, InsertVerified, PathFound, PurgeExpired, Refused, Remove, RowsRemoved, Stats}
+use Rattle.rules.specs.Calls.{Answer, Call, Clear, ClearPathMtu, Demote, Done, Get, GetAndTouch, Insert, InsertFunded, InsertStated, InsertVerified, InsertVerifiedWithPathMtu, InsertWithTtl, InvalidateOtherRoots, InvalidateViaNode, NextExpiry, PathFound, PurgeExpired, Refused, Remove, RowsRemoved, Stats}
 use Rattle.rules.specs.Refusals.{Asked, Fresh, fresh, refusal, serve, step}
 use Rattle.rules.specs.Lists.{run}
 use Rattle.rules.specs.Memory.{coordEntriesBytes, entryBytes, leBytes, memory, rowBytes, rowsBytes}
-use Rattle.rules.specs.Commands.{decimal, line, lineText, tallyAfter}
-use Rattle.rules.proofs.Compute.{A, B, C, addr, answersOf, done, elementsFrom, hint, linesOf, path, seenFrom}
+use Rattle.rules.proofs.Compute.{A, B, C, addr, answersOf, done, elementsFrom, hint, path, seenFrom}
 
 -- ---- foreign states
 
@@ -95,6 +96,17 @@ spent-before-no-place : map (λ q. refusal 2 (fullAt q) (Asked (InsertVerified B
 unfolding fullAt seenFrom
 spent-before-no-place = refl
 
+-- exactly hints, verified inserts and demote, even where nothing would change: A is verified and C not held
+three-exactly : map (λ q. refusal 24 (fullAt 18446744073709551615) (Asked q)) (Insert A (path 1) 0 ∷ InsertWithTtl A (path 1) 0 5 ∷ InsertFunded A (path 1) 0 (Upto 0) ∷ InsertStated A (path 1) 0 (Upto 0) ∷ InsertVerified A (path 1) 0 ∷ InsertVerifiedWithPathMtu A (path 1) 0 9 ∷ Demote C ∷ [])
+    ≡ replicate 7 (some 3)
+unfolding fullAt seenFrom
+three-exactly = refl
+
+three-for-no-other : map (λ q. refusal 24 (fullAt 18446744073709551615) (Asked q)) (Get A 0 ∷ GetAndTouch A 0 ∷ Remove A ∷ ClearPathMtu A ∷ PurgeExpired 0 ∷ Clear ∷ InvalidateViaNode A ∷ InvalidateOtherRoots A ∷ Stats 0 ∷ NextExpiry ∷ [])
+    ≡ replicate 10 none
+unfolding fullAt seenFrom
+three-for-no-other = refl
+
 -- ---- numbers 4 and 5: 01's examples
 
 four : answersOf 2 1 300000 (InsertVerified A (path 1) 0 ∷ InsertVerified B (path 1) 0 ∷ []) ≡ done 16 0 ∷ Refused 4 ∷ []
@@ -104,6 +116,11 @@ four = refl
 five : map (λ m. serve 24 (holding 8 7 []) (Fresh m 300000) .answer) (24 ∷ 23 ∷ []) ≡ Refused 5 ∷ Done ∷ []
 unfolding holding seenFrom
 five = refl
+
+-- R 1,024 is not too many, 1,025 is; R 1 is enough for max 0, and R 66 for max 64
+five-at-the-limits : refusal 1024 (holding 2 0 []) (Fresh 0 1) ∷ refusal 1025 (holding 2 0 []) (Fresh 0 1) ∷ refusal 1 (holding 2 0 []) (Fresh 0 1) ∷ refusal 0 (holding 2 0 []) (Fresh 0 1) ∷ refusal 66 (holding 2 0 []) (Fresh 64 1) ∷ refusal 65 (holding 2 0 []) (Fresh 64 1) ∷ [] ≡ none ∷ some 5 ∷ none ∷ some 5 ∷ none ∷ some 5 ∷ []
+unfolding holding seenFrom
+five-at-the-limits = refl
 
 -- ---- a row vacated at the end becomes zero, and what is beyond stays
 
@@ -115,62 +132,15 @@ touched-rest : step 24 (holding 2 5 (rowOn 1 1 1 ∷ [])) (GetAndTouch A 5) .sta
 unfolding rowOn holding seenFrom
 touched-rest = refl
 
--- ---- the command stream
+-- ---- codes of sources and MTU marks, as the types have them
 
--- 01: an element of sixteen bytes a
-element : ℕ → List ℕ
-element a = 0x01 ∷ (replicate 16 a ++ replicate 16 0)
+source-codes : map sourceCode (Verified ∷ Hint ∷ []) ≡ verifiedSource ∷ hintSource ∷ []
+unfolding sourceCode
+source-codes = refl
 
-repeated : ℕ → List ℕ → List ℕ
-repeated zero bs = []
-repeated (suc n) bs = bs ++ repeated n bs
-
--- 10: key of sixteen bytes a, time 0
-insertAt : ℕ → List ℕ
-insertAt a = 0x10 ∷ (replicate 16 a ++ replicate 8 0)
-
--- 00: max, ttl 300000
-freshTo : ℕ → List ℕ
-freshTo m = 0x00 ∷ m ∷ 0 ∷ 0xe0 ∷ 0x93 ∷ 0x04 ∷ replicate 5 0
-
--- unknown: byte ff, and what follows is not read
-unknown-byte : linesOf (0xff ∷ 0x31 ∷ []) ≡ line 0xff (refuses 6) ∷ []
-unfolding linesOf
-unknown-byte = refl
-
--- cut: an operand is short
-cut-command : linesOf (0x31 ∷ 0x22 ∷ replicate 15 1) ≡ line 0x31 (says 0 0 0 0 0) ∷ line 0x22 (refuses 6) ∷ []
-unfolding linesOf
-cut-command = refl
-
--- funding kind over 1
-kind-two : linesOf (element 1 ++ (0x12 ∷ (replicate 16 1 ++ replicate 8 0 ++ (2 ∷ []) ++ replicate 8 0))) ≡ line 0x01 (says 1 0 0 0 0) ∷ line 0x12 (refuses 6) ∷ []
-unfolding element linesOf
-kind-two = refl
-
--- a 33rd element is refused by 2 and dropped, and the 32 stay
-thirty-third : linesOf (repeated 33 (element 1) ++ insertAt 1 ++ (0x20 ∷ (replicate 16 1 ++ replicate 8 0))) ≡ map (λ n. line 0x01 (says n 0 0 0 0)) (1 ∷ 2 ∷ 3 ∷ 4 ∷ 5 ∷ 6 ∷ 7 ∷ 8 ∷ 9 ∷ 10 ∷ 11 ∷ 12 ∷ 13 ∷ 14 ∷ 15 ∷ 16 ∷ 17 ∷ 18 ∷ 19 ∷ 20 ∷ 21 ∷ 22 ∷ 23 ∷ 24 ∷ 25 ∷ 26 ∷ 27 ∷ 28 ∷ 29 ∷ 30 ∷ 31 ∷ 32 ∷ []) ++ (line 0x01 (refuses 2) ∷ line 0x10 (says 0 32 0 0 0) ∷ line 0x20 (says 1 32 0 0 0) ∷ [])
-unfolding element repeated insertAt linesOf
-thirty-third = refl
-
--- 00 and reads keep the pending path; an insert empties it, refused or not
-pending-kept-and-emptied : linesOf (element 1 ++ freshTo 8 ++ (0x41 ∷ []) ++ insertAt 1 ++ insertAt 2 ++ element 1 ++ freshTo 24 ++ element 1) ≡ line 0x01 (says 1 0 0 0 0) ∷ line 0x00 (says 0 0 0 0 0) ∷ line 0x41 (says 0 0 0 0 0) ∷ line 0x10 (says 0 16 0 0 0) ∷ line 0x10 (refuses 2) ∷ line 0x01 (says 1 0 0 0 0) ∷ line 0x00 (refuses 5) ∷ line 0x01 (says 2 0 0 0 0) ∷ []
-unfolding element insertAt freshTo linesOf
-pending-kept-and-emptied = refl
-
--- the tally of a run: three done, one refused
-tally-of-a-run : tallyAfter (record { done = 0; refused = 0 }) (linesOf (element 1 ++ insertAt 1 ++ insertAt 1 ++ (0x41 ∷ []))) ≡ record { done = 3; refused = 1 }
-unfolding element insertAt linesOf
-tally-of-a-run = refl
-
--- a line's largest numbers, in text: "ff 6 0 0 0 0 0", and 18446744073709551615 in twenty digits
-largest-in-text : decimal 18446744073709551615 ≡ 49 ∷ 56 ∷ 52 ∷ 52 ∷ 54 ∷ 55 ∷ 52 ∷ 52 ∷ 48 ∷ 55 ∷ 51 ∷ 55 ∷ 48 ∷ 57 ∷ 53 ∷ 53 ∷ 49 ∷ 54 ∷ 49 ∷ 53 ∷ []
-unfolding linesOf
-largest-in-text = refl
-
-hex-in-text : lineText (line 0xff (refuses 6)) ≡ 102 ∷ 102 ∷ 32 ∷ 54 ∷ 32 ∷ 48 ∷ 32 ∷ 48 ∷ 32 ∷ 48 ∷ 32 ∷ 48 ∷ 32 ∷ 48 ∷ 10 ∷ []
-unfolding linesOf
-hex-in-text = refl
+mark-codes : map mtuMarkOf (Unknown ∷ Known 1400 ∷ []) ≡ noMtu ∷ someMtu ∷ []
+unfolding mtuMarkOf
+mark-codes = refl
 
 -- ---- the memory of a small state, byte by byte (docs/PACKING.md)
 

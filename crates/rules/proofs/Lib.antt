@@ -17,9 +17,15 @@ pub mod Sizes
 pub mod Fitting
 pub mod Foreign
 pub mod LentMemory
+pub mod Requests
 pub mod GotPart
 pub mod Public
+pub mod CommandRuns
 pub mod Compute
 pub mod TableP
 pub mod Branches
+pub mod RuleExamples
 pub mod Examples
+pub mod SoundExamples
+pub mod DemandExamples
+pub mod CommandExamples

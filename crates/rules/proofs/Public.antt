@@ -7,15 +7,17 @@ use mathlib.Core.Option.{Option, none, some}
 use mathlib.Core.Bool.{Bool, true, false, cond}
 use lib.ListN.{length, drop}
 use lib.Seq.{drop-drop}
+use Rattle.rules.specs.Cases.{maybe}
 use Rattle.rules.specs.Records.{State, probationBound}
 use Rattle.rules.specs.Sound.{sound}
 use Rattle.rules.specs.Calls.{Call, Done, Refused, wasRefused}
-use Rattle.rules.specs.Refusals.{Asked, Fresh, badSize, fresh, gives, perform, performRequest, refusal, serve}
+use Rattle.rules.specs.Refusals.{Asked, Fresh, Request, badSize, fresh, gives, perform, performRequest, refusal, serve}
 use Rattle.rules.specs.Memory.{capacity, cut, heldRows, leNumber, memory, view, viewRows}
 use Rattle.rules.specs.Lent.{Bytes, call, lent}
+use Rattle.rules.specs.Answers.{refusalOf}
 use Rattle.rules.proofs.SoundTest.{Sound, sound-is}
 use Rattle.rules.proofs.MemoryLaws.{held-fits, view-memory}
-use Rattle.rules.proofs.Refused.{allowed, done-perform, fresh-refusal, refused-one}
+use Rattle.rules.proofs.Refused.{allowed, done-perform, fresh-refusal, refusal-number, refused-one}
 use Rattle.rules.proofs.SoundKept.{fresh-sound, perform-keeps}
 use Rattle.rules.proofs.Sizes.{few-rows}
 use Rattle.rules.proofs.Foreign.{rows-of-length}
@@ -48,6 +50,11 @@ pub record RefusedCall (l : List ℕ) (q : Call) (n : ℕ) : Type 0 where
 pub call-refused : (l : List ℕ) (q : Call) (n : ℕ) → refusal (capacity l) (view l) (Asked q) ≡ some n → RefusedCall l q n
 unfolding lent serve gives wasRefused
 call-refused l q n e = record { answer = rw e; memory = rw e }
+
+-- the number of a request's answer, lent beside the state by a lookup: the refusal's, and 0 if done
+pub lent-number : (l : List ℕ) (x : Request) → refusalOf (lent l x .answer) ≡ maybe (refusal (capacity l) (view l) x) 0 (λ n. n)
+unfolding lent
+lent-number l x = refusal-number (capacity l) (view l) x
 
 pub record DoneCall (l : List ℕ) (q : Call) (m : List ℕ) : Type 0 where
   pub answer : call l q .answer ≡ perform (view l) q .answer

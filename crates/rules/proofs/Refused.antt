@@ -8,8 +8,9 @@ use native.Mathlib.Omega.{arith}
 use Rattle.rules.specs.Cases.{maybe}
 use Rattle.rules.specs.Records.{State}
 use Rattle.rules.specs.Sound.{sound}
-use Rattle.rules.specs.Calls.{Answer, Call, Clear, ClearPathMtu, Demote, Get, GetAndTouch, Insert, InsertFunded, InsertStated, InsertVerified, InsertVerifiedWithPathMtu, InsertWithTtl, InvalidateOtherRoots, InvalidateViaNode, NextExpiry, PurgeExpired, Refused, Remove, Stats, drawsStamps, pathGiven, verifiedWrite, wasRefused}
+use Rattle.rules.specs.Calls.{Answer, Call, Clear, ClearPathMtu, Demote, Done, EntryRemoved, ExpiryGiven, Get, GetAndTouch, Hinted, Insert, InsertFunded, InsertStated, InsertVerified, InsertVerifiedWithPathMtu, InsertWithTtl, InvalidateOtherRoots, InvalidateViaNode, KeyHeld, NextExpiry, PathFound, PurgeExpired, Refused, Remove, RowsRemoved, Stats, StatsGiven, VerifiedDone, drawsStamps, pathGiven, verifiedWrite, wasRefused}
 use Rattle.rules.specs.Refusals.{Asked, Fresh, Request, Step, badPath, badSize, firstGiven, gives, hinted, noPlaceFor, perform, performRequest, reason, reasons, refusal, seqSpent, serve, step, sweeps, verifies}
+use Rattle.rules.specs.Answers.{refusalOf}
 use Rattle.rules.proofs.Addresses.{contradiction}
 use Rattle.rules.proofs.RowLists.{by-maybe}
 
@@ -144,10 +145,37 @@ gives-number : (R : ℕ) (s : State) (x : Request) (n : ℕ) → refusal R s x �
 unfolding serve gives
 gives-number R s x n e = rw e
 
--- A REFUSAL RETURNS ITS NUMBER ALONE AND LEAVES THE STATE AS IT WAS
+-- A REFUSAL LEAVES THE STATE AS IT WAS
 pub refused-left : (R : ℕ) (s : State) (x : Request) → wasRefused (serve R s x .answer) ≡ true → serve R s x .state ≡ s
 unfolding gives
 refused-left R s x = by-serve R s x (λ (t : Step). wasRefused (t .answer) ≡ true → t .state ≡ s) (λ n e g. refl) (λ e g. contradiction g (done-request R s x))
+
+-- A REFUSAL RETURNS ITS NUMBER ALONE
+pub refused-alone : (R : ℕ) (s : State) (x : Request) → wasRefused (serve R s x .answer) ≡ true → serve R s x ≡ gives (Refused (refusalOf (serve R s x .answer))) s
+unfolding gives refusalOf
+refused-alone R s x = by-serve R s x (λ (t : Step). wasRefused (t .answer) ≡ true → t ≡ gives (Refused (refusalOf (t .answer))) s) (λ n e g. refl) (λ e g. contradiction g (done-request R s x))
+
+zero-if-done : (a : Answer) → wasRefused a ≡ false → refusalOf a ≡ 0
+unfolding wasRefused refusalOf
+zero-if-done (Refused n) h = contradiction {b = true} refl h
+zero-if-done (Hinted p) h = refl
+zero-if-done (VerifiedDone v) h = refl
+zero-if-done (PathFound o) h = refl
+zero-if-done (EntryRemoved o) h = refl
+zero-if-done (KeyHeld b) h = refl
+zero-if-done Done h = refl
+zero-if-done (RowsRemoved n) h = refl
+zero-if-done (StatsGiven c) h = refl
+zero-if-done (ExpiryGiven o) h = refl
+
+-- THE NUMBER OF AN ANSWER IS THE REFUSAL'S, AND 0 IF DONE
+pub refusal-number : (R : ℕ) (s : State) (x : Request) → refusalOf (serve R s x .answer) ≡ maybe (refusal R s x) 0 (λ n. n)
+unfolding serve gives refusalOf
+refusal-number R s x = go (refusal R s x)
+  where
+    go : (o : Option ℕ) → refusalOf (maybe o (performRequest R s x) (λ n. gives (Refused n) s) .answer) ≡ maybe o 0 (λ n. n)
+    go none = zero-if-done (performRequest R s x .answer) (done-request R s x)
+    go (some n) = refl
 
 -- ---- each number is given exactly if
 
@@ -180,12 +208,24 @@ pub fresh-refusal : (R m ttl : ℕ) (s : State) → refusal R s (Fresh m ttl) �
 unfolding refusal reasons firstGiven reason
 fresh-refusal R m ttl s = refl
 
-pub five-exactly : (R m ttl : ℕ) (s : State) → Iff (serve R s (Fresh m ttl) .answer ≡ Refused 5) (badSize R m ≡ true)
-five-exactly R m ttl s = (λ e. go (badSize R m) (sym (fresh-refusal R m ttl s) ∙ refused-by R s (Fresh m ttl) 5 e), λ e. gives-number R s (Fresh m ttl) 5 (fresh-refusal R m ttl s ∙ rw e))
-  where
-    go : (b : Bool) → cond {A = Option ℕ} b (some 5) none ≡ some 5 → b ≡ true
-    go true h = refl
-    go false h = some-none {o = none} h refl
+fresh-number : (b : Bool) (n : ℕ) → cond {A = Option ℕ} b (some 5) none ≡ some n → (b ≡ true) × (n ≡ 5)
+fresh-number true n h = (refl, cc)
+fresh-number false n h = some-none {o = none} h refl
+
+-- fresh is refused by 5 exactly if the size is bad, and by no other number
+pub record FiveExactly (R m : ℕ) (a : Answer) : Type 0 where
+  pub five : Iff (a ≡ Refused 5) (badSize R m ≡ true)
+  pub no-other : (n : ℕ) → a ≡ Refused n → n ≡ 5
+
+pub five-exactly : (R m ttl : ℕ) (s : State) → FiveExactly R m (serve R s (Fresh m ttl) .answer)
+five-exactly R m ttl s =
+    let by : (n : ℕ) → serve R s (Fresh m ttl) .answer ≡ Refused n → (badSize R m ≡ true) × (n ≡ 5) = λ n e. fresh-number (badSize R m) n (sym (fresh-refusal R m ttl s) ∙ refused-by R s (Fresh m ttl) n e) in
+    record { five = (λ e. by 5 e .0, λ e. gives-number R s (Fresh m ttl) 5 (fresh-refusal R m ttl s ∙ rw e)); no-other = λ n e. by n e .1 }
+
+-- a request is refused by 1 to 5 alone
+pub refused-one-to-five : (R : ℕ) (s : State) (x : Request) (n : ℕ) → refusal R s x ≡ some n → (1 ≤ n) × (n ≤ 5)
+refused-one-to-five R s (Fresh m ttl) n e = let z = fresh-number (badSize R m) n (sym (fresh-refusal R m ttl s) ∙ e) .1 in (omega arith, omega arith)
+refused-one-to-five R s (Asked q) n e = let z = refusal-first R s q .number n e in (z .0, omega (arith, z .1))
 
 pub fresh-allowed : (R m ttl : ℕ) (s : State) → refusal R s (Fresh m ttl) ≡ none → badSize R m ≡ false
 fresh-allowed R m ttl s e = go (badSize R m) (sym (fresh-refusal R m ttl s) ∙ e)

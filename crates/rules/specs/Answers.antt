@@ -66,7 +66,8 @@ entryGiven (RowsRemoved n) = blankEntry
 entryGiven (StatsGiven c) = blankEntry
 entryGiven (ExpiryGiven o) = blankEntry
 
--- a refusal's number, 0 if done: fresh, clear, clear_path_mtu, and beside the part that a lookup hands back
+-- a refusal's number, 0 if done: what fresh, clear and clear_path_mtu return, and the number lent beside the state
+-- where a lookup hands back a part
 unfoldable pub refusalOf : Answer → ℕ
 refusalOf (Refused n) = n
 refusalOf (Hinted p) = 0

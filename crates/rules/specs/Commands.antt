@@ -2,7 +2,7 @@
 use Prim.Native.Nat.{ℕ, zero, suc, _+_, _/_, _%_}
 use mathlib.Core.List.{List, [], _∷_, _++_}
 use mathlib.Core.Option.{Option, none, some}
-use mathlib.Core.Bool.{Bool, true, false, cond}
+use mathlib.Core.Bool.{Bool, true, false, cond, _&&_}
 use lib.Dec.{ltb, leb, eqb}
 use lib.ListN.{length, take, drop}
 use Rattle.coord.specs.declared.node_addr.NodeAddr.{NodeAddr}
@@ -129,9 +129,13 @@ obey R s (Element e) = pended (s .state) (appended (s .pending) e)
 obey R s (WithPath f) = obeyed (serve R (s .state) (Asked (f (s .pending)))) emptyPath
 obey R s (Plain x) = obeyed (serve R (s .state) x) (s .pending)
 
--- number 6 leaves the state, and the pending path
-unfoldable pub unknown : Session → Obeyed
-unknown s = record { reply = refuses 6; session = s }
+-- 10 to 15
+unfoldable pub takesPath : ℕ → Bool
+takesPath b = leb 0x10 b && leb b 0x15
+
+-- number 6 leaves the state; 10 to 15 empty the pending path here too
+unfoldable pub refusedSix : ℕ → Session → Obeyed
+refusedSix b s = record { reply = refuses 6; session = record { state = s .state; pending = cond (takesPath b) emptyPath (s .pending) } }
 
 -- ---- a run: one line a command
 
@@ -146,14 +150,14 @@ pub record Output : Type 0 where
   pub lines : List Line
   pub session : Session
 
--- it stops after a 6; n is enough where it is at least the number of bytes
+-- it stops after a 6; n is enough where it is at least the number of bytes (CommandRuns.fuel-enough)
 unfoldable pub runCommands : ℕ → ℕ → Session → List ℕ → Output
 runCommands zero R s bs = record { lines = []; session = s }
 runCommands (suc n) R s bs =
     elim bs [
       | [] ↦ record { lines = []; session = s }
       | b ∷ rest ↦
-          maybe (decode b rest) (record { lines = line b (unknown s .reply) ∷ []; session = unknown s .session }) (λ d.
+          maybe (decode b rest) (record { lines = line b (refusedSix b s .reply) ∷ []; session = refusedSix b s .session }) (λ d.
           let o = obey R s (d .command) in
           let later = runCommands n R (o .session) (d .left) in
           record { lines = line b (o .reply) ∷ later .lines; session = later .session })

@@ -16,7 +16,7 @@ use Rattle.rules.specs.Memory.{headSize, entryOffset, placesOffset, coor
 use Rattle.rules.specs.Lookups.{unexpiredRow}
 use Rattle.rules.specs.Calls.{Call, Insert, InsertWithTtl, InsertFunded, InsertStated, InsertVerified, InsertVerifiedWithPathMtu, Get, GetAndTouch, Remove, Demote, ClearPathMtu, PurgeExpired, Clear, InvalidateViaNode, InvalidateOtherRoots, Stats, NextExpiry, Answer, wasRefused}
 use Rattle.rules.specs.Refusals.{Request, Fresh, Asked, refusal, Step, serve}
-use Rattle.rules.specs.Lists.{Event}
+use Rattle.rules.specs.Lists.{Event, Served}
 
 pub record Lent : Type 0 where
   pub answer : Answer
@@ -40,6 +40,18 @@ calls l (q ∷ qs) =
     let later = calls (t .memory) qs in
     record { events = record { call = q; answer = t .answer } ∷ later .events; memory = later .memory }
 
+-- lists of requests, fresh among them
+pub record LentServing : Type 0 where
+  pub served : List Served
+  pub memory : List ℕ
+
+unfoldable pub requests : List ℕ → List Request → LentServing
+requests l [] = record { served = []; memory = l }
+requests l (x ∷ xs) =
+    let t = lent l x in
+    let later = requests (t .memory) xs in
+    record { served = record { request = x; answer = t .answer } ∷ later .served; memory = later .memory }
+
 -- ---- what get hands back
 
 -- the first n elements of row i's path, where they stand in the memory
@@ -50,13 +62,10 @@ pathPart i n l = cut (headSize + i * rowSize + (entryOffset + placesOffset)) (n 
 unfoldable pub foundPart : NodeAddr → ℕ → List ℕ → List ℕ
 foundPart k now l = maybe (unexpiredRow k now (view l)) [] (λ i. pathPart i (rowAt i (view l .rows) .entry .path .len) l)
 
--- or where the call is refused; get hands back gotPart of its own memory, get_and_touch that of the memory after it
+-- the part that a lookup hands back, empty too where the call is refused: get hands back that of its own memory,
+-- get_and_touch that of the memory after it
 unfoldable pub gotPart : NodeAddr → ℕ → List ℕ → List ℕ
 gotPart k now l = maybe (refusal (capacity l) (view l) (Asked (Get k now))) (foundPart k now l) (λ n. [])
-
--- the number lent beside the state: the refusal, 0 if done
-unfoldable pub refusalNumber : List ℕ → Request → ℕ
-refusalNumber l x = maybe (refusal (capacity l) (view l) x) 0 (λ n. n)
 
 -- ---- what the types of the arguments say
 

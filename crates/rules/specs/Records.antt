@@ -7,11 +7,10 @@ use lib.Dec.{eqb}
 use Rattle.coord.specs.declared.node_addr.NodeAddr.{NodeAddr}
 use Rattle.coord.specs.declared.coord.Path.{Path}
 use Rattle.coord.specs.Paths.{unitsPerEntry}
-use Rattle.types.specs.declared.entry.CoordSource.{CoordSource}
-use Rattle.types.specs.declared.entry.CoordSource.the-variants.{Verified, Hint}
 use Rattle.types.specs.declared.entry.PathMtu.{PathMtu}
 use Rattle.types.specs.declared.entry.PathMtu.the-variants.{Unknown, Known}
 use Rattle.types.specs.declared.entry.CacheEntry.{CacheEntry}
+use Rattle.types.specs.Values.{sourceOf}
 
 -- path, created_at, last_used, expires_at; path_mtu as a mark and a value; source; verified_until (0 for a hint)
 pub record Entry : Type 0 where
@@ -55,7 +54,7 @@ parked = 1
 abbrev pub probation : ℕ
 probation = 2
 
--- where a victim waits until it is known whether there is room; no state at rest has it (Keeps.no-row-aside)
+-- where a victim waits until it is known whether there is room; no state at rest has it (SoundKept.no-row-aside)
 abbrev pub aside : ℕ
 aside = 3
 
@@ -82,7 +81,7 @@ entryValue e =
       «last_used» = e .lastUsed;
       «expires_at» = e .expiresAt;
       «path_mtu» = cond (eqb (e .mtuMark) someMtu) (Known (e .mtu)) Unknown;
-      source = cond (eqb (e .source) verifiedSource) Verified Hint;
+      source = sourceOf (e .source);
       «verified_until» = e .verifiedUntil;
     }
 

@@ -1,8 +1,5 @@
-use mathlib.Core.Path.{_≡_, refl, sym, ap, _∙_}
-use mathlib.Core.Bool.{not}
-use Prim.Native.Nat.{ℕ}
+use mathlib.Core.Path.{sym, ap}
 use borrow.Author.Tests.{not-true, not-false}
-use Rattle.rules.specs.Refusals.{badSize}
 use Rattle.rules.specs.Answers.{refusalOf}
 use Rattle.rules.proofs.MemoryLaws.{all-bytes}
 use Rattle.rules.proofs.Public.{fresh-refused, fresh-is-done}
@@ -10,25 +7,16 @@ use Rattle.cache.proofs.Sizes.{rows-there, refused-size, fits-size}
 use borrow.Author.Needs.{needs}
 use Rattle.cache.proofs.fresh.fresh.Statement.{statement}
 use Rattle.cache.proofs.fresh.fresh.Tie as tie
-use Rattle.cache.proofs.fresh.fresh.Reads as reads
-use Rattle.cache.proofs.fresh.fresh.Lts as lts
-use Rattle.cache.proofs.fresh.size_fits.Reads as size-fits-reads
-use Rattle.memory.proofs.head.rows_that_fit.Reads as rows-that-fit-reads
-use Rattle.memory.proofs.rows.make_fresh.Reads as make-fresh-reads
 
--- src/fresh.rt:34:9
 rows-that-fit-requires : tie.Need-rows-that-fit-requires
 rows-that-fit-requires c κs = search needs
 
--- src/fresh.rt:35:9
 size-fits-requires : tie.Need-size-fits-requires
 size-fits-requires c κs = search needs
 
--- src/fresh.rt:36:9
 same-length : tie.Need-same-length
 same-length c = search needs
 
--- src/fresh.rt:36:9
 returns : tie.Need-returns
 unfolding refusalOf
 returns c =
@@ -37,18 +25,15 @@ returns c =
     let f = fresh-refused (s .args .state .now) (s .args .max) (s .args .ttl) h in
     (sym (ap refusalOf (f .answer)), sym (f .memory))
 
--- src/fresh.rt:38:5
 make-fresh-requires : tie.Need-make-fresh-requires
 make-fresh-requires c κs =
     let s = c .before .before .before .before .before .before in
     let h = fits-size (s .args .state .now) (s .args .max) (c .before .before .before .rows-that-fit .result) (c .before .before .size-fits .result) (c .before .before .before .rows-that-fit .ensures) (c .before .before .size-fits .ensures) (not-false _ (c .before .if1 .left)) in
     rw (c .before .before .before .rows-that-fit .ensures) (rows-there (s .args .state .now) (s .args .max) h)
 
--- src/fresh.rt:31:1
 same-length-2 : tie.Need-same-length-2
 same-length-2 c = search needs
 
--- src/fresh.rt:31:1
 returns-2 : tie.Need-returns-2
 unfolding refusalOf
 returns-2 c =

@@ -1,38 +1,28 @@
-use mathlib.Core.Path.{_≡_, sym, _∙_}
+use mathlib.Core.Path.{sym, _∙_}
 use borrow.Author.Tests.{not-true, not-false}
 use Rattle.rules.specs.Calls.{ClearPathMtu}
 use Rattle.cache.proofs.Refusing.{one-numbered}
 use borrow.Author.Needs.{needs}
 use Rattle.cache.proofs.keyed.clear_path_mtu.Statement.{statement}
 use Rattle.cache.proofs.keyed.clear_path_mtu.Tie as tie
-use Rattle.cache.proofs.keyed.clear_path_mtu.Reads as reads
-use Rattle.cache.proofs.keyed.clear_path_mtu.Lts as lts
-use Rattle.cache.proofs.keyed.clear_path_mtu_unchecked.Reads as clear-path-mtu-unchecked-reads
-use Rattle.soundness.proofs.is_sound.Reads as is-sound-reads
 
--- src/keyed.rt:122:9
 is-sound-requires : tie.Need-is-sound-requires
 is-sound-requires c κs = search needs
 
--- src/keyed.rt:123:9
 same-length : tie.Need-same-length
 same-length c = search needs
 
--- src/keyed.rt:123:9
 returns : tie.Need-returns
 returns c =
     let s = c .before .before .before .before in
     one-numbered (s .args .state .now) (ClearPathMtu (s .args .key)) (sym (c .before .is-sound .ensures) ∙ not-true _ (c .if1 .taken))
 
--- src/keyed.rt:125:5
 clear-path-mtu-unchecked-requires : tie.Need-clear-path-mtu-unchecked-requires
 clear-path-mtu-unchecked-requires c κs = sym (c .before .before .is-sound .ensures) ∙ not-false _ (c .before .if1 .left)
 
--- src/keyed.rt:119:1
 same-length-2 : tie.Need-same-length-2
 same-length-2 c = search needs
 
--- src/keyed.rt:119:1
 returns-2 : tie.Need-returns-2
 returns-2 c = search needs
 

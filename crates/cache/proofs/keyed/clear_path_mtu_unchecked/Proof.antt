@@ -1,4 +1,3 @@
-use mathlib.Core.Path.{_≡_}
 use Rattle.rules.specs.Memory.{viewRows}
 use Rattle.rules.proofs.MemoryLaws.{all-bytes}
 use Rattle.rules.proofs.Public.{sound-memory}
@@ -6,37 +5,25 @@ use Rattle.cache.proofs.Frame.{head-there, searchable, found-inside, fo
 use borrow.Author.Needs.{needs}
 use Rattle.cache.proofs.keyed.clear_path_mtu_unchecked.Statement.{statement}
 use Rattle.cache.proofs.keyed.clear_path_mtu_unchecked.Tie as tie
-use Rattle.cache.proofs.keyed.clear_path_mtu_unchecked.Reads as reads
-use Rattle.cache.proofs.keyed.clear_path_mtu_unchecked.Lts as lts
-use Rattle.memory.proofs.head.row_count.Reads as row-count-reads
-use Rattle.memory.proofs.row.drop_mtu.Reads as drop-mtu-reads
-use Rattle.search.proofs.keys.search.Reads as search-reads
 
--- src/keyed.rt:38:13
 row-count-requires : tie.Need-row-count-requires
 row-count-requires c κs = head-there (c .before .before .args .state .now) (c .before .before .pre)
 
--- src/keyed.rt:39:9
 search-requires : tie.Need-search-requires
 search-requires c κs = searchable (c .before .before .before .before .args .state .now) (c .before .row-count .result) (c .before .before .before .before .pre) (c .before .row-count .ensures)
 
--- src/keyed.rt:41:20
 enum-known-at : tie.Need-enum-known-at
 enum-known-at c = search needs
 
--- src/keyed.rt:42:13
 drop-mtu-requires : tie.Need-drop-mtu-requires
 drop-mtu-requires c κs = found-inside (c .before .before .before .before .before .before .before .before .before .args .state .now) (c .before .before .before .before .before .before .row-count .result) (c .before .before .before .before .before .before .before .before .before .args .key) _ (c .before .before .before .before .search .result) (c .before .before .before .before .before .before .before .before .before .pre) (c .before .before .before .before .before .before .row-count .ensures) (c .before .before .before .before .search .ensures) (c .before .before .at .given .1)
 
--- src/keyed.rt:45:30
 enum-told : tie.Need-enum-told
 enum-told c = search needs
 
--- src/keyed.rt:34:1
 same-length : tie.Need-same-length
 same-length c = search needs
 
--- src/keyed.rt:34:1
 returns : tie.Need-returns
 returns c =
     let s = c .before .before .before .before .before .before .before .before .before .before .before .before in
@@ -45,11 +32,9 @@ returns c =
     let m = c .before .before .drop-mtu .last .0 in
     clear-says l (s .args .key) m (clear-done-at l n (s .args .key) _ m (s .pre) (sound-memory l n (s .pre) (c .before .before .before .before .before .before .before .before .before .row-count .ensures)) (found (s .args .key) (viewRows n l .rows) _ (c .before .before .before .before .before .before .before .search .result) (c .before .before .before .before .before .before .before .search .ensures) (c .before .before .before .before .before .at .given .1)) (all-bytes m (λ i. c .slice-known2 .given i .fits)) (c .before .before .drop-mtu .kept .0) (c .before .before .drop-mtu .ensures))
 
--- src/keyed.rt:34:1
 same-length-2 : tie.Need-same-length-2
 same-length-2 c = search needs
 
--- src/keyed.rt:34:1
 returns-2 : tie.Need-returns-2
 returns-2 c =
     let s = c .before .before .before .before .before .before .before in

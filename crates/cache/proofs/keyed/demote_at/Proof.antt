@@ -1,61 +1,41 @@
-use mathlib.Core.Path.{_≡_, sym, ap, _∙_}
-use Prim.Native.Nat.{ℕ, _+_, _<_}
+use mathlib.Core.Path.{sym, ap, _∙_}
+use Prim.Native.Nat.{ℕ, _+_}
 use native.Mathlib.Omega.{arith}
-use lib.ListN.{length}
 use Rattle.rules.specs.Records.{State}
 use Rattle.rules.specs.Memory.{viewRows}
-use Rattle.rules.specs.Entries.{markHint}
-use Rattle.rules.specs.Lookups.{rewrite}
 use Rattle.memory.proofs.Fields.{same-head}
 use Rattle.memory.proofs.RowLaws.{view-length}
 use Rattle.cache.proofs.Demoting.{demoted-parked, demoted-in-place, hinted-seq}
 use borrow.Author.Needs.{needs}
 use Rattle.cache.proofs.keyed.demote_at.Statement.{statement}
 use Rattle.cache.proofs.keyed.demote_at.Tie as tie
-use Rattle.cache.proofs.keyed.demote_at.Reads as reads
-use Rattle.cache.proofs.keyed.demote_at.Lts as lts
-use Rattle.memory.proofs.head.seq.Reads as seq-reads
-use Rattle.memory.proofs.head.set_seq.Reads as set-seq-reads
-use Rattle.memory.proofs.row.last_used.Reads as last-used-reads
-use Rattle.memory.proofs.row.mark_hint.Reads as mark-hint-reads
-use Rattle.memory.proofs.row.place.Reads as place-reads
-use Rattle.memory.proofs.row.set_stamp.Reads as set-stamp-reads
 
--- src/keyed.rt:54:9
 place-requires : tie.Need-place-requires
 place-requires c κs = search needs
 
--- src/keyed.rt:55:5
 mark-hint-requires : tie.Need-mark-hint-requires
 mark-hint-requires c κs = search needs
 
--- src/keyed.rt:57:19
 seq-requires : tie.Need-seq-requires
 seq-requires c κs = search needs
 
--- src/keyed.rt:57:19
 add-seq : tie.Need-add-seq
 add-seq c =
     let s = c .before .before .before .before .before .before .before .before .before .before in
     omega (arith, c .seq .ensures, same-head 0 (s .args .n) (c .before .before .before .before .before .mark-hint .last .0) .seq, ap (λ (x : State). x .seq) (c .before .before .before .before .before .mark-hint .ensures), hinted-seq (s .args .i) (viewRows (s .args .n) (s .args .state .now)), s .pre .2)
 
--- src/keyed.rt:58:13
 last-used-requires : tie.Need-last-used-requires
 last-used-requires c κs = search needs
 
--- src/keyed.rt:59:9
 set-seq-requires : tie.Need-set-seq-requires
 set-seq-requires c κs = search needs
 
--- src/keyed.rt:60:9
 set-stamp-requires : tie.Need-set-stamp-requires
 set-stamp-requires c κs = search needs
 
--- src/keyed.rt:50:1
 same-length : tie.Need-same-length
 same-length c = search needs
 
--- src/keyed.rt:50:1
 returns : tie.Need-returns
 returns c =
     let s = c .before .before .before .before .before .before .before .before .before .before .before .before .before .before .before .before .before .before .before .before .args in
@@ -63,11 +43,9 @@ returns c =
     let v = viewRows n (s .state .now) in
     demoted-parked (s .i) (c .before .before .before .before .before .before .before .before .last-used .result) (c .before .before .before .before .before .before .before .before .before .before .seq .result + 1) v (viewRows n (c .before .before .before .before .before .before .before .before .before .before .before .before .before .before .before .mark-hint .last .0)) (viewRows n (c .before .before .before .before .before .before .set-seq .last .0)) _ (omega (arith, view-length n (s .state .now), c .before .before .before .before .before .before .before .before .before .before .before .before .before .before .before .before .before .before .before .before .pre .0)) (sym (c .before .before .before .before .before .before .before .before .before .before .before .before .before .before .before .before .before .place .ensures) ∙ c .before .before .before .before .before .before .before .before .before .before .before .before .if1 .taken) (c .before .before .before .before .before .before .before .before .before .before .before .before .before .before .before .mark-hint .ensures) (c .before .before .before .before .before .before .before .before .last-used .ensures) (ap (λ (x : ℕ). x + 1) (c .before .before .before .before .before .before .before .before .before .before .seq .ensures ∙ same-head 0 n (c .before .before .before .before .before .before .before .before .before .before .before .before .before .before .before .mark-hint .last .0) .seq)) (c .before .before .before .before .before .before .set-seq .ensures) (c .before .before .set-stamp .ensures)
 
--- src/keyed.rt:50:1
 same-length-2 : tie.Need-same-length-2
 same-length-2 c = search needs
 
--- src/keyed.rt:50:1
 returns-2 : tie.Need-returns-2
 returns-2 c =
     let s = c .before .before .before .before .before .before .before .before .args in

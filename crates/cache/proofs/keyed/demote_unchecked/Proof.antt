@@ -1,4 +1,4 @@
-use mathlib.Core.Path.{_≡_, refl, sym, _∙_}
+use mathlib.Core.Path.{sym, _∙_}
 use native.Mathlib.Omega.{arith}
 use Rattle.rules.specs.Memory.{viewRows}
 use Rattle.rules.specs.Answers.{demoteSaid}
@@ -10,22 +10,13 @@ use Rattle.cache.proofs.Demoting.{demote-refused, demote-done-at, demot
 use borrow.Author.Needs.{needs}
 use Rattle.cache.proofs.keyed.demote_unchecked.Statement.{statement}
 use Rattle.cache.proofs.keyed.demote_unchecked.Tie as tie
-use Rattle.cache.proofs.keyed.demote_unchecked.Reads as reads
-use Rattle.cache.proofs.keyed.demote_unchecked.Lts as lts
-use Rattle.cache.proofs.keyed.demote_at.Reads as demote-at-reads
-use Rattle.memory.proofs.head.row_count.Reads as row-count-reads
-use Rattle.memory.proofs.head.seq.Reads as seq-reads
-use Rattle.search.proofs.keys.search.Reads as search-reads
 
--- src/keyed.rt:68:19
 seq-requires : tie.Need-seq-requires
 seq-requires c κs = head-there (c .before .before .args .state .now) (c .before .before .pre)
 
--- src/keyed.rt:69:9
 same-length : tie.Need-same-length
 same-length c = search needs
 
--- src/keyed.rt:69:9
 returns : tie.Need-returns
 unfolding demoteSaid
 returns c =
@@ -33,34 +24,27 @@ returns c =
     let d = demote-refused (s .args .state .now) (s .args .key) (c .before .seq .result) (s .pre) (c .before .seq .ensures ∙ shown-seq (s .args .state .now)) (c .if1 .taken) in
     (sym (d .answer), sym (d .memory))
 
--- src/keyed.rt:71:13
 row-count-requires : tie.Need-row-count-requires
 row-count-requires c κs = head-there (c .before .before .before .before .before .args .state .now) (c .before .before .before .before .before .pre)
 
--- src/keyed.rt:72:9
 search-requires : tie.Need-search-requires
 search-requires c κs = searchable (c .before .before .before .before .before .before .before .args .state .now) (c .before .row-count .result) (c .before .before .before .before .before .before .before .pre) (c .before .row-count .ensures)
 
--- src/keyed.rt:74:20
 enum-known-at : tie.Need-enum-known-at
 enum-known-at c = search needs
 
--- src/keyed.rt:75:13
 demote-at-requires : tie.Need-demote-at-requires
 demote-at-requires c κs =
     let s = c .before .before .before .before .before .before .before .before .before .before .before .before in
     let f = found-inside (s .args .state .now) (c .before .before .before .before .before .before .row-count .result) (s .args .key) _ (c .before .before .before .before .search .result) (s .pre) (c .before .before .before .before .before .before .row-count .ensures) (c .before .before .before .before .search .ensures) (c .before .before .at .given .1) in
     (f .0, f .1, omega (arith, c .before .before .before .before .before .before .before .before .before .seq .ensures, same-head 0 (c .before .before .before .before .before .before .row-count .result) (s .args .state .now) .seq, c .before .before .before .before .before .before .before .before .if1 .left))
 
--- src/keyed.rt:78:30
 enum-told : tie.Need-enum-told
 enum-told c = search needs
 
--- src/keyed.rt:64:1
 same-length-2 : tie.Need-same-length-2
 same-length-2 c = search needs
 
--- src/keyed.rt:64:1
 returns-2 : tie.Need-returns-2
 unfolding demoteSaid
 returns-2 c =
@@ -70,11 +54,9 @@ returns-2 c =
     let m = c .before .before .demote-at .last .0 in
     demote-done-at l n (s .args .key) _ (c .before .before .before .before .before .before .before .before .before .before .before .before .seq .result) m (s .pre) (sound-memory l n (s .pre) (c .before .before .before .before .before .before .before .before .before .row-count .ensures)) (c .before .before .before .before .before .before .before .before .before .before .before .before .seq .ensures ∙ shown-seq l) (c .before .before .before .before .before .before .before .before .before .before .before .if1 .left) (found (s .args .key) (viewRows n l .rows) _ (c .before .before .before .before .before .before .before .search .result) (c .before .before .before .before .before .before .before .search .ensures) (c .before .before .before .before .before .at .given .1)) (all-bytes m (λ i. c .slice-known2 .given i .fits)) (c .before .before .demote-at .kept .0) (c .before .before .demote-at .ensures)
 
--- src/keyed.rt:64:1
 same-length-3 : tie.Need-same-length-3
 same-length-3 c = search needs
 
--- src/keyed.rt:64:1
 returns-3 : tie.Need-returns-3
 unfolding demoteSaid
 returns-3 c =

@@ -1,35 +1,25 @@
-use mathlib.Core.Path.{_≡_, sym, _∙_}
+use mathlib.Core.Path.{sym, _∙_}
 use borrow.Author.Tests.{not-true, not-false}
 use Rattle.cache.proofs.Refusing.{one-touched}
 use borrow.Author.Needs.{needs}
 use Rattle.cache.proofs.keyed.touch.Statement.{statement}
 use Rattle.cache.proofs.keyed.touch.Tie as tie
-use Rattle.cache.proofs.keyed.touch.Reads as reads
-use Rattle.cache.proofs.keyed.touch.Lts as lts
-use Rattle.cache.proofs.keyed.touch_unchecked.Reads as touch-unchecked-reads
-use Rattle.soundness.proofs.is_sound.Reads as is-sound-reads
 
--- src/keyed.rt:140:9
 is-sound-requires : tie.Need-is-sound-requires
 is-sound-requires c κs = search needs
 
--- src/keyed.rt:141:9
 same-length : tie.Need-same-length
 same-length c = search needs
 
--- src/keyed.rt:141:9
 returns : tie.Need-returns
 returns c = one-touched (c .before .before .before .before .args .state .now) (c .before .before .before .before .args .key) (c .before .before .before .before .args .time) (sym (c .before .is-sound .ensures) ∙ not-true _ (c .if1 .taken))
 
--- src/keyed.rt:143:5
 touch-unchecked-requires : tie.Need-touch-unchecked-requires
 touch-unchecked-requires c κs = sym (c .before .before .is-sound .ensures) ∙ not-false _ (c .before .if1 .left)
 
--- src/keyed.rt:137:1
 same-length-2 : tie.Need-same-length-2
 same-length-2 c = search needs
 
--- src/keyed.rt:137:1
 returns-2 : tie.Need-returns-2
 returns-2 c = search needs
 

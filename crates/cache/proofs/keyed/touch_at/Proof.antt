@@ -1,52 +1,35 @@
-use mathlib.Core.Path.{_≡_, sym, _∙_}
-use borrow.Author.Tests.{not-true, not-false}
+use mathlib.Core.Path.{sym, _∙_}
 use Rattle.cache.proofs.Touching.{touched-out, touched-kept}
 use borrow.Author.Needs.{needs}
 use Rattle.cache.proofs.keyed.touch_at.Statement.{statement}
 use Rattle.cache.proofs.keyed.touch_at.Tie as tie
-use Rattle.cache.proofs.keyed.touch_at.Reads as reads
-use Rattle.cache.proofs.keyed.touch_at.Lts as lts
-use Rattle.cache.proofs.keyed.refresh_at.Reads as refresh-at-reads
-use Rattle.cache.proofs.statistics.is_expired.Reads as is-expired-reads
-use Rattle.memory.proofs.row.path_len.Reads as path-len-reads
-use Rattle.memory.proofs.rows.remove_row.Reads as remove-row-reads
-use Rattle.raw.proofs.numbers.wide.Reads as wide-reads
 
--- src/keyed.rt:97:8
 is-expired-requires : tie.Need-is-expired-requires
 is-expired-requires c κs = search needs
 
--- src/keyed.rt:98:9
 remove-row-requires : tie.Need-remove-row-requires
 remove-row-requires c κs = search needs
 
--- src/keyed.rt:99:9
 same-length : tie.Need-same-length
 same-length c = search needs
 
--- src/keyed.rt:99:9
 returns : tie.Need-returns
 returns c =
     let s = c .before .before .before .before .before .before .before .before .args in
     touched-out (s .state .now) (s .n) (s .i) (s .time) (c .before .before .remove-row .last .0) (c .before .before .before .before .before .before .before .before .pre .0) (sym (c .before .before .before .before .before .is-expired .ensures) ∙ c .before .before .before .before .if1 .taken) (c .before .before .remove-row .ensures)
 
--- src/keyed.rt:101:34
 path-len-requires : tie.Need-path-len-requires
 path-len-requires c κs = search needs
 
--- src/keyed.rt:101:9
 wide-requires : tie.Need-wide-requires
 wide-requires c κs = search needs
 
--- src/keyed.rt:102:5
 refresh-at-requires : tie.Need-refresh-at-requires
 refresh-at-requires c κs = search needs
 
--- src/keyed.rt:93:1
 same-length-2 : tie.Need-same-length-2
 same-length-2 c = search needs
 
--- src/keyed.rt:93:1
 returns-2 : tie.Need-returns-2
 returns-2 c =
     let s = c .before .before .before .before .before .before .before .before .before .before .before .args in

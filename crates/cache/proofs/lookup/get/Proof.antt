@@ -1,4 +1,4 @@
-use mathlib.Core.Path.{_≡_, refl, sym, _∙_}
+use mathlib.Core.Path.{refl, sym, _∙_}
 use borrow.Author.Tests.{not-true, not-false}
 use Rattle.rules.specs.Calls.{Get}
 use Rattle.rules.proofs.MemoryLaws.{all-bytes}
@@ -8,28 +8,19 @@ use Rattle.cache.proofs.Looking.{get-done}
 use borrow.Author.Needs.{needs}
 use Rattle.cache.proofs.lookup.get.Statement.{statement}
 use Rattle.cache.proofs.lookup.get.Tie as tie
-use Rattle.cache.proofs.lookup.get.Reads as reads
-use Rattle.cache.proofs.lookup.get.Lts as lts
-use Rattle.cache.proofs.lookup.get_unchecked.Reads as get-unchecked-reads
-use Rattle.soundness.proofs.is_sound.Reads as is-sound-reads
 
--- src/lookup.rt:35:9
 is-sound-requires : tie.Need-is-sound-requires
 is-sound-requires c κs = search needs
 
--- src/lookup.rt:37:16
 sub-result : tie.Need-sub-result
 sub-result c = search needs
 
--- src/lookup.rt:37:16
 part-result-start : tie.Need-part-result-start
 part-result-start c = search needs
 
--- src/lookup.rt:37:16
 part-result-end : tie.Need-part-result-end
 part-result-end c = search needs
 
--- src/lookup.rt:37:9
 returns : tie.Need-returns
 returns c =
     let s = c .before .before .before .before in
@@ -37,11 +28,9 @@ returns c =
     let h = sym (c .before .before .is-sound .ensures) ∙ not-true _ (c .before .if1 .taken) in
     (one-got l (s .args .key) (s .args .time) h, one-numbered l (Get (s .args .key) (s .args .time)) h .0)
 
--- src/lookup.rt:40:5
 get-unchecked-requires : tie.Need-get-unchecked-requires
 get-unchecked-requires c κs = sym (c .before .is-sound .ensures) ∙ not-false _ (c .if1 .left)
 
--- src/lookup.rt:31:1
 returns-2 : tie.Need-returns-2
 returns-2 c =
     let s = c .before .before .before .before in

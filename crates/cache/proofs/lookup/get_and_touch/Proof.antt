@@ -1,7 +1,4 @@
-use mathlib.Core.Path.{_≡_, refl, sym, ap, _∙_}
-use mathlib.Core.List.{List}
-use Prim.Native.Nat.{ℕ}
-use Rattle.types.specs.declared.answers.TouchAnswer.{TouchAnswer}
+use mathlib.Core.Path.{sym, ap, _∙_}
 use Rattle.rules.specs.Lent.{gotPart}
 use Rattle.rules.proofs.Sizes.{small8}
 use Rattle.rules.proofs.MemoryLaws.{all-bytes}
@@ -10,36 +7,25 @@ use Rattle.cache.proofs.Looking.{touchNumber, finds, touch-number, touc
 use borrow.Author.Needs.{needs}
 use Rattle.cache.proofs.lookup.get_and_touch.Statement.{statement}
 use Rattle.cache.proofs.lookup.get_and_touch.Tie as tie
-use Rattle.cache.proofs.lookup.get_and_touch.Reads as reads
-use Rattle.cache.proofs.lookup.get_and_touch.Lts as lts
-use Rattle.cache.proofs.keyed.touch.Reads as touch-reads
-use Rattle.cache.proofs.lookup.get_unchecked.Reads as get-unchecked-reads
 
--- src/lookup.rt:51:9
 touch-requires : tie.Need-touch-requires
 touch-requires c κs = search needs
 
--- src/lookup.rt:54:30
 enum-known-answer : tie.Need-enum-known-answer
 enum-known-answer c = search needs
 
--- src/lookup.rt:56:13
 sub-result : tie.Need-sub-result
 sub-result c = search needs
 
--- src/lookup.rt:56:13
 part-result-start : tie.Need-part-result-start
 part-result-start c = search needs
 
--- src/lookup.rt:56:13
 part-result-end : tie.Need-part-result-end
 part-result-end c = search needs
 
--- src/lookup.rt:59:13
 enum-told : tie.Need-enum-told
 enum-told c = search needs
 
--- src/lookup.rt:60:13
 get-unchecked-requires : tie.Need-get-unchecked-requires
 unfolding finds
 get-unchecked-requires c κs =
@@ -47,23 +33,18 @@ get-unchecked-requires c κs =
     let l = s .args .state .now in
     touch-sound l (s .args .key) (s .args .time) (c .before .before .before .before .before .touch .result) _ (all-bytes l (λ i. c .before .before .before .before .before .before .before .slice-known .given i .fits)) (owned-addr (s .args .key) _ (s .good .1 .0), small8 (s .args .time) (s .fits .time .fits)) (c .before .before .before .before .before .touch .ensures .0) (ap finds (c .enum-told .given .1)) (c .before .before .before .before .before .touch .ensures .1)
 
--- src/lookup.rt:63:13
 enum-told-2 : tie.Need-enum-told-2
 enum-told-2 c = search needs
 
--- src/lookup.rt:64:13
 sub-result-2 : tie.Need-sub-result-2
 sub-result-2 c = search needs
 
--- src/lookup.rt:64:13
 part-result-start-2 : tie.Need-part-result-start-2
 part-result-start-2 c = search needs
 
--- src/lookup.rt:64:13
 part-result-end-2 : tie.Need-part-result-end-2
 part-result-end-2 c = search needs
 
--- src/lookup.rt:47:1
 returns : tie.Need-returns
 unfolding finds touchNumber
 returns c =
@@ -71,7 +52,6 @@ returns c =
     let l = s .args .state .now in
     (touch-nothing l (s .args .key) (s .args .time) (c .before .before .before .before .before .before .before .touch .result) (all-bytes l (λ i. c .before .before .before .before .before .before .before .before .before .slice-known .given i .fits)) (owned-addr (s .args .key) _ (s .good .1 .0), small8 (s .args .time) (s .fits .time .fits)) (c .before .before .before .before .before .before .before .touch .ensures .0) (ap finds (c .before .before .answer .given .1)), sym (ap touchNumber (c .before .before .answer .given .1)) ∙ touch-number l (s .args .key) (s .args .time) (c .before .before .before .before .before .before .before .touch .result) (c .before .before .before .before .before .before .before .touch .ensures .0))
 
--- src/lookup.rt:47:1
 returns-2 : tie.Need-returns-2
 unfolding touchNumber
 returns-2 c =
@@ -79,7 +59,6 @@ returns-2 c =
     let l = s .args .state .now in
     (c .get-unchecked .ensures ∙ ap (gotPart (s .args .key) (s .args .time)) (c .before .before .before .before .before .before .touch .ensures .1), sym (ap touchNumber (c .before .enum-told .given .1)) ∙ touch-number l (s .args .key) (s .args .time) (c .before .before .before .before .before .before .touch .result) (c .before .before .before .before .before .before .touch .ensures .0))
 
--- src/lookup.rt:47:1
 returns-3 : tie.Need-returns-3
 unfolding finds touchNumber
 returns-3 c =

@@ -1,4 +1,4 @@
-use mathlib.Core.Path.{_≡_, sym, _∙_}
+use mathlib.Core.Path.{sym, _∙_}
 use Rattle.rules.specs.Memory.{viewRows}
 use Rattle.rules.proofs.Public.{sound-memory}
 use Rattle.cache.proofs.Frame.{head-there, searchable, found-inside, found, missing}
@@ -6,42 +6,28 @@ use Rattle.cache.proofs.Looking.{got-absent, got-expired, got-held, pat
 use borrow.Author.Needs.{needs}
 use Rattle.cache.proofs.lookup.get_unchecked.Statement.{statement}
 use Rattle.cache.proofs.lookup.get_unchecked.Tie as tie
-use Rattle.cache.proofs.lookup.get_unchecked.Reads as reads
-use Rattle.cache.proofs.lookup.get_unchecked.Lts as lts
-use Rattle.cache.proofs.statistics.is_expired.Reads as is-expired-reads
-use Rattle.memory.proofs.head.row_count.Reads as row-count-reads
-use Rattle.paths.proofs.path.path_part.Reads as path-part-reads
-use Rattle.search.proofs.keys.search.Reads as search-reads
 
--- src/lookup.rt:17:13
 row-count-requires : tie.Need-row-count-requires
 row-count-requires c κs = head-there (c .before .args .state .now) (c .before .pre)
 
--- src/lookup.rt:18:9
 search-requires : tie.Need-search-requires
 search-requires c κs = searchable (c .before .before .args .state .now) (c .row-count .result) (c .before .before .pre) (c .row-count .ensures)
 
--- src/lookup.rt:20:20
 enum-known-at : tie.Need-enum-known-at
 enum-known-at c = search needs
 
--- src/lookup.rt:21:16
 is-expired-requires : tie.Need-is-expired-requires
 is-expired-requires c κs = found-inside (c .before .before .before .before .before .before .args .state .now) (c .before .before .before .before .row-count .result) (c .before .before .before .before .before .before .args .key) _ (c .before .before .before .search .result) (c .before .before .before .before .before .before .pre) (c .before .before .before .before .row-count .ensures) (c .before .before .before .search .ensures) (c .before .at .given .1)
 
--- src/lookup.rt:22:24
 sub-result : tie.Need-sub-result
 sub-result c = search needs
 
--- src/lookup.rt:22:24
 part-result-start : tie.Need-part-result-start
 part-result-start c = search needs
 
--- src/lookup.rt:22:24
 part-result-end : tie.Need-part-result-end
 part-result-end c = search needs
 
--- src/lookup.rt:22:17
 returns : tie.Need-returns
 returns c =
     let s = c .before .before .before .before .before .before .before .before .before in
@@ -49,7 +35,6 @@ returns c =
     let n = c .before .before .before .before .before .before .before .row-count .result in
     got-expired l n (s .args .key) (s .args .time) _ (s .pre) (sound-memory l n (s .pre) (c .before .before .before .before .before .before .before .row-count .ensures)) (found (s .args .key) (viewRows n l .rows) _ (c .before .before .before .before .before .before .search .result) (c .before .before .before .before .before .before .search .ensures) (c .before .before .before .before .at .given .1)) (sym (c .before .before .is-expired .ensures) ∙ c .before .if1 .taken)
 
--- src/lookup.rt:24:13
 path-part-requires : tie.Need-path-part-requires
 path-part-requires c κs =
     let s = c .before .before .before .before .before .before .before .before in
@@ -58,23 +43,18 @@ path-part-requires c κs =
     let p = found-inside l n (s .args .key) _ (c .before .before .before .before .before .search .result) (s .pre) (c .before .before .before .before .before .before .row-count .ensures) (c .before .before .before .before .before .search .ensures) (c .before .before .before .at .given .1) in
     (p .0, p .1, path-short l n _ (sound-memory l n (s .pre) (c .before .before .before .before .before .before .row-count .ensures)) (p .0))
 
--- src/lookup.rt:26:30
 enum-told : tie.Need-enum-told
 enum-told c = search needs
 
--- src/lookup.rt:26:30
 sub-result-2 : tie.Need-sub-result-2
 sub-result-2 c = search needs
 
--- src/lookup.rt:26:30
 part-result-start-2 : tie.Need-part-result-start-2
 part-result-start-2 c = search needs
 
--- src/lookup.rt:26:30
 part-result-end-2 : tie.Need-part-result-end-2
 part-result-end-2 c = search needs
 
--- src/lookup.rt:13:1
 returns-2 : tie.Need-returns-2
 returns-2 c =
     let s = c .before .before .before .before .before .before .before .before .before in
@@ -82,7 +62,6 @@ returns-2 c =
     let n = c .before .before .before .before .before .before .before .row-count .result in
     got-held l n (s .args .key) (s .args .time) _ _ (s .pre) (sound-memory l n (s .pre) (c .before .before .before .before .before .before .before .row-count .ensures)) (found (s .args .key) (viewRows n l .rows) _ (c .before .before .before .before .before .before .search .result) (c .before .before .before .before .before .before .search .ensures) (c .before .before .before .before .at .given .1)) (sym (c .before .before .is-expired .ensures) ∙ c .before .if1 .left) (c .path-part .ensures)
 
--- src/lookup.rt:13:1
 returns-3 : tie.Need-returns-3
 returns-3 c =
     let s = c .before .before .before .before .before .before in

@@ -1,4 +1,3 @@
-use mathlib.Core.Path.{_≡_}
 use Rattle.rules.specs.Memory.{viewRows}
 use Rattle.rules.proofs.MemoryLaws.{all-bytes}
 use Rattle.rules.proofs.Public.{sound-memory}
@@ -7,49 +6,33 @@ use Rattle.cache.proofs.Removing.{removed-at, removed-absent}
 use borrow.Author.Needs.{needs}
 use Rattle.cache.proofs.removal.remove_unchecked.Statement.{statement}
 use Rattle.cache.proofs.removal.remove_unchecked.Tie as tie
-use Rattle.cache.proofs.removal.remove_unchecked.Reads as reads
-use Rattle.cache.proofs.removal.remove_unchecked.Lts as lts
-use Rattle.cache.proofs.removal.blank_entry.Reads as blank-entry-reads
-use Rattle.memory.proofs.head.row_count.Reads as row-count-reads
-use Rattle.memory.proofs.rows.remove_row.Reads as remove-row-reads
-use Rattle.paths.proofs.entry.load_entry.Reads as load-entry-reads
-use Rattle.search.proofs.keys.search.Reads as search-reads
 
--- src/removal.rt:37:13
 row-count-requires : tie.Need-row-count-requires
 row-count-requires c κs = head-there (c .before .before .args .state .now) (c .before .before .pre)
 
--- src/removal.rt:38:9
 search-requires : tie.Need-search-requires
 search-requires c κs = searchable (c .before .before .before .before .args .state .now) (c .before .row-count .result) (c .before .before .before .before .pre) (c .before .row-count .ensures)
 
--- src/removal.rt:40:20
 enum-known-at : tie.Need-enum-known-at
 enum-known-at c = search needs
 
--- src/removal.rt:41:17
 load-entry-requires : tie.Need-load-entry-requires
 load-entry-requires c κs = found-inside (c .before .before .before .before .before .before .before .before .before .args .state .now) (c .before .before .before .before .before .before .row-count .result) (c .before .before .before .before .before .before .before .before .before .args .key) _ (c .before .before .before .before .search .result) (c .before .before .before .before .before .before .before .before .before .pre) (c .before .before .before .before .before .before .row-count .ensures) (c .before .before .before .before .search .ensures) (c .before .before .at .given .1)
 
--- src/removal.rt:42:13
 remove-row-requires : tie.Need-remove-row-requires
 remove-row-requires c κs =
     let p = found-inside (c .before .before .before .before .before .before .before .before .before .before .before .args .state .now) (c .before .before .before .before .before .before .before .before .row-count .result) (c .before .before .before .before .before .before .before .before .before .before .before .args .key) _ (c .before .before .before .before .before .before .search .result) (c .before .before .before .before .before .before .before .before .before .before .before .pre) (c .before .before .before .before .before .before .before .before .row-count .ensures) (c .before .before .before .before .before .before .search .ensures) (c .before .before .before .before .at .given .1) in
     (p .0, p .1, sound-memory (c .before .before .before .before .before .before .before .before .before .before .before .args .state .now) (c .before .before .before .before .before .before .before .before .row-count .result) (c .before .before .before .before .before .before .before .before .before .before .before .pre) (c .before .before .before .before .before .before .before .before .row-count .ensures) .sound .storedWeight)
 
--- src/removal.rt:49:22
 enum-told : tie.Need-enum-told
 enum-told c = search needs
 
--- src/removal.rt:50:20
 blank-entry-requires : tie.Need-blank-entry-requires
 blank-entry-requires c κs = search needs
 
--- src/removal.rt:33:1
 same-length : tie.Need-same-length
 same-length c = search needs
 
--- src/removal.rt:33:1
 returns : tie.Need-returns
 returns c =
     let s = c .before .before .before .before .before .before .before .before .before .before .before .before .before .before in
@@ -60,11 +43,9 @@ returns c =
     let d = removed-at l n (s .args .key) _ (c .before .before .before .before .load-entry .result) m (s .pre) (sound-memory l n (s .pre) (c .before .before .before .before .before .before .before .before .before .before .before .row-count .ensures)) (p .0) (found (s .args .key) (viewRows n l .rows) _ (c .before .before .before .before .before .before .before .before .before .search .result) (c .before .before .before .before .before .before .before .before .before .search .ensures) (c .before .before .before .before .before .before .before .at .given .1)) (all-bytes m (λ i. c .slice-known2 .given i .fits)) (c .before .before .remove-row .kept .0) (c .before .before .before .before .load-entry .ensures) (c .before .before .remove-row .ensures) in
     (d .says, d .entry, d .memory)
 
--- src/removal.rt:33:1
 same-length-2 : tie.Need-same-length-2
 same-length-2 c = search needs
 
--- src/removal.rt:33:1
 returns-2 : tie.Need-returns-2
 returns-2 c =
     let s = c .before .before .before .before .before .before .before .before in

@@ -1,10 +1,9 @@
-use mathlib.Core.Path.{_≡_, refl, sym, ap, _∙_}
+use mathlib.Core.Path.{_≡_}
 use mathlib.Core.Bool.{cond}
-use Prim.Native.Nat.{ℕ, _+_, _-_, _≤_, _<_}
+use Prim.Native.Nat.{_+_, _-_, _≤_}
 use native.Mathlib.Omega.{arith}
-use lib.ListN.{length, drop}
+use lib.ListN.{drop}
 use borrow.Author.Needs.{needs}
-use Rattle.rules.specs.Records.{Row}
 use Rattle.rules.specs.Rows.{total}
 use Rattle.rules.specs.Entries.{expired}
 use Rattle.rules.specs.Memory.{viewRows}
@@ -12,9 +11,6 @@ use Rattle.memory.proofs.RowLaws.{view-length}
 use Rattle.cache.proofs.Totals.{total-end, one-at-most, count-turn}
 use Rattle.cache.proofs.statistics.count_expired.Statement.{statement}
 use Rattle.cache.proofs.statistics.count_expired.Tie as tie
-use Rattle.cache.proofs.statistics.count_expired.Reads as reads
-use Rattle.cache.proofs.statistics.count_expired.Lts as lts
-use Rattle.cache.proofs.statistics.is_expired.Reads as is-expired-reads
 
 abbrev Inv-loop : tie.InvT-loop
 Inv-loop state n time count₀ i₀ count i = (i ≤ n) × (count ≤ i) × (count + total (λ x. cond (expired time (x .entry)) 1 0) (drop i (viewRows n state .rows)) ≡ total (λ x. cond (expired time (x .entry)) 1 0) (viewRows n state .rows))
@@ -22,40 +18,32 @@ Inv-loop state n time count₀ i₀ count i = (i ≤ n) × (count ≤ i) × (cou
 abbrev μ-loop : tie.MeasureT-loop
 μ-loop state n time count₀ i₀ count i = n - i
 
--- src/statistics.rt:28:5
 loop-holds : tie.Need-loop-holds Inv-loop μ-loop
 loop-holds c = search needs
 
--- src/statistics.rt:29:18
 is-expired-requires : tie.Need-is-expired-requires Inv-loop μ-loop
 is-expired-requires c κs = search needs
 
--- src/statistics.rt:29:18
 cast-count : tie.Need-cast-count Inv-loop μ-loop
 cast-count c = search needs
 
--- src/statistics.rt:29:9
 add-count : tie.Need-add-count Inv-loop μ-loop
 add-count c =
     let h = c .before .before .loop .inv .1 in
     omega (arith, one-at-most (c .is-expired .result), c .before .before .before .before .pre .0)
 
--- src/statistics.rt:30:9
 add-i : tie.Need-add-i Inv-loop μ-loop
 add-i c = search needs
 
--- src/statistics.rt:28:5
 loop-less : tie.Need-loop-less Inv-loop μ-loop
 loop-less c = search needs
 
--- src/statistics.rt:28:5
 loop-again : tie.Need-loop-again Inv-loop μ-loop
 loop-again c =
     let s = c .before .before .before .before .args in
     let v = c .before .before .loop .inv in
     (omega arith, omega (arith, v .1, one-at-most (c .is-expired .result)), count-turn (λ x. expired (s .time) (x .entry)) (c .before .before .loop .i) (c .before .before .loop .count) _ (c .is-expired .result) (viewRows (s .n) (s .state .now) .rows) (omega (arith, view-length (s .n) (s .state .now))) (c .is-expired .ensures) (v .2))
 
--- src/statistics.rt:22:1
 returns : tie.Need-returns Inv-loop μ-loop
 returns c =
     let s = c .before .before .before .args in

@@ -1,17 +1,11 @@
-use mathlib.Core.Path.{_≡_}
 use Rattle.rules.specs.Entries.{expired}
 use borrow.Author.Needs.{needs}
 use Rattle.cache.proofs.statistics.is_expired.Statement.{statement}
 use Rattle.cache.proofs.statistics.is_expired.Tie as tie
-use Rattle.cache.proofs.statistics.is_expired.Reads as reads
-use Rattle.cache.proofs.statistics.is_expired.Lts as lts
-use Rattle.memory.proofs.row.expires_at.Reads as expires-at-reads
 
--- src/statistics.rt:19:5
 expires-at-requires : tie.Need-expires-at-requires
 expires-at-requires c κs = search needs
 
--- src/statistics.rt:15:1
 returns : tie.Need-returns
 unfolding expired
 returns c = rw (c .expires-at .ensures)

@@ -1,19 +1,14 @@
-use mathlib.Core.Path.{_≡_, refl, sym, ap, _∙_}
-use Prim.Native.Nat.{ℕ, _+_, _-_, _≤_, _<_}
+use mathlib.Core.Path.{_≡_}
+use Prim.Native.Nat.{_-_}
 use native.Mathlib.Omega.{arith}
-use lib.ListN.{length, drop}
+use lib.ListN.{drop}
 use borrow.Author.Needs.{needs}
-use Rattle.rules.specs.Records.{Row}
 use Rattle.rules.specs.Rows.{total}
 use Rattle.rules.specs.Memory.{viewRows}
 use Rattle.rules.specs.Statistics.{totalAge, mean}
-use Rattle.memory.proofs.RowLaws.{view-length}
 use Rattle.cache.proofs.Totals.{Mean, mean-start, mean-fits, quotients-fit, age-turn, ages-end}
 use Rattle.cache.proofs.statistics.mean_age.Statement.{statement}
 use Rattle.cache.proofs.statistics.mean_age.Tie as tie
-use Rattle.cache.proofs.statistics.mean_age.Reads as reads
-use Rattle.cache.proofs.statistics.mean_age.Lts as lts
-use Rattle.cache.proofs.statistics.age.Reads as age-reads
 
 abbrev Inv-loop : tie.InvT-loop
 Inv-loop state n time count quotients₀ remainders₀ i₀ quotients remainders i = (count ≡ n) × Mean n i quotients remainders (total (λ x. time - x .entry .createdAt) (drop i (viewRows n state .rows))) (total (λ x. time - x .entry .createdAt) (viewRows n state .rows))
@@ -21,29 +16,24 @@ Inv-loop state n time count quotients₀ remainders₀ i₀ quotients remainders
 abbrev μ-loop : tie.MeasureT-loop
 μ-loop state n time count quotients₀ remainders₀ i₀ quotients remainders i = n - i
 
--- src/statistics.rt:50:9
 returns : tie.Need-returns Inv-loop μ-loop
 unfolding mean
 returns c =
     let e : c .before .before .args .n ≡ 0 = c .if1 .taken in
     rw e
 
--- src/statistics.rt:56:5
 loop-holds : tie.Need-loop-holds Inv-loop μ-loop
 unfolding totalAge
 loop-holds c =
     let s = c .before .before .args in
     (search needs, mean-start (s .n) _ (omega arith))
 
--- src/statistics.rt:57:13
 age-requires : tie.Need-age-requires Inv-loop μ-loop
 age-requires c κs = search needs
 
--- src/statistics.rt:58:22
 div-quotients : tie.Need-div-quotients Inv-loop μ-loop
 div-quotients c = search needs
 
--- src/statistics.rt:58:9
 add-quotients : tie.Need-add-quotients Inv-loop μ-loop
 add-quotients c =
     let s = c .before .before .before .before .before .args in
@@ -51,11 +41,9 @@ add-quotients c =
     let t = age-turn (s .state .now) (s .n) (c .before .before .loop .i) (c .before .before .loop .quotients) (c .before .before .loop .remainders) (c .age .result) (s .time) (c .before .before .before .before .before .pre .0) (omega arith) (c .before .before .before .before .before .fits .time .fits) (c .age .ensures) (c .before .before .loop .inv .1) in
     rw e (omega (arith, quotients-fit (s .n) _ _ _ _ _ t))
 
--- src/statistics.rt:59:23
 rem-remainders : tie.Need-rem-remainders Inv-loop μ-loop
 rem-remainders c = search needs
 
--- src/statistics.rt:59:9
 add-remainders : tie.Need-add-remainders Inv-loop μ-loop
 add-remainders c =
     let s = c .before .before .before .before .before .args in
@@ -63,15 +51,12 @@ add-remainders c =
     let t = age-turn (s .state .now) (s .n) (c .before .before .loop .i) (c .before .before .loop .quotients) (c .before .before .loop .remainders) (c .age .result) (s .time) (c .before .before .before .before .before .pre .0) (omega arith) (c .before .before .before .before .before .fits .time .fits) (c .age .ensures) (c .before .before .loop .inv .1) in
     rw e (omega (arith, t .small, c .before .before .before .before .before .pre .0))
 
--- src/statistics.rt:60:9
 add-i : tie.Need-add-i Inv-loop μ-loop
 add-i c = omega (arith, c .before .before .loop .inv .1 .within)
 
--- src/statistics.rt:56:5
 loop-less : tie.Need-loop-less Inv-loop μ-loop
 loop-less c = search needs
 
--- src/statistics.rt:56:5
 loop-again : tie.Need-loop-again Inv-loop μ-loop
 loop-again c =
     let s = c .before .before .before .before .before .args in
@@ -79,11 +64,9 @@ loop-again c =
     let e = c .before .before .loop .inv .0 in
     (e, rw e (age-turn (s .state .now) (s .n) (c .before .before .loop .i) (c .before .before .loop .quotients) (c .before .before .loop .remainders) (c .age .result) (s .time) (c .before .before .before .before .before .pre .0) (omega arith) (c .before .before .before .before .before .fits .time .fits) (c .age .ensures) v))
 
--- src/statistics.rt:62:17
 div-result : tie.Need-div-result Inv-loop μ-loop
 div-result c = search needs
 
--- src/statistics.rt:62:5
 add-result : tie.Need-add-result Inv-loop μ-loop
 add-result c =
     let s = c .before .before .before .before .args in
@@ -92,7 +75,6 @@ add-result c =
     let k : c .before .loop .i ≡ s .n = omega (arith, v .within) in
     rw e (omega (arith, mean-fits (s .n) (c .before .loop .quotients) (c .before .loop .remainders) _ _ (rw k at v)))
 
--- src/statistics.rt:45:1
 returns-2 : tie.Need-returns-2 Inv-loop μ-loop
 returns-2 c =
     let s = c .before .before .before .before .args in

@@ -1,8 +1,8 @@
-use mathlib.Core.Path.{_≡_, refl, sym, ap, _∙_}
-use mathlib.Core.Option.{some, none}
-use Prim.Native.Nat.{ℕ, _+_, _-_, _≤_, _<_, min}
+use mathlib.Core.Path.{_≡_, sym, ap, _∙_}
+use mathlib.Core.Option.{some}
+use Prim.Native.Nat.{ℕ, _+_, _-_, _<_, min}
 use native.Mathlib.Omega.{arith}
-use lib.ListN.{length, drop}
+use lib.ListN.{drop}
 use borrow.Author.Needs.{needs}
 use Rattle.rules.specs.Calls.{ExpiryGiven}
 use Rattle.rules.specs.Statistics.{nextExpiry}
@@ -12,10 +12,6 @@ use Rattle.memory.proofs.RowLaws.{view-length}
 use Rattle.cache.proofs.Totals.{expiry-none, expiry-last, expiry-turn}
 use Rattle.cache.proofs.statistics.next_expiry_of.Statement.{statement}
 use Rattle.cache.proofs.statistics.next_expiry_of.Tie as tie
-use Rattle.cache.proofs.statistics.next_expiry_of.Reads as reads
-use Rattle.cache.proofs.statistics.next_expiry_of.Lts as lts
-use Rattle.cache.proofs.statistics.lesser.Reads as lesser-reads
-use Rattle.memory.proofs.row.expires_at.Reads as expires-at-reads
 
 abbrev Inv-loop : tie.InvT-loop
 Inv-loop state n i₀ soonest₀ i soonest = (i < n) × (nextExpiry (drop i (viewRows n state .rows)) ≡ some soonest)
@@ -23,7 +19,6 @@ Inv-loop state n i₀ soonest₀ i soonest = (i < n) × (nextExpiry (drop i (vie
 abbrev μ-loop : tie.MeasureT-loop
 μ-loop state n i₀ soonest₀ i soonest = i
 
--- src/statistics.rt:96:9
 returns : tie.Need-returns Inv-loop μ-loop
 unfolding expirySaid
 returns c =
@@ -31,37 +26,29 @@ returns c =
     let e : s .n ≡ 0 = c .if1 .taken in
     rw e (ap ExpiryGiven (sym (expiry-none (s .state .now))))
 
--- src/statistics.rt:98:17
 sub-i : tie.Need-sub-i Inv-loop μ-loop
 sub-i c = search needs
 
--- src/statistics.rt:99:9
 expires-at-requires : tie.Need-expires-at-requires Inv-loop μ-loop
 expires-at-requires c κs = search needs
 
--- src/statistics.rt:100:5
 loop-holds : tie.Need-loop-holds Inv-loop μ-loop
 loop-holds c =
     let s = c .before .before .before .args in
     (omega arith, expiry-last (s .n - 1) (viewRows (s .n) (s .state .now) .rows) (omega (arith, view-length (s .n) (s .state .now))) ∙ ap some (sym (c .expires-at .ensures)))
 
--- src/statistics.rt:101:9
 sub-i-2 : tie.Need-sub-i-2 Inv-loop μ-loop
 sub-i-2 c = search needs
 
--- src/statistics.rt:102:26
 expires-at-requires-2 : tie.Need-expires-at-requires-2 Inv-loop μ-loop
 expires-at-requires-2 c κs = search needs
 
--- src/statistics.rt:102:9
 lesser-requires : tie.Need-lesser-requires Inv-loop μ-loop
 lesser-requires c κs = search needs
 
--- src/statistics.rt:100:5
 loop-less : tie.Need-loop-less Inv-loop μ-loop
 loop-less c = search needs
 
--- src/statistics.rt:100:5
 loop-again : tie.Need-loop-again Inv-loop μ-loop
 loop-again c =
     let s = c .before .before .before .before .before .before .before .args in
@@ -70,7 +57,6 @@ loop-again c =
     let e : l .i - 1 + 1 ≡ l .i = omega arith in
     (omega arith, expiry-turn (l .i - 1) (l .soonest) rs (omega (arith, view-length (s .n) (s .state .now))) (rw e (l .inv .1)) ∙ ap (λ (x : ℕ). some (min x (l .soonest))) (sym (c .before .expires-at2 .ensures)) ∙ ap some (sym (c .lesser .ensures)))
 
--- src/statistics.rt:91:1
 returns-2 : tie.Need-returns-2 Inv-loop μ-loop
 unfolding expirySaid
 returns-2 c =

@@ -4,20 +4,13 @@ use Rattle.cache.proofs.Frame.{head-there}
 use Rattle.cache.proofs.Asking.{expiry-done}
 use Rattle.cache.proofs.statistics.next_expiry_unchecked.Statement.{statement}
 use Rattle.cache.proofs.statistics.next_expiry_unchecked.Tie as tie
-use Rattle.cache.proofs.statistics.next_expiry_unchecked.Reads as reads
-use Rattle.cache.proofs.statistics.next_expiry_unchecked.Lts as lts
-use Rattle.cache.proofs.statistics.next_expiry_of.Reads as next-expiry-of-reads
-use Rattle.memory.proofs.head.row_count.Reads as row-count-reads
 
--- src/statistics.rt:121:13
 row-count-requires : tie.Need-row-count-requires
 row-count-requires c κs = head-there (c .before .args .state .now) (c .before .pre)
 
--- src/statistics.rt:122:5
 next-expiry-of-requires : tie.Need-next-expiry-of-requires
 next-expiry-of-requires c κs = sound-memory (c .before .before .args .state .now) (c .row-count .result) (c .before .before .pre) (c .row-count .ensures) .long
 
--- src/statistics.rt:117:1
 returns : tie.Need-returns
 returns c =
     let l = c .before .before .before .args .state .now in

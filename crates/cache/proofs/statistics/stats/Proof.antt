@@ -1,4 +1,4 @@
-use mathlib.Core.Path.{_≡_, sym, _∙_}
+use mathlib.Core.Path.{sym, _∙_}
 use borrow.Author.Tests.{not-true, not-false}
 use Rattle.rules.specs.Calls.{Stats}
 use Rattle.rules.specs.Answers.{statsSaid}
@@ -6,27 +6,19 @@ use Rattle.cache.proofs.Refusing.{one-said}
 use borrow.Author.Needs.{needs}
 use Rattle.cache.proofs.statistics.stats.Statement.{statement}
 use Rattle.cache.proofs.statistics.stats.Tie as tie
-use Rattle.cache.proofs.statistics.stats.Reads as reads
-use Rattle.cache.proofs.statistics.stats.Lts as lts
-use Rattle.cache.proofs.statistics.stats_unchecked.Reads as stats-unchecked-reads
-use Rattle.soundness.proofs.is_sound.Reads as is-sound-reads
 
--- src/statistics.rt:128:9
 is-sound-requires : tie.Need-is-sound-requires
 is-sound-requires c κs = search needs
 
--- src/statistics.rt:129:9
 returns : tie.Need-returns
 unfolding statsSaid
 returns c =
     let s = c .before .before .before in
     one-said (s .args .state .now) (Stats (s .args .time)) (sym (c .before .is-sound .ensures) ∙ not-true _ (c .if1 .taken)) .0
 
--- src/statistics.rt:131:5
 stats-unchecked-requires : tie.Need-stats-unchecked-requires
 stats-unchecked-requires c κs = sym (c .before .is-sound .ensures) ∙ not-false _ (c .if1 .left)
 
--- src/statistics.rt:125:1
 returns-2 : tie.Need-returns-2
 returns-2 c = search needs
 

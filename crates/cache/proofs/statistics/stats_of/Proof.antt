@@ -1,4 +1,4 @@
-use mathlib.Core.Path.{_≡_, sym, _∙_}
+use mathlib.Core.Path.{_∙_}
 use Rattle.rules.specs.Statistics.{stats}
 use Rattle.rules.specs.Lookups.{matching}
 use Rattle.memory.proofs.Fields.{same-head}
@@ -6,25 +6,16 @@ use Rattle.memory.proofs.RowLaws.{view-length}
 use borrow.Author.Needs.{needs}
 use Rattle.cache.proofs.statistics.stats_of.Statement.{statement}
 use Rattle.cache.proofs.statistics.stats_of.Tie as tie
-use Rattle.cache.proofs.statistics.stats_of.Reads as reads
-use Rattle.cache.proofs.statistics.stats_of.Lts as lts
-use Rattle.cache.proofs.statistics.count_expired.Reads as count-expired-reads
-use Rattle.cache.proofs.statistics.mean_age.Reads as mean-age-reads
-use Rattle.memory.proofs.head.max_entries.Reads as max-entries-reads
 
--- src/statistics.rt:70:9
 max-entries-requires : tie.Need-max-entries-requires
 max-entries-requires c κs = search needs
 
--- src/statistics.rt:71:9
 count-expired-requires : tie.Need-count-expired-requires
 count-expired-requires c κs = search needs
 
--- src/statistics.rt:72:9
 mean-age-requires : tie.Need-mean-age-requires
 mean-age-requires c κs = search needs
 
--- src/statistics.rt:66:1
 returns : tie.Need-returns
 unfolding stats matching
 returns c =

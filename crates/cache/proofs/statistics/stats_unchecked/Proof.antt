@@ -4,22 +4,15 @@ use Rattle.cache.proofs.Frame.{head-there}
 use Rattle.cache.proofs.Asking.{stats-done}
 use Rattle.cache.proofs.statistics.stats_unchecked.Statement.{statement}
 use Rattle.cache.proofs.statistics.stats_unchecked.Tie as tie
-use Rattle.cache.proofs.statistics.stats_unchecked.Reads as reads
-use Rattle.cache.proofs.statistics.stats_unchecked.Lts as lts
-use Rattle.cache.proofs.statistics.stats_of.Reads as stats-of-reads
-use Rattle.memory.proofs.head.row_count.Reads as row-count-reads
 
--- src/statistics.rt:113:13
 row-count-requires : tie.Need-row-count-requires
 row-count-requires c κs = head-there (c .before .args .state .now) (c .before .pre)
 
--- src/statistics.rt:114:24
 stats-of-requires : tie.Need-stats-of-requires
 stats-of-requires c κs =
     let s = sound-memory (c .before .before .args .state .now) (c .row-count .result) (c .before .before .pre) (c .row-count .ensures) in
     (s .few, s .long)
 
--- src/statistics.rt:109:1
 returns : tie.Need-returns
 returns c =
     let l = c .before .before .before .args .state .now in

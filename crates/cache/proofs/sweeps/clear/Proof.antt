@@ -1,38 +1,28 @@
-use mathlib.Core.Path.{_≡_, sym, _∙_}
+use mathlib.Core.Path.{sym, _∙_}
 use borrow.Author.Tests.{not-true, not-false}
 use Rattle.rules.specs.Calls.{Clear}
 use Rattle.cache.proofs.Refusing.{one-numbered}
 use borrow.Author.Needs.{needs}
 use Rattle.cache.proofs.sweeps.clear.Statement.{statement}
 use Rattle.cache.proofs.sweeps.clear.Tie as tie
-use Rattle.cache.proofs.sweeps.clear.Reads as reads
-use Rattle.cache.proofs.sweeps.clear.Lts as lts
-use Rattle.cache.proofs.sweeps.clear_unchecked.Reads as clear-unchecked-reads
-use Rattle.soundness.proofs.is_sound.Reads as is-sound-reads
 
--- src/sweeps.rt:157:9
 is-sound-requires : tie.Need-is-sound-requires
 is-sound-requires c κs = search needs
 
--- src/sweeps.rt:158:9
 same-length : tie.Need-same-length
 same-length c = search needs
 
--- src/sweeps.rt:158:9
 returns : tie.Need-returns
 returns c =
     let s = c .before .before .before .before in
     one-numbered (s .args .state .now) Clear (sym (c .before .is-sound .ensures) ∙ not-true _ (c .if1 .taken))
 
--- src/sweeps.rt:160:5
 clear-unchecked-requires : tie.Need-clear-unchecked-requires
 clear-unchecked-requires c κs = sym (c .before .before .is-sound .ensures) ∙ not-false _ (c .before .if1 .left)
 
--- src/sweeps.rt:154:1
 same-length-2 : tie.Need-same-length-2
 same-length-2 c = search needs
 
--- src/sweeps.rt:154:1
 returns-2 : tie.Need-returns-2
 returns-2 c = search needs
 

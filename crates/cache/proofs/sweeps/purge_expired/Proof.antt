@@ -1,4 +1,4 @@
-use mathlib.Core.Path.{_≡_, sym, _∙_}
+use mathlib.Core.Path.{sym, _∙_}
 use borrow.Author.Tests.{not-true, not-false}
 use Rattle.rules.specs.Calls.{PurgeExpired}
 use Rattle.cache.proofs.Refusing.{one-said}
@@ -6,35 +6,25 @@ use Rattle.rules.specs.Answers.{sweepSaid}
 use borrow.Author.Needs.{needs}
 use Rattle.cache.proofs.sweeps.purge_expired.Statement.{statement}
 use Rattle.cache.proofs.sweeps.purge_expired.Tie as tie
-use Rattle.cache.proofs.sweeps.purge_expired.Reads as reads
-use Rattle.cache.proofs.sweeps.purge_expired.Lts as lts
-use Rattle.cache.proofs.sweeps.purge_expired_unchecked.Reads as purge-expired-unchecked-reads
-use Rattle.soundness.proofs.is_sound.Reads as is-sound-reads
 
--- src/sweeps.rt:166:9
 is-sound-requires : tie.Need-is-sound-requires
 is-sound-requires c κs = search needs
 
--- src/sweeps.rt:167:9
 same-length : tie.Need-same-length
 same-length c = search needs
 
--- src/sweeps.rt:167:9
 returns : tie.Need-returns
 unfolding sweepSaid
 returns c =
     let s = c .before .before .before .before in
     one-said (s .args .state .now) (PurgeExpired (s .args .time)) (sym (c .before .is-sound .ensures) ∙ not-true _ (c .if1 .taken))
 
--- src/sweeps.rt:169:5
 purge-expired-unchecked-requires : tie.Need-purge-expired-unchecked-requires
 purge-expired-unchecked-requires c κs = sym (c .before .before .is-sound .ensures) ∙ not-false _ (c .before .if1 .left)
 
--- src/sweeps.rt:163:1
 same-length-2 : tie.Need-same-length-2
 same-length-2 c = search needs
 
--- src/sweeps.rt:163:1
 returns-2 : tie.Need-returns-2
 returns-2 c = search needs
 

@@ -2,33 +2,22 @@ use Rattle.cache.proofs.Sweeping.{swept}
 use borrow.Author.Needs.{needs}
 use Rattle.cache.proofs.sweeps.sweep_rows.Statement.{statement}
 use Rattle.cache.proofs.sweeps.sweep_rows.Tie as tie
-use Rattle.cache.proofs.sweeps.sweep_rows.Reads as reads
-use Rattle.cache.proofs.sweeps.sweep_rows.Lts as lts
-use Rattle.cache.proofs.sweeps.keep_rows.Reads as keep-rows-reads
-use Rattle.cache.proofs.sweeps.weight_of.Reads as weight-of-reads
-use Rattle.memory.proofs.rows.shrink.Reads as shrink-reads
 
--- src/sweeps.rt:123:9
 keep-rows-requires : tie.Need-keep-rows-requires
 keep-rows-requires c κs = search needs
 
--- src/sweeps.rt:124:9
 weight-of-requires : tie.Need-weight-of-requires
 weight-of-requires c κs = search needs
 
--- src/sweeps.rt:125:5
 shrink-requires : tie.Need-shrink-requires
 shrink-requires c κs = search needs
 
--- src/sweeps.rt:126:6
 sub-result : tie.Need-sub-result
 sub-result c = search needs
 
--- src/sweeps.rt:119:1
 same-length : tie.Need-same-length
 same-length c = search needs
 
--- src/sweeps.rt:119:1
 returns : tie.Need-returns
 returns c =
     let s = c .before .before .before .before .before .before .before .before .before .before .before .args in

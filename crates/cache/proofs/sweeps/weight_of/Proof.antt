@@ -1,19 +1,15 @@
-use mathlib.Core.Path.{_≡_, refl, sym, ap, _∙_}
+use mathlib.Core.Path.{_≡_}
 use mathlib.Core.Bool.{cond}
-use Prim.Native.Nat.{ℕ, _+_, _*_, _-_, _≤_, _<_}
+use Prim.Native.Nat.{_+_, _*_, _-_, _≤_}
 use native.Mathlib.Omega.{arith}
-use lib.ListN.{length, drop}
+use lib.ListN.{drop}
 use borrow.Author.Needs.{needs}
-use Rattle.rules.specs.Records.{Row}
-use Rattle.rules.specs.Rows.{rowAt, total, inMain}
+use Rattle.rules.specs.Rows.{total, inMain}
 use Rattle.rules.specs.Memory.{viewRows}
 use Rattle.memory.proofs.RowLaws.{view-length}
 use Rattle.cache.proofs.Totals.{total-next, total-end}
 use Rattle.cache.proofs.sweeps.weight_of.Statement.{statement}
 use Rattle.cache.proofs.sweeps.weight_of.Tie as tie
-use Rattle.cache.proofs.sweeps.weight_of.Reads as reads
-use Rattle.cache.proofs.sweeps.weight_of.Lts as lts
-use Rattle.cache.proofs.sweeps.weight_in_main.Reads as weight-in-main-reads
 
 abbrev Inv-loop : tie.InvT-loop
 Inv-loop state n sum₀ i₀ sum i = (i ≤ n) × (sum ≤ i * 256) × (sum + total (λ x. cond (inMain x) (x .weight) 0) (drop i (viewRows n state .rows)) ≡ total (λ x. cond (inMain x) (x .weight) 0) (viewRows n state .rows))
@@ -21,36 +17,29 @@ Inv-loop state n sum₀ i₀ sum i = (i ≤ n) × (sum ≤ i * 256) × (sum + to
 abbrev μ-loop : tie.MeasureT-loop
 μ-loop state n sum₀ i₀ sum i = n - i
 
--- src/sweeps.rt:111:5
 loop-holds : tie.Need-loop-holds Inv-loop μ-loop
 loop-holds c = search needs
 
--- src/sweeps.rt:112:16
 weight-in-main-requires : tie.Need-weight-in-main-requires Inv-loop μ-loop
 weight-in-main-requires c κs = search needs
 
--- src/sweeps.rt:112:9
 add-sum : tie.Need-add-sum Inv-loop μ-loop
 add-sum c =
     let h = c .before .before .loop .inv .1 in
     omega (arith, c .weight-in-main .ensures .1, c .before .before .before .before .pre .0)
 
--- src/sweeps.rt:113:9
 add-i : tie.Need-add-i Inv-loop μ-loop
 add-i c = search needs
 
--- src/sweeps.rt:111:5
 loop-less : tie.Need-loop-less Inv-loop μ-loop
 loop-less c = search needs
 
--- src/sweeps.rt:111:5
 loop-again : tie.Need-loop-again Inv-loop μ-loop
 loop-again c =
     let s = c .before .before .before .before .args in
     let v = c .before .before .loop .inv in
     (omega arith, omega (arith, v .1, c .weight-in-main .ensures .1), omega (arith, total-next (λ x. cond (inMain x) (x .weight) 0) (c .before .before .loop .i) (viewRows (s .n) (s .state .now) .rows) (omega (arith, view-length (s .n) (s .state .now))), c .weight-in-main .ensures .0, v .2))
 
--- src/sweeps.rt:105:1
 returns : tie.Need-returns Inv-loop μ-loop
 returns c =
     let s = c .before .before .before .args in
