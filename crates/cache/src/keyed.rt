@@ -22,7 +22,7 @@ ghost use Rattle.cache.specs.Steps.{demotedAt, touchedAt, touchSays};
 const LAST_SEQ: u64 = 18446744073709547519;
 
 // Sums of times stop at 2^64 − 1.
-pub fn add_times(a: u64, b: u64) -> u64
+fn add_times(a: u64, b: u64) -> u64
     ensures { λ r. ⌜ r ≡ addTimes a b ⌝ }
 {
     if 18446744073709551615 - a < b {

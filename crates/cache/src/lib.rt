@@ -1,4 +1,4 @@
-// The coordinate cache: every public call, on lent memory in any condition.
+// The coordinate cache: the calls that need no eviction, on lent memory in any condition.
 pub mod fresh;
 pub mod keyed;
 pub mod lookup;

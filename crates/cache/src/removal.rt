@@ -16,7 +16,7 @@ ghost use Rattle.rules.specs.Memory.{capacity, view};
 ghost use Rattle.rules.specs.Lent.{call};
 
 // The entry beside a removal that removed nothing.
-pub fn blank_entry() -> CacheEntry
+fn blank_entry() -> CacheEntry
     ensures { λ r. ⌜ r ≡ blankEntry ⌝ }
 {
     CacheEntry {

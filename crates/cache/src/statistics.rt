@@ -68,7 +68,7 @@ fn mean_age(state: &[u8], n: usize, time: u64) -> u64
 }
 
 // Statistics of n rows.
-pub fn stats_of(state: &[u8], n: usize, time: u64) -> CacheStats
+fn stats_of(state: &[u8], n: usize, time: u64) -> CacheStats
     requires { ⌜ (n ≤ 1024) × (headSize + n * rowSize ≤ length (now state)) ⌝ }
     ensures { λ r. ⌜ r ≡ stats time (viewRows n (now (state .entry))) ⌝ }
 {
@@ -90,7 +90,7 @@ fn lesser(a: u64, b: u64) -> u64
 }
 
 // The smallest expires_at of n rows, from the last row to the first.
-pub fn next_expiry_of(state: &[u8], n: usize) -> ExpiryAnswer
+fn next_expiry_of(state: &[u8], n: usize) -> ExpiryAnswer
     requires { ⌜ headSize + n * rowSize ≤ length (now state) ⌝ }
     ensures { λ r. ⌜ expirySaid r ≡ ExpiryGiven (nextExpiry (viewRows n (now (state .entry)) .rows)) ⌝ }
 {

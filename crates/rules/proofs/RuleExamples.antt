@@ -1,4 +1,4 @@
--- Closed examples of entries, room, placement, sweeps and statistics, with figures worked out from document 01.
+-- Closed examples of entries, room, placement, sweeps and statistics. tests/branches.txt has a list of the same name for each that the original can be asked.
 use mathlib.Core.Path.{_≡_, refl}
 use mathlib.Core.List.{[], _∷_, _++_, map}
 use mathlib.Core.Option.{none, some}
