@@ -1,4 +1,3 @@
-pub mod Owned
 pub mod Runs
 pub mod PathLaws
 pub mod RowImage

@@ -1,4 +1,5 @@
-// A whole row written from values, and inserted among the rows.
+// A whole row written from values or from saved bytes, and inserted among the rows.
 pub mod insert;
 pub mod row;
+pub mod saved;
 pub mod values;

@@ -16,7 +16,7 @@ use Rattle.rules.specs.Lent.{Small}
 use Rattle.rules.proofs.ViewLaws.{num-le, length-le}
 use Rattle.rules.specs.Entries.{markHint, dropMtu}
 use Rattle.raw.proofs.StoreLaws.{take-sets-le, drop-sets-ge, take-sets-in, drop-sets-add, sets-more, cut-else, cut-same, cut-cut}
-use Rattle.memory.specs.Edits.{withSeq, withStoredWeight, withRowCount, stampedAs, withTimes}
+use Rattle.memory.specs.Edits.{withSeq, withStoredWeight, withRowCount, stampedAs, withWeight, withTimes}
 
 -- ---- what is read of a row
 
@@ -220,6 +220,18 @@ stamp-view l n i p f q hp hf hq h k =
     ∙ ap (λ (rs : List Row). withRows (changeRow g2 i rs) (withRows (changeRow g1 i (viewRows n l .rows)) (viewRows n l))) (rows-of (changeRow g1 i (viewRows n l .rows)) (viewRows n l))
     ∙ with-twice (changeRow g1 i (viewRows n l .rows)) (changeRow g2 i (changeRow g1 i (viewRows n l .rows))) (viewRows n l)
     ∙ ap (λ (rs : List Row). withRows rs (viewRows n l)) (change-twice g1 g2 i (viewRows n l .rows) ∙ change-same (λ r. g2 (g1 r)) (stampedAs p f q) (λ r. stamped-twice p f q r) i (viewRows n l .rows)))
+
+weight-row : (w : ℕ) → Small 1 w → (c : List ℕ) → length c ≡ 1095 → rowOf (sets c 1094 (leBytes 1 w)) ≡ withWeight w (rowOf c)
+unfolding rowOf withWeight
+weight-row w hw c h =
+    let vs : List ℕ = leBytes 1 w in
+    let n : length vs ≡ 1 = length-le 1 w in
+    let s : cut 1094 1 (sets c 1094 vs) ≡ vs = rw n at (cut-same c vs 1094 (omega arith)) in
+    let b : (k m : ℕ) → k + m ≤ 1094 → cut k m (sets c 1094 vs) ≡ cut k m c = λ k m q. cut-else c vs 1094 k m (inl q) in
+    rw (b 0 16 (omega arith), b 16 1061 (omega arith), b 1077 1 (omega arith), b 1078 8 (omega arith), b 1086 8 (omega arith), s, num-le 1 w hw)
+
+pub weight-view : (l : List ℕ) (n i w : ℕ) → Small 1 w → i < n → 40 + n * 1095 ≤ length l → viewRows n (sets l (40 + i * 1095 + 1094) (leBytes 1 w)) ≡ withRows (changeRow (withWeight w) i (viewRows n l .rows)) (viewRows n l)
+weight-view l n i w hw h k = row-store (withWeight w) 1094 (leBytes 1 w) (omega (arith, length-le 1 w)) (weight-row w hw) n i l h k
 
 -- ---- the head
 

@@ -20,6 +20,9 @@ withRowCount v s = record { maxEntries = s .maxEntries; defaultTtl = s .defaultT
 unfoldable pub stampedAs : ℕ → ℕ → ℕ → Row → Row
 stampedAs p f q r = record { key = r .key; entry = r .entry; place = p; stampFirst = f; stampSeq = q; weight = r .weight }
 
+unfoldable pub withWeight : ℕ → Row → Row
+withWeight w r = record { key = r .key; entry = r .entry; place = r .place; stampFirst = r .stampFirst; stampSeq = r .stampSeq; weight = w }
+
 unfoldable pub withTimes : ℕ → ℕ → Entry → Entry
 withTimes used expires e = record { path = e .path; createdAt = e .createdAt; lastUsed = used; expiresAt = expires; mtuMark = e .mtuMark; mtu = e .mtu; source = e .source; verifiedUntil = e .verifiedUntil }
 

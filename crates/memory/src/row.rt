@@ -8,7 +8,7 @@ ghost use Rattle.rules.specs.Rows.{rowSize, rowAt, changeRow, withRows};
 ghost use Rattle.rules.specs.Entries.{markHint, dropMtu};
 ghost use Rattle.rules.specs.Lookups.{rewrite};
 ghost use Rattle.rules.specs.Memory.{headSize, viewRows};
-ghost use Rattle.memory.specs.Edits.{stampedAs, withTimes};
+ghost use Rattle.memory.specs.Edits.{stampedAs, withWeight, withTimes};
 
 pub fn path_len(state: &[u8], n: usize, i: usize) -> u8
     requires { ⌜ (i < n) × (headSize + n * rowSize ≤ length (now state)) ⌝ }
@@ -129,4 +129,11 @@ pub fn set_stamp(state: &mut [u8], n: usize, i: usize, place: u8, first: u64, se
     raw::numbers::write_u8(state, HEAD + i * ROW + 1077, place);
     raw::numbers::write_u64(state, HEAD + i * ROW + 1078, first);
     raw::numbers::write_u64(state, HEAD + i * ROW + 1086, seq);
+}
+
+pub fn set_weight(state: &mut [u8], n: usize, i: usize, weight: u8)
+    requires { ⌜ (i < n) × (headSize + n * rowSize ≤ length (now state)) ⌝ }
+    ensures { λ _. ⌜ viewRows n (now (state .exit)) ≡ withRows (changeRow (withWeight weight) i (viewRows n (now (state .entry)) .rows)) (viewRows n (now (state .entry))) ⌝ }
+{
+    raw::numbers::write_u8(state, HEAD + i * ROW + 1094, weight);
 }

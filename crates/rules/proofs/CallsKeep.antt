@@ -174,7 +174,7 @@ main-out R k s h e = go (find k (s .rows)) refl e
     go (some i) q m = rw (takeOut-max i s) (omega (arith, takeOut-main i s (find-at k (s .rows) i q .inside) m, h .mains))
 
 -- number 4 is given exactly where no main row is left for the key
-verified-free : (R : ℕ) (k : NodeAddr) (p : Path) (now : ℕ) (s : State) → Sound R s → noPlaceFor R s (record { key = k; path = p; time = now }) ≡ false → mainCount (makeRoom now (pathWeight p) (withoutKey k s) .state) < mainBound R (makeRoom now (pathWeight p) (withoutKey k s) .state .maxEntries)
+pub verified-free : (R : ℕ) (k : NodeAddr) (p : Path) (now : ℕ) (s : State) → Sound R s → noPlaceFor R s (record { key = k; path = p; time = now }) ≡ false → mainCount (makeRoom now (pathWeight p) (withoutKey k s) .state) < mainBound R (makeRoom now (pathWeight p) (withoutKey k s) .state .maxEntries)
 unfolding noPlaceFor
 verified-free R k p now s h f = go (keyInMain k s) refl (leb (mainBound R (s .maxEntries)) (mainCount s)) refl (roomCanBeMade now (pathWeight p) (withoutKey k s)) refl f
   where

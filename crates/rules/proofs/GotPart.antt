@@ -143,7 +143,7 @@ row-change f i [] h = absurd (let z : ⊥ = omega arith in z)
 row-change f zero (r ∷ rs) h = refl
 row-change f (suc i) (r ∷ rs) h = row-change f i rs (omega arith)
 
-find-gone : (k : NodeAddr) (rs : List Row) → Every (λ y. y .key ≡ k → ⊥) (cores rs) → find k rs ≡ none
+pub find-gone : (k : NodeAddr) (rs : List Row) → Every (λ y. y .key ≡ k → ⊥) (cores rs) → find k rs ≡ none
 unfolding find nextIndex
 find-gone k [] h = refl
 find-gone k (r ∷ rs) h = rw (same-ne k (r .key) (λ e. h .0 (sym e)), find-gone k rs (h .1))

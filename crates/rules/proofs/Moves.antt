@@ -162,11 +162,11 @@ refiled-core : (q : ℕ) (r : Row) → atPlace probation r ≡ true → core (re
 unfolding refiled inMain atPlace
 refiled-core q r p = rw (eqb-true (r .place) 2 p)
 
-visits-restamped : (q : ℕ) (r : Row) → atPlace probation r ≡ true → probationVisits (refiled q (r .entry) (r .weight) r) ≡ 1
+pub visits-restamped : (q : ℕ) (r : Row) → atPlace probation r ≡ true → probationVisits (refiled q (r .entry) (r .weight) r) ≡ 1
 unfolding probationVisits refiled inMain atPlace stale
 visits-restamped q r p = rw (eqb-true (r .place) 2 p, eq-eqb (r .entry .lastUsed) (r .entry .lastUsed) refl)
 
-visits-of : (r : Row) (b : Bool) → atPlace probation r ≡ true → stale r ≡ b → probationVisits r ≡ cond b 2 1
+pub visits-of : (r : Row) (b : Bool) → atPlace probation r ≡ true → stale r ≡ b → probationVisits r ≡ cond b 2 1
 unfolding probationVisits
 visits-of r b p q = rw (p, q)
 
@@ -216,7 +216,7 @@ probation-le r = go (atPlace probation r) (stale r)
     go true false = omega arith
     go false b = omega arith
 
-probation-twice : (r : Row) → probationVisits r ≤ 2 * cond (inProbation r) 1 0
+pub probation-twice : (r : Row) → probationVisits r ≤ 2 * cond (inProbation r) 1 0
 unfolding probationVisits
 probation-twice r = go (atPlace probation r) (stale r)
   where

@@ -234,16 +234,33 @@ fresh-allowed R m ttl s e = go (badSize R m) (sym (fresh-refusal R m ttl s) ∙ 
     go true h = some-none {o = some 5} refl h
     go false h = refl
 
--- the table's answer, where it is 1, 3 or none
+-- ---- the table's answer, as a call finds it: each number where none before it is given, and none
+
 pub refused-one : (R : ℕ) (s : State) (q : Call) → sound R s ≡ false → refusal R s (Asked q) ≡ some 1
 unfolding refusal reasons firstGiven reason
 refused-one R s q h = rw h
 
-pub refused-three : (R : ℕ) (s : State) (q : Call) → sound R s ≡ true → pathGiven q ≡ none → drawsStamps q ≡ true → seqSpent s ≡ true → refusal R s (Asked q) ≡ some 3
+pub refused-two : (R : ℕ) (s : State) (q : Call) → sound R s ≡ true → maybe (pathGiven q) false badPath ≡ true → refusal R s (Asked q) ≡ some 2
+refused-two R s q h p = refusal-first R s q .two .0 (ap not h) p
+
+pub refused-three : (R : ℕ) (s : State) (q : Call) → sound R s ≡ true → maybe (pathGiven q) false badPath ≡ false → drawsStamps q ≡ true → seqSpent s ≡ true → refusal R s (Asked q) ≡ some 3
+refused-three R s q h p d w = refusal-first R s q .three .0 (ap not h) p (rw (d, w))
+
+unspent : (b : Bool) {c : Bool} → c ≡ false → b && c ≡ false
+unspent true h = h
+unspent false h = refl
+
+pub refused-four : (R : ℕ) (s : State) (q : Call) → sound R s ≡ true → maybe (pathGiven q) false badPath ≡ false → seqSpent s ≡ false → maybe (verifiedWrite q) false (noPlaceFor R s) ≡ true → refusal R s (Asked q) ≡ some 4
+refused-four R s q h p w v = refusal-first R s q .four .0 (ap not h) p (unspent (drawsStamps q) w) v
+
+pub refused-by-none : (R : ℕ) (s : State) (q : Call) → Allowed R s q → refusal R s (Asked q) ≡ none
 unfolding refusal reasons firstGiven reason
-refused-three R s q h p d w = rw (h, p, d, w)
+refused-by-none R s q a = rw (a .sound, a .path, a .stamps, a .place)
+
+-- a call that takes a path and draws stamps
+pub write-allowed : (R : ℕ) (s : State) (q : Call) → sound R s ≡ true → maybe (pathGiven q) false badPath ≡ false → seqSpent s ≡ false → maybe (verifiedWrite q) false (noPlaceFor R s) ≡ false → refusal R s (Asked q) ≡ none
+write-allowed R s q h p w v = refused-by-none R s q (record { sound = h; path = p; stamps = unspent (drawsStamps q) w; place = v })
 
 -- a call that takes no path and draws no stamps is refused by 1 alone
 pub refused-only-one : (R : ℕ) (s : State) (q : Call) → sound R s ≡ true → pathGiven q ≡ none → verifiedWrite q ≡ none → drawsStamps q && seqSpent s ≡ false → refusal R s (Asked q) ≡ none
-unfolding refusal reasons firstGiven reason
-refused-only-one R s q h p v d = rw (h, p, v, d)
+refused-only-one R s q h p v d = refused-by-none R s q (record { sound = h; path = rw p; stamps = d; place = rw v })

@@ -210,6 +210,18 @@ pub map-cores : (f : Row → Row) → ((r : Row) → core (f r) ≡ core r) → 
 map-cores f g [] = refl
 map-cores f g (r ∷ rs) = cc (g r, map-cores f g rs)
 
+pub change-at : (f g : Row → Row) (i : ℕ) (rs : List Row) → f (rowAt i rs) ≡ g (rowAt i rs) → changeRow f i rs ≡ changeRow g i rs
+unfolding changeRow
+change-at f g i [] e = refl
+change-at f g zero (r ∷ rs) e = ap (λ (x : Row). x ∷ rs) e
+change-at f g (suc i) (r ∷ rs) e = ap (λ (xs : List Row). r ∷ xs) (change-at f g i rs e)
+
+pub change-none : (f : Row → Row) (i : ℕ) (rs : List Row) → f (rowAt i rs) ≡ rowAt i rs → changeRow f i rs ≡ rs
+unfolding changeRow
+change-none f i [] e = refl
+change-none f zero (r ∷ rs) e = ap (λ (x : Row). x ∷ rs) e
+change-none f (suc i) (r ∷ rs) e = ap (λ (xs : List Row). r ∷ xs) (change-none f i rs e)
+
 pub length-change : (f : Row → Row) (i : ℕ) (rs : List Row) → length (changeRow f i rs) ≡ length rs
 unfolding changeRow
 length-change f i [] = refl

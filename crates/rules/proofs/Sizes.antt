@@ -99,7 +99,7 @@ length-map : (f : Row → Row) (rs : List Row) → length (map f rs) ≡ length 
 length-map f [] = refl
 length-map f (r ∷ rs) = ap suc (length-map f rs)
 
-length-insert : (r : Row) (rs : List Row) → length (insertInOrder r rs) ≡ suc (length rs)
+pub length-insert : (r : Row) (rs : List Row) → length (insertInOrder r rs) ≡ suc (length rs)
 unfolding insertInOrder
 length-insert r [] = refl
 length-insert r (x ∷ xs) = by-cond (λ (u : List Row). length u ≡ suc (suc (length xs))) (addrBefore (r .key) (x .key)) (λ e. refl) (λ e. ap suc (length-insert r xs))

@@ -372,7 +372,7 @@ pub record Chose (now w : ℕ) (s : State) (n : ℕ) (v : Walk) (c : Chosen) : T
   pub fits : c .made ≡ true → hasRoom w (c .walk .state) ≡ true
   pub exact : mainCount (v .state) < n → c .made ≡ roomTest now w s
 
-choose-led : (now w : ℕ) (s : State) (n : ℕ) (v : Walk) → Led now s v → Chose now w s n v (chooseVictims n now w v)
+pub choose-led : (now w : ℕ) (s : State) (n : ℕ) (v : Walk) → Led now s v → Chose now w s n v (chooseVictims n now w v)
 unfolding chooseVictims hasRoom
 choose-led now w s zero v h = record { led = h; fits = λ q. contradiction {b = false} q refl; exact = λ l. absurd (let z : ⊥ = omega arith in z) }
 choose-led now w s (suc n) v h =
@@ -398,7 +398,7 @@ choose-led now w s (suc n) v h =
 
 -- ---- room
 
-back-core : (r : Row) → core (putBack r) ≡ core r
+pub back-core : (r : Row) → core (putBack r) ≡ core r
 unfolding putBack atPlace atNewPlace
 back-core r = go (eqb (r .place) 3) refl
   where

@@ -16,6 +16,8 @@ use Rattle.types.specs.declared.answers.StatsAnswer.{StatsAnswer}
 use Rattle.types.specs.declared.answers.ExpiryAnswer.{ExpiryAnswer}
 use Rattle.types.specs.declared.answers.Removal.{Removal}
 use Rattle.types.specs.declared.answers.RemoveAnswer.{RemoveAnswer}
+use Rattle.types.specs.declared.reply.Reply.{Reply}
+use Rattle.types.specs.Values.{says, refuses}
 use Rattle.rules.specs.Cases.{maybe}
 use Rattle.rules.specs.Calls.{Answer, Refused, Hinted, VerifiedDone, PathFound, EntryRemoved, KeyHeld, Done, RowsRemoved, StatsGiven, ExpiryGiven}
 
@@ -79,6 +81,12 @@ refusalOf Done = 0
 refusalOf (RowsRemoved n) = 0
 refusalOf (StatsGiven c) = 0
 refusalOf (ExpiryGiven o) = 0
+
+-- touch: found, and the length
+unfoldable pub touchReply : TouchAnswer → Reply
+touchReply (TouchAnswer.Refused n) = refuses n
+touchReply (TouchAnswer.Found len) = says 1 len 0 0 0
+touchReply TouchAnswer.Absent = says 0 0 0 0 0
 
 -- touch says the length of the path that the rules find
 unfoldable pub touchAnswer : Answer → TouchAnswer

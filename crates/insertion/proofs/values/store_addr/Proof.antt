@@ -1,4 +1,4 @@
-use Rattle.insertion.proofs.Owned.{owned-addr}
+use Rattle.memory.proofs.Owned.{owned-addr}
 use Rattle.insertion.proofs.Runs.{one-more}
 use mathlib.Core.Path.{_≡_, ap, _∙_}
 use Prim.Native.Nat.{_-_, _≤_}

@@ -2,7 +2,7 @@ use mathlib.Core.List.{append-nil}
 use native.Mathlib.Omega.{arith}
 use Rattle.rules.specs.Memory.{leBytes, coordEntriesBytes}
 use Rattle.rules.proofs.ViewLaws.{length-le}
-use Rattle.insertion.proofs.Owned.{owned-entry}
+use Rattle.memory.proofs.Owned.{owned-entry}
 use Rattle.insertion.proofs.Runs.{three}
 use borrow.Author.Needs.{needs}
 use Rattle.insertion.proofs.values.store_coord_entry.Statement.{statement}

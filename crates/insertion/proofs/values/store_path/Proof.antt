@@ -5,7 +5,7 @@ use lib.ListN.{length, take}
 use lib.Seq.{sets}
 use borrow.Author.Needs.{needs}
 use Rattle.rules.specs.Memory.{coordEntriesBytes}
-use Rattle.insertion.proofs.Owned.{owned-path}
+use Rattle.memory.proofs.Owned.{owned-path}
 use Rattle.insertion.proofs.PathLaws.{entries-turn, path-stored}
 use Rattle.insertion.proofs.values.store_path.Statement.{statement}
 use Rattle.insertion.proofs.values.store_path.Tie as tie

@@ -1,0 +1,32 @@
+use Rattle.rules.proofs.Sizes.{small1}
+use Rattle.memory.proofs.Fields.{weight-view}
+use borrow.Author.Needs.{needs}
+use Rattle.memory.proofs.row.set_weight.Statement.{statement}
+use Rattle.memory.proofs.row.set_weight.Tie as tie
+
+mul-write-u8 : tie.Need-mul-write-u8
+mul-write-u8 c = search needs
+
+add-write-u8 : tie.Need-add-write-u8
+add-write-u8 c = search needs
+
+add-write-u8-2 : tie.Need-add-write-u8-2
+add-write-u8-2 c = search needs
+
+write-u8-requires : tie.Need-write-u8-requires
+write-u8-requires c κs = search needs
+
+same-length : tie.Need-same-length
+same-length c = search needs
+
+returns : tie.Need-returns
+returns c =
+    let w = c .before .before in
+    let s = w .before .before .before in
+    let a = s .args in
+    rw (w .write-u8 .ensures) (weight-view (a .state .now) (a .n) (a .i) (a .weight) (small1 (a .weight) (s .fits .weight .fits)) (s .pre .0) (s .pre .1))
+
+pub set-weight-spec : {M : Type 1} → statement M
+set-weight-spec =
+    tie.close
+    (tie.spec mul-write-u8 add-write-u8 add-write-u8-2 write-u8-requires same-length returns)
