@@ -1,0 +1,76 @@
+use mathlib.Core.Path.{_≡_, refl}
+use mathlib.Core.List.{_++_}
+use Prim.Native.Nat.{ℕ, _+_, _*_, _-_, _≤_}
+use native.Mathlib.Omega.{arith}
+use lib.ListN.{length, take, drop, length-set, length-replicate}
+use borrow.Author.Needs.{needs}
+use Rattle.rules.specs.Memory.{cut}
+use Rattle.rules.proofs.MemoryLaws.{length-cut}
+use Rattle.paths.proofs.Bytes.{cut-byte, stored, copied}
+use Rattle.filing.proofs.file.save_row.Statement.{statement}
+use Rattle.filing.proofs.file.save_row.Tie as tie
+
+abbrev Inv-loop : tie.InvT-loop
+Inv-loop state n i at row₀ k₀ row k = (k ≤ 1095) × (length row₀ ≡ 1095) × (row ≡ take k (cut at 1095 state) ++ drop k row₀) × (length row ≡ 1095) × (at ≡ 40 + i * 1095)
+
+abbrev μ-loop : tie.MeasureT-loop
+μ-loop state n i at row₀ k₀ row k = 1095 - k
+
+mul-at : tie.Need-mul-at Inv-loop μ-loop
+mul-at c = search needs
+
+add-at : tie.Need-add-at Inv-loop μ-loop
+add-at c = search needs
+
+loop-holds : tie.Need-loop-holds Inv-loop μ-loop
+loop-holds c = (omega arith, length-replicate {A = ℕ} 1095 0, refl, length-replicate {A = ℕ} 1095 0, refl)
+
+add-row : tie.Need-add-row Inv-loop μ-loop
+add-row c = search needs
+
+shared-slice-read-row : tie.Need-shared-slice-read-row Inv-loop μ-loop
+shared-slice-read-row c = search needs
+
+array-write-row : tie.Need-array-write-row Inv-loop μ-loop
+array-write-row c = search needs
+
+add-k : tie.Need-add-k Inv-loop μ-loop
+add-k c = search needs
+
+loop-less : tie.Need-loop-less Inv-loop μ-loop
+loop-less c = search needs
+
+loop-again : tie.Need-loop-again Inv-loop μ-loop
+loop-again c =
+    let p = c .before .before in
+    let s = p .before .args in
+    let v = p .loop .inv in
+    let a : ℕ = 40 + s .i * 1095 in
+    let n = length-cut a 1095 (s .state .now) (omega arith) in
+    (omega arith, v .1, stored (cut a 1095 (s .state .now)) _ (p .loop .row) (p .loop .k) _ 0 (v .2) (cut-byte a 1095 (p .loop .k) (s .state .now) (omega arith)) (omega arith) (omega arith), simp length-set (v .3), refl)
+
+returns : tie.Need-returns Inv-loop μ-loop
+returns c =
+    let p = c .before in
+    let s = p .before .args in
+    let v = p .loop .inv in
+    let a : ℕ = 40 + s .i * 1095 in
+    let n = length-cut a 1095 (s .state .now) (omega arith) in
+    copied (cut a 1095 (s .state .now)) _ (p .loop .row) (p .loop .k) (v .2) (omega arith) (omega arith)
+
+pub save-row-spec : {M : Type 1} → statement M
+save-row-spec =
+    tie.close
+    (tie.spec
+    Inv-loop
+    μ-loop
+    mul-at
+    add-at
+    loop-holds
+    add-row
+    shared-slice-read-row
+    array-write-row
+    add-k
+    loop-less
+    loop-again
+    returns)

@@ -1,0 +1,34 @@
+use native.Mathlib.Omega.{arith}
+use Rattle.rules.specs.Entries.{update}
+use Rattle.rules.specs.Memory.{viewRows}
+use Rattle.memory.proofs.RowLaws.{view-length}
+use Rattle.filing.proofs.Refiling.{rewritten-seq, rewritten-refiled}
+use borrow.Author.Needs.{needs}
+use Rattle.filing.proofs.refile.update_and_refile.Statement.{statement}
+use Rattle.filing.proofs.refile.update_and_refile.Tie as tie
+
+update-at-requires : tie.Need-update-at-requires
+update-at-requires c κs = search needs
+
+refile-at-requires : tie.Need-refile-at-requires
+refile-at-requires c κs =
+    let w = c .before .before .before in
+    let s = w .before .before .before in
+    let a = s .args in
+    (omega (arith, s .pre .0), omega (arith, s .pre .1, w .update-at .kept .0), omega (arith, rewritten-seq _ (a .i) (viewRows (a .n) (a .state .now)) (viewRows (a .n) (w .update-at .last .0)) (w .update-at .ensures), s .pre .2))
+
+same-length : tie.Need-same-length
+same-length c = search needs
+
+returns : tie.Need-returns
+returns c =
+    let w2 = c .before .before in
+    let w1 = w2 .before .before .before .before in
+    let s = w1 .before .before .before in
+    let a = s .args in
+    let n = a .n in
+    rewritten-refiled (update (a .path) (a .time) (a .ttl)) (a .weight) (a .i) (viewRows n (a .state .now)) (viewRows n (w1 .update-at .last .0)) _ (omega (arith, view-length n (a .state .now), s .pre .0)) (w1 .update-at .ensures) (w2 .refile-at .ensures)
+
+pub update-and-refile-spec : {M : Type 1} → statement M
+update-and-refile-spec =
+    tie.close (tie.spec update-at-requires refile-at-requires same-length returns)

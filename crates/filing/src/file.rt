@@ -1,0 +1,117 @@
+// A row filed in the order of keys.
+use crate::entry::NewEntry;
+use coord::node_addr::NodeAddr;
+use insertion::insert::insert_row;
+use insertion::row::NewRow;
+use insertion::saved::insert_saved;
+use memory::head;
+use memory::head::HEAD;
+use memory::head::ROW;
+use search::answers::Search;
+use search::keys::search;
+use stamps::row::BY_USE;
+use stamps::row::PROBATION;
+use stamps::row::draw_stamp;
+ghost use mathlib.Core.Path.{_≡_};
+ghost use mathlib.Core.Bool.{cond, true};
+ghost use mathlib.Core.Option.{none};
+ghost use Prim.Native.Nat.{_+_, _*_, _≤_, _<_};
+ghost use lib.Dec.{ltb};
+ghost use lib.ListN.{length};
+ghost use Rattle.coord.specs.Paths.{pathPlaces};
+ghost use Rattle.rules.specs.Records.{byUse, probation};
+ghost use Rattle.rules.specs.Rows.{rowSize, find};
+ghost use Rattle.rules.specs.Sound.{sound, ascends};
+ghost use Rattle.rules.specs.Room.{fileNew};
+ghost use Rattle.rules.specs.Memory.{headSize, cut, rowOf, capacity, viewRows};
+ghost use Rattle.search.specs.declared.answers.Search.the-variants.{Absent};
+ghost use Rattle.search.specs.ByKey.{searched};
+ghost use Rattle.filing.specs.Filings.{entryFrom};
+
+// The row that a key without one becomes.
+fn index_for(state: &[u8], n: usize, key: NodeAddr) -> usize
+    requires { ⌜ (ascends (viewRows n (now state) .rows) ≡ true) × (headSize + n * rowSize ≤ length (now state)) × (find key (viewRows n (now state) .rows) ≡ none) ⌝ }
+    ensures { λ r. ⌜ searched key (viewRows n (now (state .entry)) .rows) ≡ Absent r ⌝ }
+{
+    let at = search(state, n, key);
+    match at {
+        Search::At(i) => i,
+        Search::Absent(i) => i,
+    }
+}
+
+// The weight that is stored once a row is there: a main row's counts.
+fn stored_with(state: &[u8], weight: u8, place: u8) -> u64
+    requires { ⌜ (headSize ≤ length (now state)) × (viewRows 0 (now state) .storedWeight ≤ 32768) ⌝ }
+    ensures { λ r. ⌜ r ≡ viewRows 0 (now (state .entry)) .storedWeight + cond (ltb place probation) weight 0 ⌝ }
+{
+    let stored = head::stored_weight(state);
+    if place < PROBATION {
+        stored + raw::numbers::wide(weight)
+    } else {
+        stored
+    }
+}
+
+// A new row, under the stamp (last_used, seq + 1).
+pub fn file_new(state: &mut [u8], n: usize, key: NodeAddr, e: NewEntry, weight: u8, place: u8)
+    requires { ⌜ (sound (capacity (now state)) (viewRows n (now state)) ≡ true) × (n < capacity (now state)) × (find key (viewRows n (now state) .rows) ≡ none) × (viewRows n (now state) .seq < 18446744073709551615) × (e .path .len ≤ pathPlaces) ⌝ }
+    ensures { λ _. ⌜ viewRows (n + 1) (now (state .exit)) ≡ fileNew key (entryFrom e) weight place (viewRows n (now (state .entry))) ⌝ }
+{
+    let i = index_for(state, n, key);
+    let stored = stored_with(state, weight, place);
+    let seq = head::seq(state) + 1;
+    head::set_stored_weight(state, n, stored);
+    head::set_seq(state, n, seq);
+    let path = e.path;
+    insert_row(
+        state,
+        n,
+        i,
+        NewRow {
+            key: key,
+            path: path,
+            created_at: e.created_at,
+            last_used: e.last_used,
+            expires_at: e.expires_at,
+            mtu_mark: e.mtu_mark,
+            mtu: e.mtu,
+            source: e.source,
+            verified_until: e.verified_until,
+            place: place,
+            stamp_first: e.last_used,
+            stamp_seq: seq,
+            weight: weight,
+        },
+    );
+}
+
+// Row i's bytes, to go back with.
+pub fn save_row(state: &[u8], n: usize, i: usize) -> [u8; 1095]
+    requires { ⌜ (i < n) × (headSize + n * rowSize ≤ length (now state)) ⌝ }
+    ensures { λ r. ⌜ r ≡ cut (headSize + i * rowSize) rowSize (now (state .entry)) ⌝ }
+{
+    let at = HEAD + i * ROW;
+    let mut row = [0u8; 1095];
+    let mut k = 0;
+    while k < ROW {
+        row[k] = state[at + k];
+        k += 1;
+    }
+    row
+}
+
+// A saved row goes back as it was, but as ByUse and under the stamp (last_used, seq + 1).
+pub fn file_again(state: &mut [u8], n: usize, key: NodeAddr, row: [u8; 1095])
+    requires { ⌜ (sound (capacity (now state)) (viewRows n (now state)) ≡ true) × (n < capacity (now state)) × (find key (viewRows n (now state) .rows) ≡ none) × (viewRows n (now state) .seq < 18446744073709551615) × (rowOf row .key ≡ key) ⌝ }
+    ensures { λ _. ⌜ viewRows (n + 1) (now (state .exit)) ≡ fileNew key (rowOf row .entry) (rowOf row .weight) byUse (viewRows n (now (state .entry))) ⌝ }
+{
+    let i = index_for(state, n, key);
+    insert_saved(state, n, i, row);
+    let m = n + 1;
+    let weight = memory::row::weight(state, m, i);
+    let stored = stored_with(state, weight, BY_USE);
+    head::set_stored_weight(state, m, stored);
+    let used = memory::row::last_used(state, m, i);
+    draw_stamp(state, m, i, BY_USE, used);
+}

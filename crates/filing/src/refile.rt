@@ -1,0 +1,50 @@
+// Row i, updated and refiled where it stands.
+use coord::coord::Path;
+use entries::add_times;
+use insertion::insert::set_path;
+use memory::row;
+ghost use mathlib.Core.Path.{_≡_};
+ghost use Prim.Native.Nat.{_+_, _*_, _≤_, _<_};
+ghost use lib.ListN.{length};
+ghost use Rattle.coord.specs.Paths.{pathPlaces};
+ghost use Rattle.rules.specs.Rows.{rowSize, rowAt};
+ghost use Rattle.rules.specs.Entries.{update};
+ghost use Rattle.rules.specs.Lookups.{rewrite};
+ghost use Rattle.rules.specs.Room.{refile};
+ghost use Rattle.rules.specs.Memory.{headSize, viewRows};
+
+// Row i's entry is updated.
+fn update_at(state: &mut [u8], n: usize, i: usize, path: Path, time: u64, ttl: u64)
+    requires { ⌜ (i < n) × (headSize + n * rowSize ≤ length (now state)) × (path .len ≤ pathPlaces) ⌝ }
+    ensures { λ _. ⌜ viewRows n (now (state .exit)) ≡ rewrite (update path time ttl) i (viewRows n (now (state .entry))) ⌝ }
+{
+    let expires = add_times(time, ttl);
+    set_path(state, n, i, path);
+    row::set_times(state, n, i, time, expires);
+    row::mark_hint(state, n, i);
+}
+
+// Row i gets this weight, and is stamped with last_used.
+fn refile_at(state: &mut [u8], n: usize, i: usize, weight: u8)
+    requires { ⌜ (i < n) × (headSize + n * rowSize ≤ length (now state)) × (viewRows n (now state) .seq < 18446744073709551615) ⌝ }
+    ensures { λ _. ⌜ viewRows n (now (state .exit)) ≡ refile (rowAt i (viewRows n (now (state .entry)) .rows) .entry) weight i (viewRows n (now (state .entry))) ⌝ }
+{
+    row::set_weight(state, n, i, weight);
+    stamps::row::restamp(state, n, i);
+}
+
+pub fn update_and_refile(
+    state: &mut [u8],
+    n: usize,
+    i: usize,
+    path: Path,
+    time: u64,
+    ttl: u64,
+    weight: u8,
+)
+    requires { ⌜ (i < n) × (headSize + n * rowSize ≤ length (now state)) × (viewRows n (now state) .seq < 18446744073709551615) × (path .len ≤ pathPlaces) ⌝ }
+    ensures { λ _. ⌜ viewRows n (now (state .exit)) ≡ refile (update path time ttl (rowAt i (viewRows n (now (state .entry)) .rows) .entry)) weight i (viewRows n (now (state .entry))) ⌝ }
+{
+    update_at(state, n, i, path, time, ttl);
+    refile_at(state, n, i, weight);
+}

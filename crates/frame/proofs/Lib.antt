@@ -1,0 +1,4 @@
+pub mod Frame
+pub mod Asking
+pub mod Refusing
+pub mod Writing

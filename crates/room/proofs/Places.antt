@@ -1,0 +1,75 @@
+-- Rows set aside and put back.
+use mathlib.Core.Path.{_≡_, refl, sym, ap, _∙_}
+use Prim.Native.Nat.{ℕ, zero, suc, _+_}
+use native.Mathlib.Omega.{arith}
+use native.Mathlib.Numerals.{add-one}
+use mathlib.Core.List.{List, [], _∷_, map}
+use lib.ListN.{length}
+use borrow.Author.Tests.{eq-eqb, ne-eqb}
+use Rattle.rules.specs.Records.{Row, State, aside}
+use Rattle.rules.specs.Rows.{rowAt, atPlace, changeRow, withRows}
+use Rattle.rules.specs.Room.{atNewPlace, putBack}
+use Rattle.rules.proofs.RowLists.{change-at, change-none}
+use Rattle.memory.specs.Edits.{stampedAs}
+
+-- ---- a row at another place, under its own stamp
+
+own-stamp : (p f q : ℕ) (r : Row) → f ≡ r .stampFirst → q ≡ r .stampSeq → stampedAs p f q r ≡ atNewPlace p r
+unfolding stampedAs atNewPlace
+own-stamp p f q r ef eq = rw (ef, eq)
+
+pub placed : (i p f q : ℕ) (s x : State) → f ≡ rowAt i (s .rows) .stampFirst → q ≡ rowAt i (s .rows) .stampSeq → x ≡ withRows (changeRow (stampedAs p f q) i (s .rows)) s → x ≡ withRows (changeRow (atNewPlace p) i (s .rows)) s
+placed i p f q s x ef eq ex = ex ∙ ap (λ (rs : List Row). withRows rs s) (change-at (stampedAs p f q) (atNewPlace p) i (s .rows) (own-stamp p f q (rowAt i (s .rows)) ef eq))
+
+-- ---- a row put back
+
+pub back-here : (i : ℕ) (s x : State) → rowAt i (s .rows) .place ≡ 3 → x ≡ withRows (changeRow (atNewPlace 0) i (s .rows)) s → x ≡ withRows (changeRow putBack i (s .rows)) s
+unfolding putBack atPlace
+back-here i s x p e = e ∙ ap (λ (rs : List Row). withRows rs s) (change-at (atNewPlace 0) putBack i (s .rows) (rw (eq-eqb (rowAt i (s .rows) .place) 3 p)))
+
+rows-same : (s : State) → withRows (s .rows) s ≡ s
+unfolding withRows
+rows-same s = refl
+
+pub back-not-here : (i : ℕ) (s : State) → (rowAt i (s .rows) .place ≡ 3 → ⊥) → s ≡ withRows (changeRow putBack i (s .rows)) s
+unfolding putBack atPlace
+back-not-here i s p = sym (ap (λ (rs : List Row). withRows rs s) (change-none putBack i (s .rows) (rw (ne-eqb (rowAt i (s .rows) .place) 3 p))) ∙ rows-same s)
+
+-- ---- all rows, from row 0 on
+
+-- the first i rows were put back
+unfoldable pub backTo : ℕ → List Row → List Row
+backTo zero rs = rs
+backTo (suc i) [] = []
+backTo (suc i) (r ∷ rs) = putBack r ∷ backTo i rs
+
+back-step : (i : ℕ) (rs : List Row) → changeRow putBack i (backTo i rs) ≡ backTo (suc i) rs
+unfolding backTo changeRow
+back-step zero [] = refl
+back-step zero (r ∷ rs) = refl
+back-step (suc i) [] = refl
+back-step (suc i) (r ∷ rs) = ap (λ (xs : List Row). putBack r ∷ xs) (back-step i rs)
+
+back-all : (i : ℕ) (rs : List Row) → i ≡ length rs → backTo i rs ≡ map putBack rs
+unfolding backTo
+back-all zero [] e = refl
+back-all (suc i) [] e = refl
+back-all zero (r ∷ rs) e = absurd (let z : ⊥ = omega arith in z)
+back-all (suc i) (r ∷ rs) e = ap (λ (xs : List Row). putBack r ∷ xs) (back-all i rs (omega arith))
+
+pub record Backed (i : ℕ) (s x : State) : Type 0 where
+  pub same : x ≡ withRows (backTo i (s .rows)) s
+
+pub backed-start : (s : State) → Backed 0 s s
+unfolding backTo
+backed-start s = record { same = sym (rows-same s) }
+
+rows-twice : (f : List Row → List Row) (rs : List Row) (s : State) → withRows (f (withRows rs s .rows)) (withRows rs s) ≡ withRows (f rs) s
+unfolding withRows
+rows-twice f rs s = refl
+
+pub backed-turn : (i : ℕ) (s x y : State) → Backed i s x → y ≡ withRows (changeRow putBack i (x .rows)) x → Backed (i + 1) s y
+backed-turn i s x y b e = record { same = e ∙ ap (λ (z : State). withRows (changeRow putBack i (z .rows)) z) (b .same) ∙ rows-twice (changeRow putBack i) (backTo i (s .rows)) s ∙ ap (λ (rs : List Row). withRows rs s) (back-step i (s .rows)) ∙ rw add-one refl }
+
+pub backed-end : (i : ℕ) (s x : State) → i ≡ length (s .rows) → Backed i s x → x ≡ withRows (map putBack (s .rows)) s
+backed-end i s x e b = b .same ∙ ap (λ (rs : List Row). withRows rs s) (back-all i (s .rows) e)

@@ -1,0 +1,141 @@
+-- Room that is there, victims that leave, and victims that go back.
+use mathlib.Core.Path.{_≡_, refl, sym, ap, _∙_, subst}
+use Prim.Native.Nat.{ℕ, zero, suc, _+_, _-_, _≤_, min}
+use native.Mathlib.Omega.{arith}
+use mathlib.Core.List.{List, [], _∷_, map}
+use mathlib.Core.Bool.{Bool, true, false, cond, _&&_, not}
+use lib.Dec.{ltb, leb, eqb}
+use lib.ListN.{length}
+use borrow.Author.Tests.{eq-eqb, ne-eqb, ltb-true, ltb-false}
+use Rattle.coord.specs.declared.node_addr.NodeAddr.{NodeAddr}
+use Rattle.rules.specs.Cases.{Every}
+use Rattle.rules.specs.Records.{Row, State, aside, weightBound}
+use Rattle.rules.specs.Rows.{atPlace, inMain, keepRows, mainCount, total, weighRows, withRows, withOnlyRows, zeroRows}
+use Rattle.rules.specs.Sound.{sound}
+use Rattle.rules.specs.Room.{Walk, Chosen, nextVictim, hasRoom, setAside, putBack, chooseVictims, settled, makeRoom}
+use Rattle.rules.proofs.RowLists.{Core, by-cond, by-maybe, cores, core, every-map, every-mapped, map-cores}
+use Rattle.rules.proofs.SoundTest.{RowOk, sound-is}
+use Rattle.rules.proofs.Moves.{ready}
+use Rattle.rules.proofs.Walks.{Going, Led, back-core, choose-led, not-at, start-led}
+use Rattle.rules.proofs.Loops.{choose-done}
+use Rattle.sweep.specs.Sweep.{PathFit, PathsFit, keptRows, sweepTest}
+use Rattle.stamps.specs.Walked.{walkFrom}
+use Rattle.room.specs.declared.victims.Chosen.{Chosen as ChosenAnswer}
+use Rattle.room.specs.Rooms.{chosenOf, roomOf}
+use Rattle.room.proofs.Choosing.{next-yields}
+
+-- ---- the pass over the rows
+
+pub kept-aside : (now : ℕ) (a : NodeAddr) (rs : List Row) → keptRows 3 now a rs ≡ keepRows (λ r. not (atPlace aside r)) rs
+unfolding keptRows sweepTest
+kept-aside now a rs = refl
+
+-- ---- a state that keeps its rows
+
+keep-every : (q : ℕ) (rs : List Row) → Every (RowOk q) rs → keepRows (λ r. not (atPlace aside r)) rs ≡ rs
+unfolding keepRows
+keep-every q [] h = refl
+keep-every q (r ∷ rs) h = let n = not-at aside r (λ e. let z : ⊥ = omega (arith, h .0 .place) in z) in rw n (ap (λ (xs : List Row). r ∷ xs) (keep-every q rs (h .1)))
+
+only-rows : (rs : List Row) (s : State) → length rs ≡ length (s .rows) → s .storedWeight ≡ weighRows inMain rs → s .rowCount ≡ length (s .rows) → withRows rs s ≡ withOnlyRows rs s
+unfolding withRows withOnlyRows zeroRows
+only-rows rs s l w c = let z : length (s .rows) - length rs ≡ 0 = omega arith in rw (z, ← w, l, ← c)
+
+rows-same : (s : State) → withRows (s .rows) s ≡ s
+unfolding withRows
+rows-same s = refl
+
+pub room-there : (now w n R m count stored x : ℕ) (s : State) (b : Bool) → sound R s ≡ true → m ≡ s .maxEntries → count ≡ mainCount s → stored ≡ s .storedWeight → x ≡ min w (weightBound m) → b ≡ ltb count m && leb (stored + x) (weightBound m) → b ≡ true
+    → roomOf (record { made = true; rows = n; examined = 0 }) s ≡ makeRoom now w s
+unfolding roomOf makeRoom settled hasRoom
+room-there now w n R m count stored x s b h em ec es ex t q =
+    let d = sound-is R s h in
+    let f : hasRoom (min w (weightBound (s .maxEntries))) s ≡ true = sym (t ∙ rw (ex, em, ec, es, d .storedWeight)) ∙ q in
+    let k : withOnlyRows (keepRows (λ r. not (atPlace aside r)) (s .rows)) s ≡ s = rw (keep-every (s .seq) (s .rows) (d .each)) (sym (only-rows (s .rows) s refl (d .storedWeight) (d .counted)) ∙ rows-same s) in
+    rw (choose-done now (min w (weightBound (s .maxEntries))) (walkFrom s 0) f, k)
+
+-- ---- the victims leave
+
+pub room-made : (now w n x : ℕ) (s t u : State) (c : ChosenAnswer) → x ≡ min w (weightBound (s .maxEntries)) → chosenOf c t ≡ chooseVictims (suc (mainCount s)) now x (walkFrom s 0) → c .made ≡ true → u ≡ withOnlyRows (keepRows (λ r. not (atPlace aside r)) (t .rows)) t
+    → roomOf (record { made = true; rows = n; examined = c .examined }) u ≡ makeRoom now w s
+unfolding roomOf makeRoom settled chosenOf
+room-made now w n x s t u c ex h m e = rw (← ex, ← h, m, e)
+
+-- ---- the victims go back
+
+-- what the walks leave in the head
+record Held (v x : Walk) : Type 0 where
+  storedWeight : x .state .storedWeight ≡ v .state .storedWeight
+  rowCount : x .state .rowCount ≡ v .state .rowCount
+
+choose-held : (now w n : ℕ) (v : Walk) → Held v (chooseVictims n now w v .walk)
+unfolding chooseVictims setAside withRows
+choose-held now w zero v = record { storedWeight = refl; rowCount = refl }
+choose-held now w (suc n) v =
+    let x = nextVictim now v in
+    let s = next-yields now v .same in
+    by-cond (λ (c : Chosen). Held v (c .walk)) (hasRoom w (v .state))
+    (λ e. record { storedWeight = refl; rowCount = refl })
+    (λ e. by-maybe (λ (c : Chosen). Held v (c .walk)) (x .victim)
+    (λ d. record { storedWeight = s .storedWeight; rowCount = s .rowCount })
+    (λ i d. let k = choose-held now w n (setAside i (x .walk)) in record { storedWeight = k .storedWeight ∙ kept i (x .walk) .storedWeight ∙ s .storedWeight; rowCount = k .rowCount ∙ kept i (x .walk) .rowCount ∙ s .rowCount }))
+  where
+    kept : (i : ℕ) (y : Walk) → Held y (setAside i y)
+    kept i y = record { storedWeight = refl; rowCount = refl }
+
+-- the weight that a row without its place stores
+abbrev coreWeight : Core → ℕ
+coreWeight x = cond (x .onProbation) 0 (x .weight)
+
+coreWeights : List Core → ℕ
+coreWeights [] = 0
+coreWeights (x ∷ xs) = coreWeight x + coreWeights xs
+
+core-weight : (q : ℕ) (r : Row) → RowOk q r → cond (inMain r) (r .weight) 0 ≡ coreWeight (core r)
+unfolding inMain atPlace
+core-weight q r o = go (ltb (r .place) 2) refl
+  where
+    go : (b : Bool) → ltb (r .place) 2 ≡ b → cond b (r .weight) 0 ≡ cond (eqb (r .place) 2) 0 (r .weight)
+    go true e = let p = ltb-true (r .place) 2 e in rw (ne-eqb (r .place) 2 (λ d. let z : ⊥ = omega arith in z))
+    go false e = let p = ltb-false (r .place) 2 e in rw (eq-eqb (r .place) 2 (omega (arith, o .place)))
+
+weigh-cores : (q : ℕ) (rs : List Row) → Every (RowOk q) rs → weighRows inMain rs ≡ coreWeights (cores rs)
+unfolding total coreWeights
+weigh-cores q [] h = refl
+weigh-cores q (r ∷ rs) h = omega (arith, core-weight q r (h .0), weigh-cores q rs (h .1))
+
+length-map : (rs : List Row) → length (map putBack rs) ≡ length rs
+length-map [] = refl
+length-map (r ∷ rs) = ap suc (length-map rs)
+
+back-weight : (now q : ℕ) (rs ss : List Row) (p : ℕ) → Every (Going now q) rs → Every (RowOk p) ss → cores rs ≡ cores ss → weighRows inMain (map putBack rs) ≡ weighRows inMain ss
+back-weight now q rs ss p g o e =
+    weigh-cores q (map putBack rs) (every-mapped (RowOk q) putBack rs (every-map (λ r x. x .ok) rs g)) ∙ ap coreWeights (map-cores putBack back-core rs ∙ e) ∙ sym (weigh-cores p ss o)
+
+-- what was chosen, from s to t
+pub record Waiting (s t : State) : Type 0 where
+  pub storedWeight : t .storedWeight ≡ weighRows inMain (map putBack (t .rows))
+  pub rowCount : t .rowCount ≡ s .rowCount
+  pub paths : PathsFit (t .rows)
+
+pub waiting : (now x R : ℕ) (s t : State) (c : ChosenAnswer) → sound R s ≡ true → chosenOf c t ≡ chooseVictims (suc (mainCount s)) now x (walkFrom s 0) → Waiting s t
+unfolding chosenOf
+waiting now x R s t c h e =
+    let d = sound-is R s h in
+    let k = choose-held now x (suc (mainCount s)) (walkFrom s 0) in
+    let w : walkFrom t (c .examined) ≡ chooseVictims (suc (mainCount s)) now x (walkFrom s 0) .walk = ap (λ (y : Chosen). y .walk) e in
+    let l : Led now s (walkFrom t (c .examined)) = subst (Led now s) (sym w) (choose-led now x s (suc (mainCount s)) (walkFrom s 0) (start-led now s (ready d)) .led) in
+    let a : Held (walkFrom s 0) (walkFrom t (c .examined)) = subst (Held (walkFrom s 0)) (sym w) k in
+    record {
+      storedWeight = a .storedWeight ∙ d .storedWeight ∙ sym (back-weight now (t .seq) (t .rows) (s .rows) (s .seq) (l .each) (d .each) (l .same));
+      rowCount = a .rowCount;
+      paths = every-map fit (t .rows) (l .each);
+    }
+  where
+    fit : (r : Row) → Going now (t .seq) r → PathFit r
+    fit r g = let q = back-core r in record { long = subst (λ (y : Core). 1 ≤ y .entry .path .len) q (g .ok .long); short = subst (λ (y : Core). y .entry .path .len ≤ 32) q (g .ok .short) }
+
+pub room-failed : (now w n x : ℕ) (s t u : State) (c : ChosenAnswer) → Waiting s t → s .rowCount ≡ length (t .rows) → x ≡ min w (weightBound (s .maxEntries)) → chosenOf c t ≡ chooseVictims (suc (mainCount s)) now x (walkFrom s 0) → c .made ≡ false → u ≡ withRows (map putBack (t .rows)) t
+    → roomOf (record { made = false; rows = n; examined = c .examined }) u ≡ makeRoom now w s
+unfolding roomOf makeRoom settled chosenOf
+room-failed now w n x s t u c k l ex h m e = rw (← ex, ← h, m, e, only-rows (map putBack (t .rows)) t (length-map (t .rows)) (k .storedWeight) (k .rowCount ∙ l))

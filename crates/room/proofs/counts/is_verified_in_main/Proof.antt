@@ -1,0 +1,18 @@
+use Rattle.rules.specs.Rows.{inMain}
+use Rattle.rules.specs.Room.{verifiedInMain}
+use borrow.Author.Needs.{needs}
+use Rattle.room.proofs.counts.is_verified_in_main.Statement.{statement}
+use Rattle.room.proofs.counts.is_verified_in_main.Tie as tie
+
+place-requires : tie.Need-place-requires
+place-requires c κs = search needs
+
+is-verified-requires : tie.Need-is-verified-requires
+is-verified-requires c κs = search needs
+
+returns : tie.Need-returns
+unfolding verifiedInMain inMain
+returns c = rw (c .before .place .ensures, c .is-verified .ensures)
+
+pub is-verified-in-main-spec : {M : Type 1} → statement M
+is-verified-in-main-spec = tie.close (tie.spec place-requires is-verified-requires returns)

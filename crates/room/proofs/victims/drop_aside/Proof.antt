@@ -1,0 +1,24 @@
+use mathlib.Core.Path.{ap, _∙_}
+use mathlib.Core.List.{List}
+use Rattle.rules.specs.Records.{Row}
+use Rattle.rules.specs.Rows.{withOnlyRows}
+use Rattle.rules.specs.Memory.{viewRows}
+use Rattle.room.proofs.Settling.{kept-aside}
+use borrow.Author.Needs.{needs}
+use Rattle.room.proofs.victims.drop_aside.Statement.{statement}
+use Rattle.room.proofs.victims.drop_aside.Tie as tie
+
+sweep-rows-requires : tie.Need-sweep-rows-requires
+sweep-rows-requires c κs = search needs
+
+same-length : tie.Need-same-length
+same-length c = search needs
+
+returns : tie.Need-returns
+returns c =
+    let s = c .before .before .before .before .before .args in
+    let v = viewRows (s .n) (s .state .now) in
+    (c .before .before .sweep-rows .ensures .0, c .before .before .sweep-rows .ensures .2 ∙ ap (λ (rs : List Row). withOnlyRows rs v) (kept-aside 0 _ (v .rows)))
+
+pub drop-aside-spec : {M : Type 1} → statement M
+drop-aside-spec = tie.close (tie.spec sweep-rows-requires same-length returns)

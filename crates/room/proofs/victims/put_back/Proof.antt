@@ -1,0 +1,56 @@
+use mathlib.Core.Path.{_≡_, refl}
+use Prim.Native.Nat.{_-_, _≤_}
+use native.Mathlib.Omega.{arith}
+use borrow.Author.Needs.{needs}
+use lib.ListN.{length}
+use Rattle.rules.specs.Memory.{viewRows}
+use Rattle.memory.proofs.RowLaws.{view-length}
+use Rattle.room.proofs.Places.{Backed, backed-start, backed-turn, backed-end}
+use Rattle.room.proofs.victims.put_back.Statement.{statement}
+use Rattle.room.proofs.victims.put_back.Tie as tie
+
+abbrev Inv-loop : tie.InvT-loop
+Inv-loop state₀ n i₀ state i = (i ≤ n) × (length state ≡ length state₀) × Backed i (viewRows n state₀) (viewRows n state)
+
+abbrev μ-loop : tie.MeasureT-loop
+μ-loop state₀ n i₀ state i = n - i
+
+loop-holds : tie.Need-loop-holds Inv-loop μ-loop
+loop-holds c = (omega arith, refl, backed-start (viewRows (c .before .args .n) (c .before .args .state .now)))
+
+put-row-back-requires : tie.Need-put-row-back-requires Inv-loop μ-loop
+put-row-back-requires c κs = search needs
+
+add-i : tie.Need-add-i Inv-loop μ-loop
+add-i c = search needs
+
+loop-less : tie.Need-loop-less Inv-loop μ-loop
+loop-less c = search needs
+
+loop-again : tie.Need-loop-again Inv-loop μ-loop
+loop-again c =
+    let k = c .before .before .put-row-back .kept .0 in
+    (omega arith, omega arith, backed-turn (c .before .before .before .before .before .loop .i) _ _ _ (c .before .before .before .before .before .loop .inv .2) (c .before .before .put-row-back .ensures))
+
+same-length : tie.Need-same-length Inv-loop μ-loop
+same-length c = search needs
+
+returns : tie.Need-returns Inv-loop μ-loop
+returns c =
+    let s = c .before .before .before .args in
+    let l = c .before .loop in
+    backed-end (l .i) (viewRows (s .n) (s .state .now)) _ (omega (arith, view-length (s .n) (s .state .now))) (l .inv .2)
+
+pub put-back-spec : {M : Type 1} → statement M
+put-back-spec =
+    tie.close
+    (tie.spec
+    Inv-loop
+    μ-loop
+    loop-holds
+    put-row-back-requires
+    add-i
+    loop-less
+    loop-again
+    same-length
+    returns)

@@ -1,0 +1,86 @@
+// Rows counted and weighed, and the bounds.
+use stamps::row::PROBATION;
+use stamps::row::is_verified;
+use types::placed::Segment;
+ghost use mathlib.Core.Path.{_≡_};
+ghost use mathlib.Core.Bool.{_&&_, true};
+ghost use Prim.Native.Nat.{_+_, _*_, _≤_, _<_, min};
+ghost use lib.Dec.{ltb, leb};
+ghost use lib.ListN.{length};
+ghost use Rattle.rules.specs.Records.{weightBound};
+ghost use Rattle.rules.specs.Rows.{rowSize, rowAt, countRows};
+ghost use Rattle.rules.specs.Sound.{sound};
+ghost use Rattle.rules.specs.Room.{verifiedInMain, roomCanBeMade};
+ghost use Rattle.rules.specs.Memory.{headSize, capacity, viewRows};
+ghost use Rattle.room.specs.Rooms.{placeIn, inSegment};
+
+// A weight of one entry: B = 16 × max_entries.
+const UNITS: u64 = 16;
+
+// Whether a place belongs to a segment.
+fn is_in(place: u8, segment: Segment) -> bool
+    ensures { λ r. ⌜ r ≡ placeIn segment place ⌝ }
+{
+    match segment {
+        Segment::Main => place < PROBATION,
+        Segment::Probation => place == PROBATION,
+    }
+}
+
+// The rows of a segment.
+pub fn count_rows(state: &[u8], n: usize, segment: Segment) -> u64
+    requires { ⌜ headSize + n * rowSize ≤ length (now state) ⌝ }
+    ensures { λ r. ⌜ r ≡ countRows (inSegment segment) (viewRows n (now (state .entry)) .rows) ⌝ }
+{
+    let mut count: u64 = 0;
+    let mut i = n;
+    while 0 < i {
+        i -= 1;
+        count += is_in(memory::row::place(state, n, i), segment) as u64;
+    }
+    count
+}
+
+// w, cut to B.
+pub fn cut_to_bound(w: u64, max: u64) -> u64
+    requires { ⌜ max ≤ 1024 ⌝ }
+    ensures { λ r. ⌜ r ≡ min w (weightBound max) ⌝ }
+{
+    let bound = UNITS * max;
+    if w < bound { w } else { bound }
+}
+
+// Neither count ≥ max_entries nor stored + w > B.
+pub fn has_room(max: u64, count: u64, stored: u64, w: u64) -> bool
+    requires { ⌜ (max ≤ 1024) × (stored ≤ 262144) × (w ≤ weightBound max) ⌝ }
+    ensures { λ r. ⌜ r ≡ ltb count max && leb (stored + w) (weightBound max) ⌝ }
+{
+    (count < max) & (stored + w <= UNITS * max)
+}
+
+fn is_verified_in_main(state: &[u8], n: usize, i: usize, time: u64) -> bool
+    requires { ⌜ (i < n) × (headSize + n * rowSize ≤ length (now state)) ⌝ }
+    ensures { λ r. ⌜ r ≡ verifiedInMain time (rowAt i (viewRows n (now (state .entry)) .rows)) ⌝ }
+{
+    (memory::row::place(state, n, i) < PROBATION) & is_verified(state, n, i, time)
+}
+
+// The closed form, in one pass: what no walk at this time can take is counted and weighed.
+pub fn room_can_be_made(state: &[u8], n: usize, w: u64, time: u64) -> bool
+    requires { ⌜ (headSize + n * rowSize ≤ length (now state)) × (sound (capacity (now state)) (viewRows n (now state)) ≡ true) ⌝ }
+    ensures { λ r. ⌜ r ≡ roomCanBeMade time w (viewRows n (now (state .entry))) ⌝ }
+{
+    let max = memory::head::max_entries(state);
+    let cut = cut_to_bound(w, max);
+    let mut count: u64 = 0;
+    let mut weight: u64 = 0;
+    let mut i = n;
+    while 0 < i {
+        i -= 1;
+        if is_verified_in_main(state, n, i, time) {
+            count += 1;
+            weight += raw::numbers::wide(memory::row::weight(state, n, i));
+        }
+    }
+    has_room(max, count, weight, cut)
+}

@@ -1,0 +1,142 @@
+// Room in main: victims are set aside, and leave together or go back.
+use crate::answers::Room;
+use crate::counts::count_rows;
+use crate::counts::cut_to_bound;
+use crate::counts::has_room;
+use coord::node_addr::NodeAddr;
+use stamps::answers::Lowest;
+use stamps::row::BY_USE;
+use stamps::walk::next_victim;
+use types::placed::Segment;
+ghost use mathlib.Core.Path.{_≡_};
+ghost use mathlib.Core.Bool.{true, not};
+ghost use mathlib.Core.List.{map};
+ghost use Prim.Native.Nat.{suc, _+_, _*_, _≤_, _<_};
+ghost use lib.ListN.{length};
+ghost use Rattle.rules.specs.Records.{weightBound, aside};
+ghost use Rattle.rules.specs.Rows.{rowSize, atPlace, changeRow, keepRows, withRows, withOnlyRows, total, mainCount};
+ghost use Rattle.rules.specs.Sound.{sound};
+ghost use Rattle.rules.specs.Room.{mainVisits, atNewPlace, putBack, chooseVictims, makeRoom};
+ghost use Rattle.rules.specs.Memory.{headSize, capacity, viewRows};
+ghost use Rattle.stamps.specs.Walked.{walkFrom};
+ghost use Rattle.sweep.specs.Sweep.{PathsFit};
+ghost use Rattle.room.specs.Rooms.{chosenOf, roomOf};
+
+// Where a victim waits; no state at rest has this place.
+const ASIDE: u8 = 3;
+
+// Whether enough victims were chosen, and the keys taken up.
+struct Chosen {
+    made: bool,
+    examined: u64,
+}
+
+// Row i at another place, under the stamp that it has.
+fn set_place(state: &mut [u8], n: usize, i: usize, place: u8)
+    requires { ⌜ (i < n) × (headSize + n * rowSize ≤ length (now state)) ⌝ }
+    ensures { λ _. ⌜ viewRows n (now (state .exit)) ≡ withRows (changeRow (atNewPlace place) i (viewRows n (now (state .entry)) .rows)) (viewRows n (now (state .entry))) ⌝ }
+{
+    let first = memory::row::stamp_first(state, n, i);
+    let seq = memory::row::stamp_seq(state, n, i);
+    memory::row::set_stamp(state, n, i, place, first, seq);
+}
+
+// Victims are set aside while there is no room for w, or until none is left; count is the number of main rows.
+fn choose_victims(state: &mut [u8], n: usize, count: u64, w: u64, time: u64) -> Chosen
+    requires { ⌜ (headSize + n * rowSize ≤ length (now state)) × (sound (capacity (now state)) (viewRows n (now state)) ≡ true) × (viewRows n (now state) .seq + total (mainVisits time) (viewRows n (now state) .rows) < 18446744073709551616) × (count ≡ mainCount (viewRows n (now state))) × (w ≤ weightBound (viewRows n (now state) .maxEntries)) ⌝ }
+    ensures { λ r. ⌜ chosenOf r (viewRows n (now (state .exit))) ≡ chooseVictims (suc (mainCount (viewRows n (now (state .entry))))) time w (walkFrom (viewRows n (now (state .entry))) 0) ⌝ }
+{
+    let max = memory::head::max_entries(state);
+    let mut stored = memory::head::stored_weight(state);
+    let mut left = count;
+    let mut examined: u64 = 0;
+    loop {
+        if has_room(max, left, stored, w) {
+            return Chosen {
+                made: true,
+                examined,
+            };
+        }
+        let sought = next_victim(state, n, time);
+        examined += sought.examined;
+        let found = sought.found;
+        match found {
+            Lowest::Nothing => {
+                return Chosen {
+                    made: false,
+                    examined,
+                };
+            }
+            Lowest::At(i) => {
+                left -= 1;
+                stored -= raw::numbers::wide(memory::row::weight(state, n, i));
+                set_place(state, n, i, ASIDE);
+            }
+        }
+    }
+}
+
+// Row i goes back if it was set aside.
+fn put_row_back(state: &mut [u8], n: usize, i: usize)
+    requires { ⌜ (i < n) × (headSize + n * rowSize ≤ length (now state)) ⌝ }
+    ensures { λ _. ⌜ viewRows n (now (state .exit)) ≡ withRows (changeRow putBack i (viewRows n (now (state .entry)) .rows)) (viewRows n (now (state .entry))) ⌝ }
+{
+    if memory::row::place(state, n, i) == ASIDE {
+        set_place(state, n, i, BY_USE);
+    }
+}
+
+// The rows that were set aside go back.
+fn put_back(state: &mut [u8], n: usize)
+    requires { ⌜ headSize + n * rowSize ≤ length (now state) ⌝ }
+    ensures { λ _. ⌜ viewRows n (now (state .exit)) ≡ withRows (map putBack (viewRows n (now (state .entry)) .rows)) (viewRows n (now (state .entry))) ⌝ }
+{
+    let mut i = 0;
+    while i < n {
+        put_row_back(state, n, i);
+        i += 1;
+    }
+}
+
+// The rows that were set aside leave, in one pass; how many rows stay.
+fn drop_aside(state: &mut [u8], n: usize) -> usize
+    requires { ⌜ (n ≤ 1024) × (headSize + n * rowSize ≤ length (now state)) × PathsFit (viewRows n (now state) .rows) ⌝ }
+    ensures { λ r. ⌜ (r ≤ n) × (viewRows r (now (state .exit)) ≡ withOnlyRows (keepRows (λ x. not (atPlace aside x)) (viewRows n (now (state .entry)) .rows)) (viewRows n (now (state .entry)))) ⌝ }
+{
+    let none = NodeAddr([0u8; 16]);
+    sweep::sweep_rows(state, n, sweep::ASIDE, 0, none)
+}
+
+// Room for w in main. Where there is room nothing is written, and where it can't be made no row leaves.
+pub fn make_room(state: &mut [u8], n: usize, w: u64, time: u64) -> Room
+    requires { ⌜ (headSize + n * rowSize ≤ length (now state)) × (sound (capacity (now state)) (viewRows n (now state)) ≡ true) × (viewRows n (now state) .seq + total (mainVisits time) (viewRows n (now state) .rows) < 18446744073709551616) ⌝ }
+    ensures { λ r. ⌜ (roomOf r (viewRows (r .rows) (now (state .exit))) ≡ makeRoom time w (viewRows n (now (state .entry)))) × (r .rows ≤ n) ⌝ }
+{
+    let max = memory::head::max_entries(state);
+    let cut = cut_to_bound(w, max);
+    let count = count_rows(state, n, Segment::Main);
+    let stored = memory::head::stored_weight(state);
+    if has_room(max, count, stored, cut) {
+        return Room {
+            made: true,
+            rows: n,
+            examined: 0,
+        };
+    }
+    let chosen = choose_victims(state, n, count, cut, time);
+    let examined = chosen.examined;
+    if chosen.made {
+        let rows = drop_aside(state, n);
+        return Room {
+            made: true,
+            rows,
+            examined,
+        };
+    }
+    put_back(state, n);
+    Room {
+        made: false,
+        rows: n,
+        examined,
+    }
+}

@@ -1,0 +1,34 @@
+-- The code's answers in the rules' terms.
+use Prim.Native.Nat.{ℕ}
+use mathlib.Core.Option.{Option, none, some}
+use mathlib.Core.Bool.{cond, _&&_, _||_}
+use lib.Dec.{ltb, eqb}
+use Rattle.rules.specs.Records.{State}
+use Rattle.rules.specs.Room.{Walk, Sought}
+use Rattle.stamps.specs.declared.answers.Lowest.{Lowest}
+use Rattle.stamps.specs.declared.answers.Lowest.the-variants.{At, Nothing}
+use Rattle.stamps.specs.declared.lowest.Best.{Best}
+use Rattle.stamps.specs.declared.lowest.Best.the-variants.{Row as Stamped, Nothing as Unstamped}
+use Rattle.stamps.specs.declared.answers.Victim.{Victim}
+
+unfoldable pub lowestOf : Lowest → Option ℕ
+lowestOf (At i) = some i
+lowestOf Nothing = none
+
+-- a state, after e keys were taken up
+abbrev pub walkFrom : State → ℕ → Walk
+walkFrom s e = record { state = s; examined = e }
+
+unfoldable pub soughtOf : Victim → State → Sought
+soughtOf v s = record { victim = lowestOf (v .found); walk = walkFrom s (v .examined) }
+
+-- ---- the best row of a search
+
+unfoldable pub bestRow : Best → Option ℕ
+bestRow (Stamped i f q) = some i
+bestRow Unstamped = none
+
+-- the best so far, if its stamp is before row i's
+unfoldable pub lowerBest : Best → ℕ → ℕ → ℕ → Best
+lowerBest (Stamped j g p) i f q = cond (ltb g f || (eqb g f && ltb p q)) (Stamped j g p) (Stamped i f q)
+lowerBest Unstamped i f q = Stamped i f q

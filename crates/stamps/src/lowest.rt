@@ -1,0 +1,64 @@
+// The lowest stamp of a place.
+use crate::answers::Lowest;
+ghost use mathlib.Core.Path.{_≡_};
+ghost use Prim.Native.Nat.{_+_, _*_, _≤_, _<_};
+ghost use lib.ListN.{length};
+ghost use Rattle.rules.specs.Rows.{rowSize, lowestStamp};
+ghost use Rattle.rules.specs.Memory.{headSize, viewRows};
+ghost use Rattle.stamps.specs.Walked.{lowerBest, bestRow, lowestOf};
+
+// The row with the lowest stamp so far, and that stamp.
+enum Best {
+    Row { at: usize, first: u64, seq: u64 },
+    Nothing,
+}
+
+// The best so far stays if its stamp is before row i's.
+fn lower_of(best: Best, i: usize, first: u64, seq: u64) -> Best
+    ensures { λ r. ⌜ r ≡ lowerBest best i first seq ⌝ }
+{
+    match best {
+        Best::Nothing => Best::Row { at: i, first, seq },
+        Best::Row {
+            at: j,
+            first: f,
+            seq: q,
+        } => {
+            if (f < first) | ((f == first) & (q < seq)) {
+                return best;
+            }
+            Best::Row { at: i, first, seq }
+        }
+    }
+}
+
+fn row_of(best: Best) -> Lowest
+    ensures { λ r. ⌜ lowestOf r ≡ bestRow best ⌝ }
+{
+    match best {
+        Best::Nothing => Lowest::Nothing,
+        Best::Row {
+            at: i,
+            first: _,
+            seq: _,
+        } => Lowest::At(i),
+    }
+}
+
+// From the last row to the first, so that equal stamps go to the lower key.
+pub fn lowest_stamp(state: &[u8], n: usize, place: u8) -> Lowest
+    requires { ⌜ headSize + n * rowSize ≤ length (now state) ⌝ }
+    ensures { λ r. ⌜ lowestOf r ≡ lowestStamp place (viewRows n (now (state .entry)) .rows) ⌝ }
+{
+    let mut best = Best::Nothing;
+    let mut i = n;
+    while 0 < i {
+        i -= 1;
+        if memory::row::place(state, n, i) == place {
+            let first = memory::row::stamp_first(state, n, i);
+            let seq = memory::row::stamp_seq(state, n, i);
+            best = lower_of(best, i, first, seq);
+        }
+    }
+    row_of(best)
+}

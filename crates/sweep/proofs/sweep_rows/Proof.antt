@@ -1,0 +1,27 @@
+use borrow.Author.Needs.{needs}
+use Rattle.sweep.proofs.Sweeping.{swept}
+use Rattle.sweep.proofs.sweep_rows.Statement.{statement}
+use Rattle.sweep.proofs.sweep_rows.Tie as tie
+
+keep-rows-requires : tie.Need-keep-rows-requires
+keep-rows-requires c κs = search needs
+
+weight-of-requires : tie.Need-weight-of-requires
+weight-of-requires c κs = search needs
+
+shrink-requires : tie.Need-shrink-requires
+shrink-requires c κs = search needs
+
+same-length : tie.Need-same-length
+same-length c = search needs
+
+returns : tie.Need-returns
+returns c =
+    let s = c .before .before .before .before .before .before .before .before .before .before .before .args in
+    let k = c .before .before .before .before .before .before .before .before .keep-rows .ensures in
+    (k .0, k .1, swept (s .kind) (s .time) (s .addr) (s .n) (c .before .before .before .before .before .before .before .before .keep-rows .result) (c .before .before .before .before .weight-of .result) (s .state .now) (c .before .before .before .before .before .before .before .before .keep-rows .last .0) _ (k .0) (k .1) (k .2) (c .before .before .before .before .weight-of .ensures) (c .before .before .shrink .ensures))
+
+pub sweep-rows-spec : {M : Type 1} → statement M
+sweep-rows-spec =
+    tie.close
+    (tie.spec keep-rows-requires weight-of-requires shrink-requires same-length returns)
