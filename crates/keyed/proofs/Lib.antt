@@ -1,0 +1,3 @@
+pub mod Clearing
+pub mod Demoting
+pub mod Removing

@@ -1,0 +1,3 @@
+pub mod Refusing
+pub mod Touching
+pub mod Looking

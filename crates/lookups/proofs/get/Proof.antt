@@ -1,0 +1,52 @@
+use mathlib.Core.Path.{refl, sym, _∙_}
+use borrow.Author.Tests.{not-true, not-false}
+use Rattle.rules.specs.Calls.{Get}
+use Rattle.rules.proofs.MemoryLaws.{all-bytes}
+use Rattle.rules.proofs.Public.{sound-memory}
+use borrow.Author.Needs.{needs}
+use Rattle.frame.proofs.Refusing.{one-numbered}
+use Rattle.lookups.proofs.Refusing.{one-got}
+use Rattle.lookups.proofs.Looking.{get-done, get-left}
+use Rattle.lookups.proofs.get.Statement.{statement}
+use Rattle.lookups.proofs.get.Tie as tie
+
+is-sound-requires : tie.Need-is-sound-requires
+is-sound-requires c κs = search needs
+
+sub-result : tie.Need-sub-result
+sub-result c = search needs
+
+part-result-start : tie.Need-part-result-start
+part-result-start c = search needs
+
+part-result-end : tie.Need-part-result-end
+part-result-end c = search needs
+
+returns : tie.Need-returns
+returns c =
+    let s = c .before .before .before .before in
+    let l = s .args .state .now in
+    let h = sym (c .before .before .is-sound .ensures) ∙ not-true _ (c .before .if1 .taken) in
+    (one-got l (s .args .key) (s .args .time) h, (one-numbered l (Get (s .args .key) (s .args .time)) h .0, one-numbered l (Get (s .args .key) (s .args .time)) h .1))
+
+get-unchecked-requires : tie.Need-get-unchecked-requires
+get-unchecked-requires c κs = sym (c .before .is-sound .ensures) ∙ not-false _ (c .if1 .left)
+
+returns-2 : tie.Need-returns-2
+returns-2 c =
+    let s = c .before .before .before .before in
+    let l = s .args .state .now in
+    let h = sym (c .before .before .is-sound .ensures) ∙ not-false _ (c .before .if1 .left) in
+    (c .get-unchecked .ensures, (get-done l _ (s .args .key) (s .args .time) h (sound-memory l _ h refl) (all-bytes l (λ i. c .before .before .before .shared-slice-known .given i .fits)), get-left l _ (s .args .key) (s .args .time) h (sound-memory l _ h refl) (all-bytes l (λ i. c .before .before .before .shared-slice-known .given i .fits))))
+
+pub get-spec : {M : Type 1} → statement M
+get-spec =
+    tie.close
+    (tie.spec
+    is-sound-requires
+    sub-result
+    part-result-start
+    part-result-end
+    returns
+    get-unchecked-requires
+    returns-2)

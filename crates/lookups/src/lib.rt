@@ -1,0 +1,127 @@
+// get and get_and_touch, and touch, which does the work of the latter.
+use coord::node_addr::NodeAddr;
+use search::answers::Search;
+use types::answers::TouchAnswer;
+ghost use mathlib.Core.Path.{_≡_};
+ghost use mathlib.Core.Bool.{true};
+ghost use Prim.Native.Nat.{_+_, _*_, _-_, _≤_, _<_};
+ghost use lib.ListN.{length};
+ghost use Rattle.rules.specs.Rows.{rowSize, mainWeight};
+ghost use Rattle.rules.specs.Sound.{sound};
+ghost use Rattle.rules.specs.Entries.{refresh};
+ghost use Rattle.rules.specs.Lookups.{rewrite};
+ghost use Rattle.rules.specs.Calls.{GetAndTouch, Get};
+ghost use Rattle.rules.specs.Answers.{refusalOf, touchAnswer, touchReply};
+ghost use Rattle.rules.specs.Memory.{headSize, capacity, viewRows, view};
+ghost use Rattle.rules.specs.Commands.{reply};
+ghost use Rattle.rules.specs.Lent.{call, gotPart};
+ghost use Rattle.lookups.specs.Steps.{touchedAt, touchSays};
+
+// Row i is refreshed: last_used and expires_at are set.
+fn refresh_at(state: &mut [u8], n: usize, i: usize, time: u64)
+    requires { ⌜ (i < n) × (headSize + n * rowSize ≤ length (now state)) ⌝ }
+    ensures { λ _. ⌜ viewRows n (now (state .exit)) ≡ rewrite (refresh time (viewRows n (now (state .entry)) .defaultTtl)) i (viewRows n (now (state .entry))) ⌝ }
+{
+    let expires = entries::add_times(time, memory::head::default_ttl(state));
+    memory::row::set_times(state, n, i, time, expires);
+}
+
+// Row i leaves if it is expired, and is refreshed otherwise.
+fn touch_at(state: &mut [u8], n: usize, i: usize, time: u64) -> TouchAnswer
+    requires { ⌜ (i < n) × (headSize + n * rowSize ≤ length (now state)) × (viewRows n (now state) .storedWeight ≡ mainWeight (viewRows n (now state))) ⌝ }
+    ensures { λ r. ⌜ (r ≡ touchSays i time (viewRows n (now (state .entry)))) × (viewRows (length (touchedAt i time (viewRows n (now (state .entry))) .rows)) (now (state .exit)) ≡ touchedAt i time (viewRows n (now (state .entry)))) ⌝ }
+{
+    if entries::is_expired(state, n, i, time) {
+        memory::rows::remove_row(state, n, i);
+        return TouchAnswer::Absent;
+    }
+    let len = raw::numbers::wide(memory::row::path_len(state, n, i));
+    refresh_at(state, n, i, time);
+    TouchAnswer::Found(len)
+}
+
+// The work of get_and_touch: reply and memory. The part is then read from the memory by `get`.
+pub fn touch_unchecked(state: &mut [u8], key: NodeAddr, time: u64) -> TouchAnswer
+    requires { ⌜ sound (capacity (now state)) (view (now state)) ≡ true ⌝ }
+    ensures { λ r. ⌜ (touchReply r ≡ reply (call (now (state .entry)) (GetAndTouch key time) .answer)) × (r ≡ touchAnswer (call (now (state .entry)) (GetAndTouch key time) .answer)) × (now (state .exit) ≡ call (now (state .entry)) (GetAndTouch key time) .memory) ⌝ }
+{
+    let n = memory::head::row_count(state) as usize;
+    let at = search::keys::search(state, n, key);
+    match at {
+        Search::At(i) => touch_at(state, n, i, time),
+        Search::Absent(_) => TouchAnswer::Absent,
+    }
+}
+
+pub fn touch(state: &mut [u8], key: NodeAddr, time: u64) -> TouchAnswer
+    ensures { λ r. ⌜ (touchReply r ≡ reply (call (now (state .entry)) (GetAndTouch key time) .answer)) × (r ≡ touchAnswer (call (now (state .entry)) (GetAndTouch key time) .answer)) × (now (state .exit) ≡ call (now (state .entry)) (GetAndTouch key time) .memory) ⌝ }
+{
+    if !soundness::is_sound(state) {
+        return TouchAnswer::Refused(1);
+    }
+    touch_unchecked(state, key, time)
+}
+
+pub fn get_unchecked<'a>(state: &'a [u8], key: NodeAddr, time: u64) -> &'a [u8]
+    requires { ⌜ sound (capacity (now state)) (view (now state)) ≡ true ⌝ }
+    ensures { λ r. ⌜ now r ≡ gotPart key time (now (state .entry)) ⌝ }
+{
+    let n = memory::head::row_count(state) as usize;
+    let at = search::keys::search(state, n, key);
+    match at {
+        Search::At(i) => {
+            if entries::is_expired(state, n, i, time) {
+                return &state[0..0];
+            }
+            paths::path::path_part(state, n, i)
+        }
+        Search::Absent(_) => &state[0..0],
+    }
+}
+
+// The number lent beside the state is the refusal, 0 if done.
+pub fn get<'a>(state: &'a [u8], key: NodeAddr, time: u64, refused: &mut u8) -> &'a [u8]
+    ensures part { λ r. ⌜ now r ≡ gotPart key time (now (state .entry)) ⌝ }
+    ensures why { λ r. ⌜ now (refused .exit) ≡ refusalOf (call (now (state .entry)) (Get key time) .answer) ⌝ }
+    ensures left { λ r. ⌜ now (state .exit) ≡ call (now (state .entry)) (Get key time) .memory ⌝ }
+{
+    if !soundness::is_sound(state) {
+        *refused = 1;
+        return &state[0..0];
+    }
+    *refused = 0;
+    get_unchecked(state, key, time)
+}
+
+// touch does the work; the part is then read from the memory that it leaves. A parameter that lends a part
+// out has no memory at exit to speak of, so the equation of the memory stands at touch.
+pub fn get_and_touch_unchecked<'a>(state: &'a mut [u8], key: NodeAddr, time: u64) -> &'a [u8]
+    requires { ⌜ sound (capacity (now state)) (view (now state)) ≡ true ⌝ }
+    ensures { λ r. ⌜ now r ≡ gotPart key time (call (now (state .entry)) (GetAndTouch key time) .memory) ⌝ }
+{
+    let answer = touch_unchecked(state, key, time);
+    let after = &state[..];
+    match answer {
+        TouchAnswer::Found(_) => get_unchecked(after, key, time),
+        TouchAnswer::Absent => &after[0..0],
+        TouchAnswer::Refused(_) => &after[0..0],
+    }
+}
+
+pub fn get_and_touch<'a>(
+    state: &'a mut [u8],
+    key: NodeAddr,
+    time: u64,
+    refused: &mut u8,
+) -> &'a [u8]
+    ensures part { λ r. ⌜ now r ≡ gotPart key time (call (now (state .entry)) (GetAndTouch key time) .memory) ⌝ }
+    ensures why { λ r. ⌜ now (refused .exit) ≡ refusalOf (call (now (state .entry)) (GetAndTouch key time) .answer) ⌝ }
+{
+    if !soundness::is_sound(state) {
+        *refused = 1;
+        let after = &state[..];
+        return &after[0..0];
+    }
+    *refused = 0;
+    get_and_touch_unchecked(state, key, time)
+}

@@ -1,0 +1,66 @@
+use mathlib.Core.Path.{_≡_}
+use mathlib.Core.Bool.{cond}
+use Prim.Native.Nat.{_+_, _-_, _≤_}
+use native.Mathlib.Omega.{arith}
+use lib.ListN.{drop}
+use borrow.Author.Needs.{needs}
+use Rattle.rules.specs.Rows.{total}
+use Rattle.rules.specs.Entries.{expired}
+use Rattle.rules.specs.Memory.{viewRows}
+use Rattle.memory.proofs.RowLaws.{view-length}
+use Rattle.memory.proofs.Totals.{total-end, one-at-most, count-turn}
+use Rattle.statistics.proofs.count_expired.Statement.{statement}
+use Rattle.statistics.proofs.count_expired.Tie as tie
+
+abbrev Inv-loop : tie.InvT-loop
+Inv-loop state n time count₀ i₀ count i = (i ≤ n) × (count ≤ i) × (count + total (λ x. cond (expired time (x .entry)) 1 0) (drop i (viewRows n state .rows)) ≡ total (λ x. cond (expired time (x .entry)) 1 0) (viewRows n state .rows))
+
+abbrev μ-loop : tie.MeasureT-loop
+μ-loop state n time count₀ i₀ count i = n - i
+
+loop-holds : tie.Need-loop-holds Inv-loop μ-loop
+loop-holds c = search needs
+
+is-expired-requires : tie.Need-is-expired-requires Inv-loop μ-loop
+is-expired-requires c κs = search needs
+
+cast-count : tie.Need-cast-count Inv-loop μ-loop
+cast-count c = search needs
+
+add-count : tie.Need-add-count Inv-loop μ-loop
+add-count c =
+    let h = c .before .before .loop .inv .1 in
+    omega (arith, one-at-most (c .is-expired .result), c .before .before .before .before .pre .0)
+
+add-i : tie.Need-add-i Inv-loop μ-loop
+add-i c = search needs
+
+loop-less : tie.Need-loop-less Inv-loop μ-loop
+loop-less c = search needs
+
+loop-again : tie.Need-loop-again Inv-loop μ-loop
+loop-again c =
+    let s = c .before .before .before .before .args in
+    let v = c .before .before .loop .inv in
+    (omega arith, omega (arith, v .1, one-at-most (c .is-expired .result)), count-turn (λ x. expired (s .time) (x .entry)) (c .before .before .loop .i) (c .before .before .loop .count) _ (c .is-expired .result) (viewRows (s .n) (s .state .now) .rows) (omega (arith, view-length (s .n) (s .state .now))) (c .is-expired .ensures) (v .2))
+
+returns : tie.Need-returns Inv-loop μ-loop
+returns c =
+    let s = c .before .before .before .args in
+    let v = c .before .loop .inv in
+    omega (arith, v .2, total-end (λ x. cond (expired (s .time) (x .entry)) 1 0) (c .before .loop .i) (viewRows (s .n) (s .state .now) .rows) (omega (arith, view-length (s .n) (s .state .now))))
+
+pub count-expired-spec : {M : Type 1} → statement M
+count-expired-spec =
+    tie.close
+    (tie.spec
+    Inv-loop
+    μ-loop
+    loop-holds
+    is-expired-requires
+    cast-count
+    add-count
+    add-i
+    loop-less
+    loop-again
+    returns)

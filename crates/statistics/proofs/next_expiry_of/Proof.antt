@@ -1,0 +1,82 @@
+use mathlib.Core.Path.{_≡_, sym, ap, _∙_}
+use mathlib.Core.Option.{some}
+use Prim.Native.Nat.{ℕ, _+_, _-_, _<_, min}
+use native.Mathlib.Omega.{arith}
+use lib.ListN.{drop}
+use borrow.Author.Needs.{needs}
+use Rattle.rules.specs.Calls.{ExpiryGiven}
+use Rattle.rules.specs.Statistics.{nextExpiry}
+use Rattle.rules.specs.Memory.{viewRows}
+use Rattle.rules.specs.Answers.{expirySaid}
+use Rattle.memory.proofs.RowLaws.{view-length}
+use Rattle.statistics.proofs.Means.{expiry-none, expiry-last, expiry-turn}
+use Rattle.statistics.proofs.next_expiry_of.Statement.{statement}
+use Rattle.statistics.proofs.next_expiry_of.Tie as tie
+
+abbrev Inv-loop : tie.InvT-loop
+Inv-loop state n i₀ soonest₀ i soonest = (i < n) × (nextExpiry (drop i (viewRows n state .rows)) ≡ some soonest)
+
+abbrev μ-loop : tie.MeasureT-loop
+μ-loop state n i₀ soonest₀ i soonest = i
+
+returns : tie.Need-returns Inv-loop μ-loop
+unfolding expirySaid
+returns c =
+    let s = c .before .before .args in
+    let e : s .n ≡ 0 = c .if1 .taken in
+    rw e (ap ExpiryGiven (sym (expiry-none (s .state .now))))
+
+sub-i : tie.Need-sub-i Inv-loop μ-loop
+sub-i c = search needs
+
+expires-at-requires : tie.Need-expires-at-requires Inv-loop μ-loop
+expires-at-requires c κs = search needs
+
+loop-holds : tie.Need-loop-holds Inv-loop μ-loop
+loop-holds c =
+    let s = c .before .before .before .args in
+    (omega arith, expiry-last (s .n - 1) (viewRows (s .n) (s .state .now) .rows) (omega (arith, view-length (s .n) (s .state .now))) ∙ ap some (sym (c .expires-at .ensures)))
+
+sub-i-2 : tie.Need-sub-i-2 Inv-loop μ-loop
+sub-i-2 c = search needs
+
+expires-at-requires-2 : tie.Need-expires-at-requires-2 Inv-loop μ-loop
+expires-at-requires-2 c κs = search needs
+
+lesser-requires : tie.Need-lesser-requires Inv-loop μ-loop
+lesser-requires c κs = search needs
+
+loop-less : tie.Need-loop-less Inv-loop μ-loop
+loop-less c = search needs
+
+loop-again : tie.Need-loop-again Inv-loop μ-loop
+loop-again c =
+    let s = c .before .before .before .before .before .before .before .args in
+    let l = c .before .before .before .loop in
+    let rs = viewRows (s .n) (s .state .now) .rows in
+    let e : l .i - 1 + 1 ≡ l .i = omega arith in
+    (omega arith, expiry-turn (l .i - 1) (l .soonest) rs (omega (arith, view-length (s .n) (s .state .now))) (rw e (l .inv .1)) ∙ ap (λ (x : ℕ). some (min x (l .soonest))) (sym (c .before .expires-at2 .ensures)) ∙ ap some (sym (c .lesser .ensures)))
+
+returns-2 : tie.Need-returns-2 Inv-loop μ-loop
+unfolding expirySaid
+returns-2 c =
+    let l = c .before .loop in
+    let e : l .i ≡ 0 = omega arith in
+    ap ExpiryGiven (sym (rw e at (l .inv .1)))
+
+pub next-expiry-of-spec : {M : Type 1} → statement M
+next-expiry-of-spec =
+    tie.close
+    (tie.spec
+    Inv-loop
+    μ-loop
+    returns
+    sub-i
+    expires-at-requires
+    loop-holds
+    sub-i-2
+    expires-at-requires-2
+    lesser-requires
+    loop-less
+    loop-again
+    returns-2)
