@@ -1,0 +1,29 @@
+use mathlib.Core.Path.{_∙_}
+use Rattle.rules.specs.Calls.{InsertStated}
+use Rattle.rules.specs.Memory.{view}
+use Rattle.frame.proofs.Frame.{head-there}
+use Rattle.hints.proofs.Placed.{inserts-stated, shown-ttl}
+use borrow.Author.Needs.{needs}
+use Rattle.hints.proofs.insert_stated_unchecked.Statement.{statement}
+use Rattle.hints.proofs.insert_stated_unchecked.Tie as tie
+
+default-ttl-requires : tie.Need-default-ttl-requires
+default-ttl-requires c κs = head-there (c .before .before .args .state .now) (c .before .before .pre)
+
+starts-at-requires : tie.Need-starts-at-requires
+starts-at-requires c κs = search needs
+
+hint-requires : tie.Need-hint-requires
+hint-requires c κs = search needs
+
+same-length : tie.Need-same-length
+same-length c = search needs
+
+returns : tie.Need-returns
+returns c =
+    let a = c .before .before .before .before .before .before .before .before .args in
+    c .before .before .hint .ensures (InsertStated (a .key) (a .path) (a .time) (a .funding)) (inserts-stated (a .key) (a .path) (a .time) (c .before .before .before .before .before .default-ttl .result) (a .funding) (c .before .before .before .before .starts-at .result) (view (a .state .now)) (c .before .before .before .before .before .default-ttl .ensures ∙ shown-ttl (a .state .now)) (c .before .before .before .before .starts-at .ensures))
+
+pub insert-stated-unchecked-spec : {M : Type 1} → statement M
+insert-stated-unchecked-spec =
+    tie.close (tie.spec default-ttl-requires starts-at-requires hint-requires same-length returns)

@@ -1,0 +1,141 @@
+// insert, insert_with_ttl, insert_funded and insert_stated. Each stands twice: unchecked, on a memory known to be sound,
+// and public.
+use coord::coord::Path;
+use coord::node_addr::NodeAddr;
+use placement::hint::place_hint;
+use types::answers::HintAnswer;
+use types::placed::Funding;
+ghost use mathlib.Core.Path.{_≡_};
+ghost use mathlib.Core.Bool.{true};
+ghost use Rattle.rules.specs.Sound.{sound};
+ghost use Rattle.rules.specs.Calls.{Call, Insert, InsertWithTtl, InsertFunded, InsertStated};
+ghost use Rattle.rules.specs.Answers.{hintSaid};
+ghost use Rattle.rules.specs.Memory.{capacity, view};
+ghost use Rattle.rules.specs.Lent.{call};
+ghost use Rattle.hints.specs.Hints.{Places};
+
+// All four: refused by 2 or 3, or placed.
+fn hint(
+    state: &mut [u8],
+    key: NodeAddr,
+    path: Path,
+    time: u64,
+    ttl: u64,
+    funding: Funding,
+    stated: bool,
+) -> HintAnswer
+    requires { ⌜ sound (capacity (now state)) (view (now state)) ≡ true ⌝ }
+    ensures { λ r. ⌜ ((q : Call) → Places q key path time ttl funding stated (view (now (state .entry))) → (hintSaid r ≡ call (now (state .entry)) q .answer) × (now (state .exit) ≡ call (now (state .entry)) q .memory)) ⌝ }
+{
+    let number = frame::write_refusal(state, path);
+    if number != 0 {
+        return HintAnswer::Refused(number);
+    }
+    let n = memory::head::row_count(state) as usize;
+    HintAnswer::Placed(place_hint(state, n, key, path, time, ttl, funding, stated))
+}
+
+pub fn insert_unchecked(state: &mut [u8], key: NodeAddr, path: Path, time: u64) -> HintAnswer
+    requires { ⌜ sound (capacity (now state)) (view (now state)) ≡ true ⌝ }
+    ensures { λ r. ⌜ (hintSaid r ≡ call (now (state .entry)) (Insert key path time) .answer) × (now (state .exit) ≡ call (now (state .entry)) (Insert key path time) .memory) ⌝ }
+{
+    let ttl = memory::head::default_ttl(state);
+    hint(state, key, path, time, ttl, Funding::Uncharged, false)
+}
+
+pub fn insert(state: &mut [u8], key: NodeAddr, path: Path, time: u64) -> HintAnswer
+    ensures { λ r. ⌜ (hintSaid r ≡ call (now (state .entry)) (Insert key path time) .answer) × (now (state .exit) ≡ call (now (state .entry)) (Insert key path time) .memory) ⌝ }
+{
+    if !soundness::is_sound(state) {
+        return HintAnswer::Refused(1);
+    }
+    insert_unchecked(state, key, path, time)
+}
+
+pub fn insert_with_ttl_unchecked(
+    state: &mut [u8],
+    key: NodeAddr,
+    path: Path,
+    time: u64,
+    ttl: u64,
+) -> HintAnswer
+    requires { ⌜ sound (capacity (now state)) (view (now state)) ≡ true ⌝ }
+    ensures { λ r. ⌜ (hintSaid r ≡ call (now (state .entry)) (InsertWithTtl key path time ttl) .answer) × (now (state .exit) ≡ call (now (state .entry)) (InsertWithTtl key path time ttl) .memory) ⌝ }
+{
+    hint(state, key, path, time, ttl, Funding::Uncharged, false)
+}
+
+pub fn insert_with_ttl(
+    state: &mut [u8],
+    key: NodeAddr,
+    path: Path,
+    time: u64,
+    ttl: u64,
+) -> HintAnswer
+    ensures { λ r. ⌜ (hintSaid r ≡ call (now (state .entry)) (InsertWithTtl key path time ttl) .answer) × (now (state .exit) ≡ call (now (state .entry)) (InsertWithTtl key path time ttl) .memory) ⌝ }
+{
+    if !soundness::is_sound(state) {
+        return HintAnswer::Refused(1);
+    }
+    insert_with_ttl_unchecked(state, key, path, time, ttl)
+}
+
+pub fn insert_funded_unchecked(
+    state: &mut [u8],
+    key: NodeAddr,
+    path: Path,
+    time: u64,
+    funding: Funding,
+) -> HintAnswer
+    requires { ⌜ sound (capacity (now state)) (view (now state)) ≡ true ⌝ }
+    ensures { λ r. ⌜ (hintSaid r ≡ call (now (state .entry)) (InsertFunded key path time funding) .answer) × (now (state .exit) ≡ call (now (state .entry)) (InsertFunded key path time funding) .memory) ⌝ }
+{
+    let ttl = memory::head::default_ttl(state);
+    hint(state, key, path, time, ttl, funding, false)
+}
+
+pub fn insert_funded(
+    state: &mut [u8],
+    key: NodeAddr,
+    path: Path,
+    time: u64,
+    funding: Funding,
+) -> HintAnswer
+    ensures { λ r. ⌜ (hintSaid r ≡ call (now (state .entry)) (InsertFunded key path time funding) .answer) × (now (state .exit) ≡ call (now (state .entry)) (InsertFunded key path time funding) .memory) ⌝ }
+{
+    if !soundness::is_sound(state) {
+        return HintAnswer::Refused(1);
+    }
+    insert_funded_unchecked(state, key, path, time, funding)
+}
+
+// Stated: the path's first address is the key.
+pub fn insert_stated_unchecked(
+    state: &mut [u8],
+    key: NodeAddr,
+    path: Path,
+    time: u64,
+    funding: Funding,
+) -> HintAnswer
+    requires { ⌜ sound (capacity (now state)) (view (now state)) ≡ true ⌝ }
+    ensures { λ r. ⌜ (hintSaid r ≡ call (now (state .entry)) (InsertStated key path time funding) .answer) × (now (state .exit) ≡ call (now (state .entry)) (InsertStated key path time funding) .memory) ⌝ }
+{
+    let ttl = memory::head::default_ttl(state);
+    let stated = path.starts_at(key);
+    hint(state, key, path, time, ttl, funding, stated)
+}
+
+pub fn insert_stated(
+    state: &mut [u8],
+    key: NodeAddr,
+    path: Path,
+    time: u64,
+    funding: Funding,
+) -> HintAnswer
+    ensures { λ r. ⌜ (hintSaid r ≡ call (now (state .entry)) (InsertStated key path time funding) .answer) × (now (state .exit) ≡ call (now (state .entry)) (InsertStated key path time funding) .memory) ⌝ }
+{
+    if !soundness::is_sound(state) {
+        return HintAnswer::Refused(1);
+    }
+    insert_stated_unchecked(state, key, path, time, funding)
+}

@@ -1,0 +1,3 @@
+pub mod AfterRoom
+pub mod NewKeys
+pub mod HeldKeys

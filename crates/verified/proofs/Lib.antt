@@ -1,0 +1,3 @@
+pub mod NoPlace
+pub mod Inserting
+pub mod Calling

@@ -1,0 +1,41 @@
+use mathlib.Core.Path.{sym, _∙_}
+use borrow.Author.Tests.{not-true, not-false}
+use Rattle.rules.specs.Calls.{InsertVerifiedWithPathMtu}
+use Rattle.rules.specs.Answers.{verifiedSaid}
+use Rattle.frame.proofs.Refusing.{one-said}
+use borrow.Author.Needs.{needs}
+use Rattle.verified.proofs.insert_verified_with_path_mtu.Statement.{statement}
+use Rattle.verified.proofs.insert_verified_with_path_mtu.Tie as tie
+
+is-sound-requires : tie.Need-is-sound-requires
+is-sound-requires c κs = search needs
+
+same-length : tie.Need-same-length
+same-length c = search needs
+
+returns : tie.Need-returns
+unfolding verifiedSaid
+returns c =
+    let s = c .before .before .before .before in
+    one-said (s .args .state .now) (InsertVerifiedWithPathMtu (s .args .key) (s .args .path) (s .args .time) (s .args .mtu)) (sym (c .before .is-sound .ensures) ∙ not-true _ (c .if1 .taken))
+
+insert-verified-with-path-mtu-unchecked-requires :
+    tie.Need-insert-verified-with-path-mtu-unchecked-requires
+insert-verified-with-path-mtu-unchecked-requires c κs = sym (c .before .before .is-sound .ensures) ∙ not-false _ (c .before .if1 .left)
+
+same-length-2 : tie.Need-same-length-2
+same-length-2 c = search needs
+
+returns-2 : tie.Need-returns-2
+returns-2 c = search needs
+
+pub insert-verified-with-path-mtu-spec : {M : Type 1} → statement M
+insert-verified-with-path-mtu-spec =
+    tie.close
+    (tie.spec
+    is-sound-requires
+    same-length
+    returns
+    insert-verified-with-path-mtu-unchecked-requires
+    same-length-2
+    returns-2)
