@@ -1,0 +1,124 @@
+// The calls that need no room, on a fresh, a full and a foreign state; on states that one field makes unsound, each
+// condition in turn; on memory of every length up to 3 rows. What it prints is held to `stdout`.
+mod asking;
+mod lines;
+mod states;
+
+use asking::CALLS;
+use states::BAD_STATES;
+ghost use Prim.Native.Nat.{_≤_};
+
+// The length of 3 rows.
+const LAST: usize = 3325;
+
+// What call number `call` answers on the state of this kind, and a sum over the memory that it leaves.
+fn answer(kind: u64, call: u64) {
+    let mut memory = io::buffer();
+    states::make(&mut memory, kind);
+    let said = asking::ask(&mut memory, call);
+    lines::number(kind);
+    lines::number(call);
+    lines::number(said.refusal);
+    lines::number(said.value);
+    lines::last(lines::sum(&memory));
+}
+
+fn answers(kind: u64) {
+    let mut call = 0;
+    while call < CALLS {
+        answer(kind, call);
+        call += 1;
+    }
+}
+
+// 1 if this call is refused by that number and leaves the memory as it was before, else 0.
+fn refused(memory: &mut [u8], before: &[u8], call: u64, number: u64) -> u64
+    ensures { λ r. ⌜ r ≤ 1 ⌝ }
+{
+    let said = asking::ask(memory, call);
+    if (said.refusal == number) & (said.value == 0) & check::same(memory, before) {
+        1
+    } else {
+        0
+    }
+}
+
+// How many of the calls that need a sound state refuse this memory by 1 and leave it.
+fn refusals(memory: &mut [u8], before: &[u8]) -> u64
+    ensures { λ r. ⌜ r ≤ 21 ⌝ }
+{
+    let mut count: u64 = 0;
+    let mut call = 0;
+    while call < CALLS {
+        count += refused(memory, before, call, 1);
+        call += 1;
+    }
+    count
+}
+
+fn bad_state(number: u64) {
+    let mut memory = io::buffer();
+    let mut before = io::buffer();
+    states::make(&mut memory, states::FOREIGN);
+    states::spoil(&mut memory, number);
+    states::make(&mut before, states::FOREIGN);
+    states::spoil(&mut before, number);
+    lines::number(states::BAD);
+    lines::number(number);
+    lines::last(refusals(&mut memory, &before));
+}
+
+fn bad_states() {
+    let mut number = 0;
+    while number < BAD_STATES {
+        bad_state(number);
+        number += 1;
+    }
+}
+
+// How many of the calls refuse a memory of this length, whose head claims 3 entries; fresh among them, by 5.
+fn short_refusals(memory: &mut [u8], before: &[u8]) -> u64
+    ensures { λ r. ⌜ r ≤ 22 ⌝ }
+{
+    refusals(memory, before) + refused(memory, before, asking::FRESH_3, 5)
+}
+
+fn short_length(memory: &mut [u8], before: &[u8], length: usize) -> u64
+    ensures { λ r. ⌜ r ≤ 22 ⌝ }
+{
+    if length <= memory.len() {
+        if length <= before.len() {
+            return short_refusals(&mut memory[..length], &before[..length]);
+        }
+    }
+    0
+}
+
+// How many calls were refused, over all lengths up to that of 3 rows.
+fn short_ones(memory: &mut [u8], before: &[u8]) -> u64 {
+    let mut length: usize = 0;
+    let mut count: u64 = 0;
+    while length <= LAST {
+        count += short_length(memory, before, length);
+        length += 1;
+    }
+    count
+}
+
+fn short_lengths() {
+    let mut memory = io::buffer();
+    let mut before = io::buffer();
+    memory[0] = 3;
+    before[0] = 3;
+    let count = short_ones(&mut memory, &before);
+    lines::number(states::SHORT);
+    lines::last(count);
+}
+
+fn main() {
+    answers(states::FRESH);
+    answers(states::FULL);
+    answers(states::FOREIGN);
+    bad_states();
+    short_lengths();
+}

@@ -1,0 +1,309 @@
+// States of 3 rows made byte by byte, and what makes one of them unsound.
+
+pub const FRESH: u64 = 0;
+
+pub const FULL: u64 = 1;
+
+pub const FOREIGN: u64 = 2;
+
+pub const BAD: u64 = 3;
+
+pub const SHORT: u64 = 4;
+
+pub const BAD_STATES: u64 = 32;
+
+// Where a row's fields stand in it.
+const LEN: usize = 16;
+
+const PLACES: usize = 17;
+
+const CREATED_AT: usize = 1041;
+
+const LAST_USED: usize = 1049;
+
+const EXPIRES_AT: usize = 1057;
+
+const MTU_MARK: usize = 1065;
+
+const MTU: usize = 1066;
+
+const SOURCE: usize = 1068;
+
+const VERIFIED_UNTIL: usize = 1069;
+
+const PLACE: usize = 1077;
+
+const STAMP_FIRST: usize = 1078;
+
+const STAMP_SEQ: usize = 1086;
+
+const WEIGHT: usize = 1094;
+
+fn put(memory: &mut [u8], at: usize, v: u8) {
+    if at < memory.len() {
+        memory[at] = v;
+    }
+}
+
+// A number of four bytes.
+fn put_number(memory: &mut [u8], at: usize, v: u32) {
+    if at < 1000000 {
+        put(memory, at, (v % 256) as u8);
+        put(memory, at + 1, (v / 256 % 256) as u8);
+        put(memory, at + 2, (v / 65536 % 256) as u8);
+        put(memory, at + 3, (v / 16777216 % 256) as u8);
+    }
+}
+
+// A byte of row i.
+fn put_in(memory: &mut [u8], i: usize, at: usize, v: u8) {
+    if i < 3 {
+        if at < 1095 {
+            put(memory, 40 + i * 1095 + at, v);
+        }
+    }
+}
+
+fn put_number_in(memory: &mut [u8], i: usize, at: usize, v: u32) {
+    if i < 3 {
+        if at < 1095 {
+            put_number(memory, 40 + i * 1095 + at, v);
+        }
+    }
+}
+
+// An address: sixteen 17s but for the last byte.
+fn put_address(memory: &mut [u8], i: usize, at: usize, last: u8) {
+    if at < 1000 {
+        put_number_in(memory, i, at, 286331153);
+        put_number_in(memory, i, at + 4, 286331153);
+        put_number_in(memory, i, at + 8, 286331153);
+        put_number_in(memory, i, at + 12, 286331153);
+        put_in(memory, i, at + 15, last);
+    }
+}
+
+// max_entries, default_ttl_ms, seq, stored_weight and the row count.
+fn put_head(memory: &mut [u8], max: u32, ttl: u32, seq: u32, stored: u32, count: u32) {
+    put_number(memory, 0, max);
+    put_number(memory, 8, ttl);
+    put_number(memory, 16, seq);
+    put_number(memory, 24, stored);
+    put_number(memory, 32, count);
+}
+
+// Key and path: from the key itself to the root, 1 or 2 elements.
+fn put_path(memory: &mut [u8], i: usize, key: u8, root: u8, len: u8) {
+    put_address(memory, i, 0, key);
+    put_in(memory, i, LEN, len);
+    put_address(memory, i, PLACES, key);
+    put_address(memory, i, PLACES + 32, root);
+}
+
+fn put_times(memory: &mut [u8], i: usize, created: u32, used: u32, expires: u32) {
+    put_number_in(memory, i, CREATED_AT, created);
+    put_number_in(memory, i, LAST_USED, used);
+    put_number_in(memory, i, EXPIRES_AT, expires);
+}
+
+fn put_source(memory: &mut [u8], i: usize, source: u8, until: u32) {
+    put_in(memory, i, SOURCE, source);
+    put_number_in(memory, i, VERIFIED_UNTIL, until);
+}
+
+fn put_filed(memory: &mut [u8], i: usize, place: u8, first: u32, seq: u8, weight: u8) {
+    put_in(memory, i, PLACE, place);
+    put_number_in(memory, i, STAMP_FIRST, first);
+    put_in(memory, i, STAMP_SEQ, seq);
+    put_in(memory, i, WEIGHT, weight);
+}
+
+// When a row was made, used and expires; who it is from.
+pub struct Times {
+    created: u32,
+    used: u32,
+    expires: u32,
+    source: u8,
+    until: u32,
+}
+
+// Where a row is filed.
+pub struct Filed {
+    place: u8,
+    first: u32,
+    seq: u8,
+    weight: u8,
+}
+
+fn put_row(memory: &mut [u8], i: usize, t: Times, f: Filed) {
+    put_times(memory, i, t.created, t.used, t.expires);
+    put_source(memory, i, t.source, t.until);
+    put_filed(memory, i, f.place, f.first, f.seq, f.weight);
+}
+
+fn put_hint(memory: &mut [u8], i: usize, time: u32, place: u8) {
+    if time < 100 {
+        let t = Times {
+            created: time,
+            used: time,
+            expires: 300 + time,
+            source: 1,
+            until: 0,
+        };
+        let f = Filed {
+            place: place,
+            first: time,
+            seq: time as u8,
+            weight: 16,
+        };
+        put_row(memory, i, t, f);
+    }
+}
+
+// As three writes make it: two hints in main, one in probation.
+fn make_full(memory: &mut [u8]) {
+    put_head(memory, 2, 300, 3, 32, 3);
+    put_paths(memory, 2);
+    put_hint(memory, 0, 1, 0);
+    put_hint(memory, 1, 2, 0);
+    put_hint(memory, 2, 3, 2);
+}
+
+// Keys 1, 2 and 3; the first path has this length. A number past the last row.
+fn put_paths(memory: &mut [u8], len: u8) {
+    put_path(memory, 0, 1, 9, len);
+    put_path(memory, 1, 2, 9, 2);
+    put_path(memory, 2, 3, 3, 1);
+    put_number(memory, 4000, 77);
+}
+
+// A parked row with an MTU.
+fn put_parked(memory: &mut [u8]) {
+    put_in(memory, 0, MTU_MARK, 1);
+    put_number_in(memory, 0, MTU, 1500);
+    let t = Times {
+        created: 1,
+        used: 5,
+        expires: 50,
+        source: 0,
+        until: 300005,
+    };
+    let f = Filed {
+        place: 1,
+        first: 300005,
+        seq: 7,
+        weight: 16,
+    };
+    put_row(memory, 0, t, f);
+}
+
+// A row with a stale stamp and a weight above its path's.
+fn put_stale(memory: &mut [u8]) {
+    let t = Times {
+        created: 2,
+        used: 6,
+        expires: 20,
+        source: 1,
+        until: 0,
+    };
+    let f = Filed {
+        place: 0,
+        first: 3,
+        seq: 4,
+        weight: 20,
+    };
+    put_row(memory, 1, t, f);
+}
+
+// An expired row in probation, made after the time of the calls.
+fn put_expired(memory: &mut [u8]) {
+    let t = Times {
+        created: 30,
+        used: 7,
+        expires: 7,
+        source: 1,
+        until: 0,
+    };
+    let f = Filed {
+        place: 2,
+        first: 7,
+        seq: 9,
+        weight: 16,
+    };
+    put_row(memory, 2, t, f);
+}
+
+// Sound, and not as calls leave it; places past the length are not zero, nor are all bytes past the last row.
+fn make_foreign(memory: &mut [u8]) {
+    put_head(memory, 2, 300, 9, 36, 3);
+    put_paths(memory, 1);
+    put_parked(memory);
+    put_stale(memory);
+    put_expired(memory);
+}
+
+pub fn make(memory: &mut [u8], kind: u64) {
+    match kind {
+        0 => put_head(memory, 2, 300, 0, 0, 0),
+        1 => make_full(memory),
+        _ => make_foreign(memory),
+    }
+}
+
+// One field of the foreign state's head changed.
+fn spoil_head(memory: &mut [u8], number: u64) {
+    match number {
+        0 => put(memory, 0, 3),
+        1 => put(memory, 7, 255),
+        2 => put(memory, 16, 8),
+        3 => put(memory, 24, 35),
+        4 => put(memory, 24, 37),
+        5 => put(memory, 31, 255),
+        6 => put(memory, 32, 1),
+        7 => put(memory, 32, 4),
+        _ => put(memory, 39, 255),
+    }
+}
+
+// One field of a row changed: the key, the path's length, the mark, the source.
+fn spoil_entry(memory: &mut [u8], number: u64) {
+    match number {
+        9 => put_in(memory, 1, 15, 1),
+        10 => put_in(memory, 1, 0, 16),
+        11 => put_in(memory, 2, 15, 2),
+        12 => put_in(memory, 0, LEN, 0),
+        13 => put_in(memory, 0, LEN, 33),
+        14 => put_in(memory, 2, LEN, 17),
+        15 => put_in(memory, 0, MTU_MARK, 2),
+        16 => put_in(memory, 2, MTU_MARK, 255),
+        17 => put_in(memory, 0, SOURCE, 1),
+        18 => put_in(memory, 1, SOURCE, 2),
+        19 => put_in(memory, 2, SOURCE, 0),
+        20 => put_in(memory, 1, VERIFIED_UNTIL, 1),
+        _ => put_in(memory, 0, VERIFIED_UNTIL, 1),
+    }
+}
+
+// One field of a row changed: the place, the stamp, the weight.
+fn spoil_place(memory: &mut [u8], number: u64) {
+    match number {
+        22 => put_in(memory, 0, PLACE, 3),
+        23 => put_in(memory, 1, PLACE, 1),
+        24 => put_in(memory, 1, PLACE, 2),
+        25 => put_in(memory, 2, PLACE, 0),
+        26 => put_in(memory, 2, PLACE, 255),
+        27 => put_in(memory, 0, STAMP_FIRST, 0),
+        28 => put_in(memory, 1, STAMP_SEQ, 10),
+        29 => put_in(memory, 2, WEIGHT, 15),
+        30 => put_in(memory, 2, WEIGHT, 33),
+        _ => put_in(memory, 0, WEIGHT, 17),
+    }
+}
+
+pub fn spoil(memory: &mut [u8], number: u64) {
+    match number {
+        0..=8 => spoil_head(memory, number),
+        9..=21 => spoil_entry(memory, number),
+        _ => spoil_place(memory, number),
+    }
+}

@@ -1,0 +1,53 @@
+use mathlib.Core.Path.{sym, ap, _∙_}
+use Rattle.types.specs.declared.answers.TouchAnswer.{TouchAnswer}
+use Rattle.rules.specs.Answers.{touchReply}
+use borrow.Author.Needs.{needs}
+use Rattle.replies.proofs.touch_reply.Statement.{statement}
+use Rattle.replies.proofs.touch_reply.Tie as tie
+
+enum-known-answer : tie.Need-enum-known-answer
+enum-known-answer c = search needs
+
+refused-requires : tie.Need-refused-requires
+refused-requires c κs = search needs
+
+enum-known-answer-2 : tie.Need-enum-known-answer-2
+enum-known-answer-2 c = search needs
+
+says-requires : tie.Need-says-requires
+says-requires c κs = search needs
+
+enum-told : tie.Need-enum-told
+enum-told c = search needs
+
+says-requires-2 : tie.Need-says-requires-2
+says-requires-2 c κs = search needs
+
+returns : tie.Need-returns
+unfolding touchReply
+returns c =
+    c .refused .ensures ∙ sym (ap (λ (x : TouchAnswer). touchReply x) (c .before .before .answer .given .1))
+
+returns-2 : tie.Need-returns-2
+unfolding touchReply
+returns-2 c =
+    c .says .ensures ∙ sym (ap (λ (x : TouchAnswer). touchReply x) (c .before .before .answer2 .given .1))
+
+returns-3 : tie.Need-returns-3
+unfolding touchReply
+returns-3 c =
+    c .says2 .ensures ∙ sym (ap (λ (x : TouchAnswer). touchReply x) (c .before .enum-told .given .1))
+
+pub touch-reply-spec : {M : Type 1} → statement M
+touch-reply-spec =
+    tie.close
+    (tie.spec
+    enum-known-answer
+    refused-requires
+    enum-known-answer-2
+    says-requires
+    enum-told
+    says-requires-2
+    returns
+    returns-2
+    returns-3)
