@@ -1,13 +1,9 @@
-// The calls by short names: each is made and its line is printed. A path of n elements stands at ROOT; one that is stated
-// starts at the key.
-use crate::lines::line;
+// The calls by 01's codes. A path of `len` elements stands at ROOT; one that is stated starts at the key.
 use coord::coord::CoordEntry;
 use coord::coord::Path;
 use coord::node_addr::NodeAddr;
 use types::answers::DemoteAnswer;
 use types::answers::HintAnswer;
-use types::answers::Removal;
-use types::answers::StatsAnswer;
 use types::answers::TouchAnswer;
 use types::answers::VerifiedAnswer;
 use types::placed::Funding;
@@ -53,63 +49,53 @@ fn hinted(answer: HintAnswer) -> Reply {
     }
 }
 
-fn verified_reply(answer: VerifiedAnswer) -> Reply {
+fn filed(answer: VerifiedAnswer) -> Reply {
     match answer {
         VerifiedAnswer::Refused(n) => refused(n),
         VerifiedAnswer::Done(v) => v.reply(),
     }
 }
 
-pub fn fresh(memory: &mut [u8], list: u64, max: u64, ttl: u64) {
-    let reply = refused(fresh::fresh(memory, max, ttl));
-    line(memory, list, reply);
+fn insert(memory: &mut [u8], key: u64, len: u64, time: u64) -> Reply {
+    hinted(hints::insert(memory, address(key), path(ROOT, len), time))
 }
 
-pub fn insert(memory: &mut [u8], list: u64, key: u64, len: u64, time: u64) {
-    let reply = hinted(hints::insert(memory, address(key), path(ROOT, len), time));
-    line(memory, list, reply);
+fn with_ttl(memory: &mut [u8], key: u64, len: u64, time: u64, ttl: u64) -> Reply {
+    hinted(hints::insert_with_ttl(memory, address(key), path(ROOT, len), time, ttl))
 }
 
-pub fn with_ttl(memory: &mut [u8], list: u64, key: u64, len: u64, time: u64, ttl: u64) {
-    let p = path(ROOT, len);
-    let reply = hinted(hints::insert_with_ttl(memory, address(key), p, time, ttl));
-    line(memory, list, reply);
-}
-
-pub fn upto_quiet(memory: &mut [u8], key: u64, len: u64, time: u64, amount: u64) -> Reply {
-    let p = path(ROOT, len);
-    hinted(hints::insert_funded(memory, address(key), p, time, Funding::Upto(amount)))
-}
-
-pub fn upto(memory: &mut [u8], list: u64, key: u64, len: u64, time: u64, amount: u64) {
-    let reply = upto_quiet(memory, key, len, time, amount);
-    line(memory, list, reply);
-}
-
-pub fn stated(memory: &mut [u8], list: u64, key: u64, len: u64, time: u64, amount: u64) {
-    let p = path(key, len);
+fn funded(memory: &mut [u8], key: u64, len: u64, time: u64, amount: u64) -> Reply {
     let funding = Funding::Upto(amount);
-    let reply = hinted(hints::insert_stated(memory, address(key), p, time, funding));
-    line(memory, list, reply);
+    hinted(hints::insert_funded(memory, address(key), path(ROOT, len), time, funding))
 }
 
-pub fn verify_quiet(memory: &mut [u8], key: u64, time: u64) -> Reply {
-    verified_reply(verified::insert_verified(memory, address(key), path(ROOT, 1), time))
+fn stated(memory: &mut [u8], key: u64, len: u64, time: u64, amount: u64) -> Reply {
+    let funding = Funding::Upto(amount);
+    hinted(hints::insert_stated(memory, address(key), path(key, len), time, funding))
 }
 
-pub fn verify(memory: &mut [u8], list: u64, key: u64, time: u64) {
-    let reply = verify_quiet(memory, key, time);
-    line(memory, list, reply);
+fn verified(memory: &mut [u8], key: u64, len: u64, time: u64) -> Reply {
+    filed(verified::insert_verified(memory, address(key), path(ROOT, len), time))
 }
 
-pub fn with_mtu(memory: &mut [u8], list: u64, key: u64, time: u64, mtu: u16) {
-    let p = path(ROOT, 1);
-    let answer = verified::insert_verified_with_path_mtu(memory, address(key), p, time, mtu);
-    let reply = verified_reply(answer);
-    line(memory, list, reply);
+fn with_mtu(memory: &mut [u8], key: u64, len: u64, time: u64, mtu: u16) -> Reply {
+    let p = path(ROOT, len);
+    filed(verified::insert_verified_with_path_mtu(memory, address(key), p, time, mtu))
 }
 
-// Found where the part has an element; elements have 32 bytes.
+// `more` is the ttl, the amount of Upto, or the MTU.
+fn write(memory: &mut [u8], code: u64, key: u64, len: u64, time: u64, more: u64) -> Reply {
+    match code {
+        10 => insert(memory, key, len, time),
+        11 => with_ttl(memory, key, len, time, more),
+        12 => funded(memory, key, len, time, more),
+        13 => stated(memory, key, len, time, more),
+        14 => verified(memory, key, len, time),
+        _ => with_mtu(memory, key, len, time, (more % 65536) as u16),
+    }
+}
+
+// Found where the part has an element, of 32 bytes each.
 fn looked(number: u8, bytes: usize) -> Reply {
     if number != 0 {
         return refused(number);
@@ -120,17 +106,13 @@ fn looked(number: u8, bytes: usize) -> Reply {
     says(1, (bytes / 32) as u64, 0, 0, 0)
 }
 
-fn get_quiet(memory: &[u8], key: u64, time: u64) -> Reply {
+fn get(memory: &[u8], key: u64, time: u64) -> Reply {
     let mut number: u8 = 9;
     let part = lookups::get(memory, address(key), time, &mut number);
     looked(number, part.len())
 }
 
-pub fn get(memory: &[u8], list: u64, key: u64, time: u64) {
-    line(memory, list, get_quiet(memory, key, time));
-}
-
-pub fn touch_quiet(memory: &mut [u8], key: u64, time: u64) -> Reply {
+fn touch(memory: &mut [u8], key: u64, time: u64) -> Reply {
     match lookups::touch(memory, address(key), time) {
         TouchAnswer::Refused(n) => refused(n),
         TouchAnswer::Found(len) => says(1, len, 0, 0, 0),
@@ -138,52 +120,27 @@ pub fn touch_quiet(memory: &mut [u8], key: u64, time: u64) -> Reply {
     }
 }
 
-pub fn touch(memory: &mut [u8], list: u64, key: u64, time: u64) {
-    let reply = touch_quiet(memory, key, time);
-    line(memory, list, reply);
-}
-
-fn removal(answer: Removal) -> Reply {
-    match answer {
-        Removal::Refused(n) => refused(n),
-        Removal::Removed => says(1, 0, 0, 0, 0),
-        Removal::Absent => says(0, 0, 0, 0, 0),
-    }
-}
-
-// A second line has the entry.
-pub fn remove(memory: &mut [u8], list: u64, key: u64) {
-    let answer = keyed::remove(memory, address(key));
-    let done = answer.removal;
-    let reply = removal(done);
-    line(memory, list, reply);
-    crate::lines::entry(list, answer.entry);
-}
-
-fn demoted(answer: DemoteAnswer) -> Reply {
-    match answer {
+fn demote(memory: &mut [u8], key: u64) -> Reply {
+    match keyed::demote(memory, address(key)) {
         DemoteAnswer::Refused(n) => refused(n),
         DemoteAnswer::Held(b) => says(b as u64, 0, 0, 0, 0),
     }
 }
 
-pub fn demote(memory: &mut [u8], list: u64, key: u64) {
-    let reply = demoted(keyed::demote(memory, address(key)));
-    line(memory, list, reply);
-}
-
-pub fn clear(memory: &mut [u8], list: u64) {
-    let reply = refused(sweeps::clear(memory));
-    line(memory, list, reply);
-}
-
-fn counted(answer: StatsAnswer) -> Reply {
-    match answer {
-        StatsAnswer::Refused(n) => refused(n),
-        StatsAnswer::Stats(s) => s.reply(),
+fn other(memory: &mut [u8], code: u64, key: u64, time: u64) -> Reply {
+    match code {
+        20 => get(memory, key, time),
+        21 => touch(memory, key, time),
+        23 => demote(memory, key),
+        _ => refused(sweeps::clear(memory)),
     }
 }
 
-pub fn stats(memory: &[u8], list: u64, time: u64) {
-    line(memory, list, counted(statistics::stats(memory, time)));
+// For fresh, `key` is max_entries and `len` the ttl.
+pub fn call(memory: &mut [u8], code: u64, key: u64, len: u64, time: u64, more: u64) -> Reply {
+    match code {
+        0 => refused(fresh::fresh(memory, key, len)),
+        10..=15 => write(memory, code, key, len, time, more),
+        _ => other(memory, code, key, time),
+    }
 }

@@ -1,5 +1,4 @@
 // One line a call: the list, the reply, and the head's rows held, seq and stored weight.
-use types::entry::CacheEntry;
 use types::reply::Reply;
 
 fn number(n: u64) {
@@ -37,16 +36,16 @@ pub fn line(memory: &[u8], list: u64, reply: Reply) {
     head(memory);
 }
 
-// What `remove` handed back: a line of its own, the path left out.
-pub fn entry(list: u64, e: CacheEntry) {
-    let mtu = e.path_mtu;
-    let source = e.source;
-    number(list);
-    number(e.created_at);
-    number(e.last_used);
-    number(e.expires_at);
-    number(mtu.mark() as u64);
-    number(mtu.value() as u64);
-    number(source.code() as u64);
-    last(e.verified_until);
+// Row 0's created_at, last_used, expires_at, MTU mark and value, source, verified_until.
+pub fn row(memory: &[u8]) {
+    if 1117 <= memory.len() {
+        io::write_all(1, b"row ");
+        number(raw::numbers::read_u64(memory, 1081));
+        number(raw::numbers::read_u64(memory, 1089));
+        number(raw::numbers::read_u64(memory, 1097));
+        number(raw::numbers::wide(memory[1105]));
+        number(raw::numbers::read_u16(memory, 1106) as u64);
+        number(raw::numbers::wide(memory[1108]));
+        last(raw::numbers::read_u64(memory, 1109));
+    }
 }

@@ -1,10 +1,11 @@
-// Small lists of calls, on 24 rows and again on 1,024 rows. What it prints is held to `stdout`, which was derived by hand.
+// Small lists of calls, read from `stdin`, on 24 rows and again on 1,024 rows. What is printed is held to `stdout`,
+// which was derived by hand.
 mod calls;
-mod full;
 mod lines;
-mod lists;
-mod many;
+mod scan;
 
+use scan::Scan;
+use types::reply::Reply;
 ghost use mathlib.Core.Path.{_≡_};
 ghost use lib.ListN.{length};
 
@@ -22,73 +23,86 @@ fn long_memory() -> [u8; 1121320]
     [0; 1121320]
 }
 
-// 6 to 10.
-fn walks(memory: &mut [u8]) {
-    lists::incident(memory);
-    lists::back_in_time(memory);
-    lists::ties(memory);
-    lists::returned(memory);
-    lists::cut(memory);
+fn call_on(memory: &mut [u8], v: [u64; 7], key: u64) -> Reply {
+    calls::call(memory, v[1], key, v[3], v[4], v[5])
 }
 
-// 11 to 13.
-fn writes(memory: &mut [u8]) {
-    lists::growth(memory);
-    lists::promotion(memory);
-    lists::expired(memory);
+// Keys first to last, or the first alone; only the last line is printed.
+fn each(memory: &mut [u8], v: [u64; 7], first: u64, last: u64) {
+    let mut key = first;
+    while key < last {
+        call_on(memory, v, key);
+        key += 1;
+    }
+    let reply = call_on(memory, v, key);
+    lines::line(memory, v[0], reply);
 }
 
-fn few(memory: &mut [u8]) {
-    lists::answers(memory);
-    lists::written(memory);
-    full::evictions_of_two(memory);
-    lists::examined(memory);
-    full::long_walks(memory, 3, 1);
-    full::number_4(memory, 22);
-    full::number_4_until_one_lapses(memory, 23);
-    few_more(memory);
+// The low byte of row 0's stamp, seq.
+fn stamp(memory: &mut [u8], seq: u64) {
+    if 1126 < memory.len() {
+        memory[1126] = (seq % 256) as u8;
+    }
 }
 
-fn few_more(memory: &mut [u8]) {
-    walks(memory);
-    writes(memory);
-    full::cleared(memory, 2);
-    lists::demotes(memory);
-    lists::shallow(memory);
-    full::victims_kept(memory, 2);
+// Codes past 01's are no calls.
+fn make(memory: &mut [u8], v: [u64; 7]) {
+    match v[1] {
+        98 => lines::row(memory),
+        99 => stamp(memory, v[2]),
+        _ => each(memory, v, v[2], v[6]),
+    }
 }
 
-fn many_rows(memory: &mut [u8]) {
-    lists::answers(memory);
-    lists::written(memory);
-    full::evictions_of_many(memory);
-    lists::examined(memory);
-    full::long_walks(memory, 992, 31);
-    full::number_4(memory, 992);
-    full::number_4_until_one_lapses(memory, 993);
-    many_more(memory);
+// A line of the text: of which rows the next ones are, or a call.
+fn step(memory: &mut [u8], rows: u64, only: u64, v: [u64; 7]) -> u64 {
+    if v[0] == 0 {
+        return v[1];
+    }
+    if (only == 0) | (only == rows) {
+        make(memory, v);
+    }
+    only
 }
 
-fn many_more(memory: &mut [u8]) {
-    walks(memory);
-    writes(memory);
-    full::cleared(memory, 992);
-    lists::demotes(memory);
-    lists::shallow(memory);
-    full::victims_kept(memory, 992);
+fn ended(memory: &mut [u8], rows: u64, scan: Scan) -> Scan {
+    let v = scan.values;
+    if scan.count == 0 {
+        return Scan::empty(scan.only);
+    }
+    Scan::empty(step(memory, rows, scan.only, v))
 }
 
-fn on_24_rows() {
+fn feed(memory: &mut [u8], rows: u64, scan: Scan, b: u8) -> Scan {
+    let next = scan.fed(b);
+    if b == b'\n' {
+        return ended(memory, rows, next);
+    }
+    next
+}
+
+fn run(text: &[u8], memory: &mut [u8], rows: u64) {
+    let mut scan = Scan::empty(0);
+    let mut i = 0;
+    while i < text.len() {
+        scan = feed(memory, rows, scan, text[i]);
+        i += 1;
+    }
+}
+
+fn on_24_rows(text: &[u8]) {
     let mut memory = short_memory();
-    few(&mut memory);
+    run(text, &mut memory, 24);
 }
 
-fn on_1024_rows() {
+fn on_1024_rows(text: &[u8]) {
     let mut memory = long_memory();
-    many_rows(&mut memory);
+    run(text, &mut memory, 1024);
 }
 
 fn main() {
-    on_24_rows();
-    on_1024_rows();
+    let mut space = io::large_buffer();
+    let n = io::read_full(0, &mut space);
+    on_24_rows(&space[..n]);
+    on_1024_rows(&space[..n]);
 }

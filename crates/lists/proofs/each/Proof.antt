@@ -2,20 +2,20 @@ use mathlib.Core.Path.{_≡_}
 use Prim.Native.Nat.{_-_}
 use lib.ListN.{length}
 use borrow.Author.Needs.{needs}
-use Rattle.lists.proofs.many.each.Statement.{statement}
-use Rattle.lists.proofs.many.each.Tie as tie
+use Rattle.lists.proofs.each.Statement.{statement}
+use Rattle.lists.proofs.each.Tie as tie
 
 abbrev Inv-loop : tie.InvT-loop
-Inv-loop memory₀ list call first last time key₀ memory key = length memory ≡ length memory₀
+Inv-loop memory₀ first last v key₀ memory key = length memory ≡ length memory₀
 
 abbrev μ-loop : tie.MeasureT-loop
-μ-loop memory₀ list call first last time key₀ memory key = last - key
+μ-loop memory₀ first last v key₀ memory key = last - key
 
 loop-holds : tie.Need-loop-holds Inv-loop μ-loop
 loop-holds c = search needs
 
-make-requires : tie.Need-make-requires Inv-loop μ-loop
-make-requires c κs = search needs
+call-on-requires : tie.Need-call-on-requires Inv-loop μ-loop
+call-on-requires c κs = search needs
 
 add-key : tie.Need-add-key Inv-loop μ-loop
 add-key c = search needs
@@ -26,8 +26,11 @@ loop-less c = search needs
 loop-again : tie.Need-loop-again Inv-loop μ-loop
 loop-again c = search needs
 
-make-requires-2 : tie.Need-make-requires-2 Inv-loop μ-loop
-make-requires-2 c κs = search needs
+call-on-requires-2 : tie.Need-call-on-requires-2 Inv-loop μ-loop
+call-on-requires-2 c κs = search needs
+
+array-read-line : tie.Need-array-read-line Inv-loop μ-loop
+array-read-line c = search needs
 
 line-requires : tie.Need-line-requires Inv-loop μ-loop
 line-requires c κs = search needs
@@ -45,11 +48,12 @@ each-spec =
     Inv-loop
     μ-loop
     loop-holds
-    make-requires
+    call-on-requires
     add-key
     loop-less
     loop-again
-    make-requires-2
+    call-on-requires-2
+    array-read-line
     line-requires
     same-length
     returns)
