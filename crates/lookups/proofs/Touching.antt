@@ -72,7 +72,7 @@ unfolding perform gives get unexpiredRow touchAnswer
 touch-absent-says k time s e = rw e
 
 -- a row's path has its length in elements
-row-elements : (l : List ℕ) (n i : ℕ) → i < n → rowAt i (viewRows n l .rows) .entry .path .len ≤ 32 → length (elements (rowAt i (viewRows n l .rows) .entry .path)) ≡ rowAt i (viewRows n l .rows) .entry .path .len
+pub row-elements : (l : List ℕ) (n i : ℕ) → i < n → rowAt i (viewRows n l .rows) .entry .path .len ≤ 32 → length (elements (rowAt i (viewRows n l .rows) .entry .path)) ≡ rowAt i (viewRows n l .rows) .entry .path .len
 unfolding elements
 row-elements l n i h b = length-take-le (rowAt i (viewRows n l .rows) .entry .path .len) (rowAt i (viewRows n l .rows) .entry .path .entries) (subst (λ (x : ℕ). rowAt i (viewRows n l .rows) .entry .path .len ≤ x) (sym (row-places l n i h)) b)
 

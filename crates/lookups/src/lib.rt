@@ -64,7 +64,8 @@ pub fn touch(state: &mut [u8], key: NodeAddr, time: u64) -> TouchAnswer
 
 pub fn get_unchecked<'a>(state: &'a [u8], key: NodeAddr, time: u64) -> &'a [u8]
     requires { ⌜ sound (capacity (now state)) (view (now state)) ≡ true ⌝ }
-    ensures { λ r. ⌜ now r ≡ gotPart key time (now (state .entry)) ⌝ }
+    ensures part { λ r. ⌜ now r ≡ gotPart key time (now (state .entry)) ⌝ }
+    ensures left { λ r. ⌜ now (state .exit) ≡ call (now (state .entry)) (Get key time) .memory ⌝ }
 {
     let n = memory::head::row_count(state) as usize;
     let at = search::keys::search(state, n, key);

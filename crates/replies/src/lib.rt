@@ -2,6 +2,7 @@
 use types::answers::DemoteAnswer;
 use types::answers::ExpiryAnswer;
 use types::answers::HintAnswer;
+use types::answers::Removal;
 use types::answers::StatsAnswer;
 use types::answers::SweepAnswer;
 use types::answers::TouchAnswer;
@@ -10,7 +11,8 @@ use types::reply::Reply;
 use types::reply::refused;
 use types::reply::says;
 ghost use mathlib.Core.Path.{_≡_};
-ghost use Rattle.rules.specs.Answers.{hintSaid, verifiedSaid, touchReply, demoteSaid, sweepSaid, statsSaid, expirySaid};
+ghost use Rattle.types.specs.declared.entry.CacheEntry.{CacheEntry};
+ghost use Rattle.rules.specs.Answers.{hintSaid, verifiedSaid, touchReply, removalSaid, demoteSaid, sweepSaid, statsSaid, expirySaid};
 ghost use Rattle.rules.specs.Commands.{reply};
 
 pub fn hint_reply(answer: HintAnswer) -> Reply
@@ -39,6 +41,17 @@ pub fn touch_reply(answer: TouchAnswer) -> Reply
         TouchAnswer::Refused(n) => refused(n),
         TouchAnswer::Found(len) => says(1, len, 0, 0, 0),
         TouchAnswer::Absent => says(0, 0, 0, 0, 0),
+    }
+}
+
+// found, whatever the entry is
+pub fn remove_reply(removal: Removal) -> Reply
+    ensures { λ r. ⌜ ((e : CacheEntry) → r ≡ reply (removalSaid removal e)) ⌝ }
+{
+    match removal {
+        Removal::Refused(n) => refused(n),
+        Removal::Removed => says(1, 0, 0, 0, 0),
+        Removal::Absent => says(0, 0, 0, 0, 0),
     }
 }
 

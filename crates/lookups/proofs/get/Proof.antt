@@ -6,7 +6,7 @@ use Rattle.rules.proofs.Public.{sound-memory}
 use borrow.Author.Needs.{needs}
 use Rattle.frame.proofs.Refusing.{one-numbered}
 use Rattle.lookups.proofs.Refusing.{one-got}
-use Rattle.lookups.proofs.Looking.{get-done, get-left}
+use Rattle.lookups.proofs.Looking.{get-done}
 use Rattle.lookups.proofs.get.Statement.{statement}
 use Rattle.lookups.proofs.get.Tie as tie
 
@@ -37,7 +37,7 @@ returns-2 c =
     let s = c .before .before .before .before in
     let l = s .args .state .now in
     let h = sym (c .before .before .is-sound .ensures) ∙ not-false _ (c .before .if1 .left) in
-    (c .get-unchecked .ensures, (get-done l _ (s .args .key) (s .args .time) h (sound-memory l _ h refl) (all-bytes l (λ i. c .before .before .before .shared-slice-known .given i .fits)), get-left l _ (s .args .key) (s .args .time) h (sound-memory l _ h refl) (all-bytes l (λ i. c .before .before .before .shared-slice-known .given i .fits))))
+    (c .get-unchecked .ensures .0, (get-done l _ (s .args .key) (s .args .time) h (sound-memory l _ h refl) (all-bytes l (λ i. c .before .before .before .shared-slice-known .given i .fits)), c .get-unchecked .ensures .1))
 
 pub get-spec : {M : Type 1} → statement M
 get-spec =

@@ -46,7 +46,7 @@ part-result-end-2 : tie.Need-part-result-end-2
 part-result-end-2 c = search needs
 
 returns : tie.Need-returns
-returns c = c .get-unchecked .ensures ∙ ap (gotPart (c .before .before .before .before .before .before .before .before .before .args .key) (c .before .before .before .before .before .before .before .before .before .args .time)) (c .before .before .before .before .before .before .touch-unchecked .ensures .2)
+returns c = c .get-unchecked .ensures .0 ∙ ap (gotPart (c .before .before .before .before .before .before .before .before .before .args .key) (c .before .before .before .before .before .before .before .before .before .args .time)) (c .before .before .before .before .before .before .touch-unchecked .ensures .2)
 
 returns-2 : tie.Need-returns-2
 unfolding finds

@@ -1,9 +1,10 @@
 use mathlib.Core.Path.{sym, _∙_}
 use Rattle.rules.specs.Memory.{viewRows}
+use Rattle.rules.proofs.MemoryLaws.{all-bytes}
 use Rattle.rules.proofs.Public.{sound-memory}
 use borrow.Author.Needs.{needs}
 use Rattle.frame.proofs.Frame.{head-there, searchable, found-inside, found, missing}
-use Rattle.lookups.proofs.Looking.{got-absent, got-expired, got-held, path-short}
+use Rattle.lookups.proofs.Looking.{got-absent, got-expired, got-held, get-left, path-short}
 use Rattle.lookups.proofs.get_unchecked.Statement.{statement}
 use Rattle.lookups.proofs.get_unchecked.Tie as tie
 
@@ -33,7 +34,7 @@ returns c =
     let s = c .before .before .before .before .before .before .before .before .before in
     let l = s .args .state .now in
     let n = c .before .before .before .before .before .before .before .row-count .result in
-    got-expired l n (s .args .key) (s .args .time) _ (s .pre) (sound-memory l n (s .pre) (c .before .before .before .before .before .before .before .row-count .ensures)) (found (s .args .key) (viewRows n l .rows) _ (c .before .before .before .before .before .before .search .result) (c .before .before .before .before .before .before .search .ensures) (c .before .before .before .before .at .given .1)) (sym (c .before .before .is-expired .ensures) ∙ c .before .if1 .taken)
+    (got-expired l n (s .args .key) (s .args .time) _ (s .pre) (sound-memory l n (s .pre) (c .before .before .before .before .before .before .before .row-count .ensures)) (found (s .args .key) (viewRows n l .rows) _ (c .before .before .before .before .before .before .search .result) (c .before .before .before .before .before .before .search .ensures) (c .before .before .before .before .at .given .1)) (sym (c .before .before .is-expired .ensures) ∙ c .before .if1 .taken), get-left l n (s .args .key) (s .args .time) (s .pre) (sound-memory l n (s .pre) (c .before .before .before .before .before .before .before .row-count .ensures)) (all-bytes l (λ i. c .before .before .before .before .before .before .before .before .shared-slice-known .given i .fits)))
 
 path-part-requires : tie.Need-path-part-requires
 path-part-requires c κs =
@@ -60,14 +61,14 @@ returns-2 c =
     let s = c .before .before .before .before .before .before .before .before .before in
     let l = s .args .state .now in
     let n = c .before .before .before .before .before .before .before .row-count .result in
-    got-held l n (s .args .key) (s .args .time) _ _ (s .pre) (sound-memory l n (s .pre) (c .before .before .before .before .before .before .before .row-count .ensures)) (found (s .args .key) (viewRows n l .rows) _ (c .before .before .before .before .before .before .search .result) (c .before .before .before .before .before .before .search .ensures) (c .before .before .before .before .at .given .1)) (sym (c .before .before .is-expired .ensures) ∙ c .before .if1 .left) (c .path-part .ensures)
+    (got-held l n (s .args .key) (s .args .time) _ _ (s .pre) (sound-memory l n (s .pre) (c .before .before .before .before .before .before .before .row-count .ensures)) (found (s .args .key) (viewRows n l .rows) _ (c .before .before .before .before .before .before .search .result) (c .before .before .before .before .before .before .search .ensures) (c .before .before .before .before .at .given .1)) (sym (c .before .before .is-expired .ensures) ∙ c .before .if1 .left) (c .path-part .ensures), get-left l n (s .args .key) (s .args .time) (s .pre) (sound-memory l n (s .pre) (c .before .before .before .before .before .before .before .row-count .ensures)) (all-bytes l (λ i. c .before .before .before .before .before .before .before .before .shared-slice-known .given i .fits)))
 
 returns-3 : tie.Need-returns-3
 returns-3 c =
     let s = c .before .before .before .before .before .before in
     let l = s .args .state .now in
     let n = c .before .before .before .before .row-count .result in
-    got-absent l n (s .args .key) (s .args .time) (s .pre) (sound-memory l n (s .pre) (c .before .before .before .before .row-count .ensures)) (missing (s .args .key) (viewRows n l .rows) _ (c .before .before .before .search .result) (c .before .before .before .search .ensures) (c .before .enum-told .given .1))
+    (got-absent l n (s .args .key) (s .args .time) (s .pre) (sound-memory l n (s .pre) (c .before .before .before .before .row-count .ensures)) (missing (s .args .key) (viewRows n l .rows) _ (c .before .before .before .search .result) (c .before .before .before .search .ensures) (c .before .enum-told .given .1)), get-left l n (s .args .key) (s .args .time) (s .pre) (sound-memory l n (s .pre) (c .before .before .before .before .row-count .ensures)) (all-bytes l (λ i. c .before .before .before .before .before .shared-slice-known .given i .fits)))
 
 pub get-unchecked-spec : {M : Type 1} → statement M
 get-unchecked-spec =

@@ -1,0 +1,39 @@
+use mathlib.Core.Path.{refl, sym, _∙_, ap}
+use native.Mathlib.Omega.{arith}
+use Rattle.types.specs.Values.{refuses}
+use Rattle.rules.specs.Calls.{ClearPathMtu}
+use Rattle.rules.specs.Refusals.{Asked, perform, performRequest, gives}
+use Rattle.decoding.proofs.Operands.{key-at}
+use Rattle.asking.proofs.Replying.{replied, number-reply}
+use borrow.Author.Needs.{needs}
+use Rattle.asking.proofs.clear_path_mtu.Statement.{statement}
+use Rattle.asking.proofs.clear_path_mtu.Tie as tie
+
+load-addr-requires : tie.Need-load-addr-requires
+load-addr-requires c κs = search needs
+
+clear-path-mtu-unchecked-requires : tie.Need-clear-path-mtu-unchecked-requires
+clear-path-mtu-unchecked-requires c κs = search needs
+
+refused-requires : tie.Need-refused-requires
+refused-requires c κs = search needs
+
+same-length : tie.Need-same-length
+same-length c = search needs
+
+returns : tie.Need-returns
+unfolding performRequest perform gives
+returns c =
+    let a = c .before .before .before .before .before .before .before .before .args in
+    let u = c .before .before .before .clear-path-mtu-unchecked in
+    replied (a .state .now) _ _ _ _ (ap ClearPathMtu (c .before .before .before .before .before .load-addr .ensures ∙ sym (key-at (a .at) 16 (a .input .now) (omega arith)))) (c .refused .ensures ∙ ap refuses (u .ensures .0) ∙ sym (number-reply (a .state .now) (Asked (ClearPathMtu (c .before .before .before .before .before .load-addr .result))) refl)) (u .ensures .1)
+
+pub clear-path-mtu-spec : {M : Type 1} → statement M
+clear-path-mtu-spec =
+    tie.close
+    (tie.spec
+    load-addr-requires
+    clear-path-mtu-unchecked-requires
+    refused-requires
+    same-length
+    returns)

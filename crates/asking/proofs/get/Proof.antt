@@ -1,0 +1,43 @@
+use mathlib.Core.Path.{sym, _∙_, ap}
+use Prim.Native.Nat.{ℕ}
+use mathlib.Core.List.{List}
+use lib.ListN.{length}
+use native.Mathlib.Omega.{arith}
+use Rattle.rules.specs.Calls.{Get}
+use Rattle.decoding.specs.OnMemory.{partReply}
+use Rattle.decoding.proofs.Operands.{key-at, number-at}
+use Rattle.asking.proofs.Replying.{both, replied, got-reply}
+use borrow.Author.Needs.{needs}
+use Rattle.asking.proofs.get.Statement.{statement}
+use Rattle.asking.proofs.get.Tie as tie
+
+load-addr-requires : tie.Need-load-addr-requires
+load-addr-requires c κs = search needs
+
+add-read-u64 : tie.Need-add-read-u64
+add-read-u64 c = search needs
+
+read-u64-requires : tie.Need-read-u64-requires
+read-u64-requires c κs = search needs
+
+get-unchecked-requires : tie.Need-get-unchecked-requires
+get-unchecked-requires c κs = search needs
+
+part-reply-requires : tie.Need-part-reply-requires
+part-reply-requires c κs = search needs
+
+returns : tie.Need-returns
+returns c =
+    let a = c .before .before .before .before .before .before .args in
+    replied (a .state .now) _ _ _ _ (both Get (c .before .before .before .load-addr .ensures ∙ sym (key-at (a .at) 24 (a .input .now) (omega arith))) (c .before .before .read-u64 .ensures ∙ sym (number-at (a .at) 24 16 8 (a .input .now) (omega arith)))) (c .part-reply .ensures ∙ ap (λ (x : List ℕ). partReply (length x)) (c .before .get-unchecked .ensures .0) ∙ got-reply (a .state .now) _ _ (c .before .before .before .before .before .before .pre .0)) (c .before .get-unchecked .ensures .1)
+
+pub get-spec : {M : Type 1} → statement M
+get-spec =
+    tie.close
+    (tie.spec
+    load-addr-requires
+    add-read-u64
+    read-u64-requires
+    get-unchecked-requires
+    part-reply-requires
+    returns)

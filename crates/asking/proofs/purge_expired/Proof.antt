@@ -1,0 +1,36 @@
+use mathlib.Core.Path.{sym, _∙_, ap}
+use native.Mathlib.Omega.{arith}
+use Rattle.rules.specs.Commands.{reply}
+use Rattle.rules.specs.Calls.{PurgeExpired}
+use Rattle.decoding.proofs.Operands.{first-at}
+use Rattle.asking.proofs.Replying.{replied}
+use borrow.Author.Needs.{needs}
+use Rattle.asking.proofs.purge_expired.Statement.{statement}
+use Rattle.asking.proofs.purge_expired.Tie as tie
+
+read-u64-requires : tie.Need-read-u64-requires
+read-u64-requires c κs = search needs
+
+purge-expired-unchecked-requires : tie.Need-purge-expired-unchecked-requires
+purge-expired-unchecked-requires c κs = search needs
+
+sweep-reply-requires : tie.Need-sweep-reply-requires
+sweep-reply-requires c κs = search needs
+
+same-length : tie.Need-same-length
+same-length c = search needs
+
+returns : tie.Need-returns
+returns c =
+    let a = c .before .before .before .before .before .before .before .before .args in
+    replied (a .state .now) _ _ _ _ (ap PurgeExpired (c .before .before .before .before .before .read-u64 .ensures ∙ sym (first-at (a .at) 8 8 (a .input .now) (omega arith)))) (c .sweep-reply .ensures ∙ ap reply (c .before .before .before .purge-expired-unchecked .ensures .0)) (c .before .before .before .purge-expired-unchecked .ensures .1)
+
+pub purge-expired-spec : {M : Type 1} → statement M
+purge-expired-spec =
+    tie.close
+    (tie.spec
+    read-u64-requires
+    purge-expired-unchecked-requires
+    sweep-reply-requires
+    same-length
+    returns)

@@ -1,0 +1,37 @@
+use mathlib.Core.Path.{sym, _∙_, ap}
+use native.Mathlib.Omega.{arith}
+use Rattle.rules.specs.Commands.{reply}
+use Rattle.rules.specs.Calls.{Remove}
+use Rattle.decoding.proofs.Operands.{key-at}
+use Rattle.asking.proofs.Replying.{replied}
+use borrow.Author.Needs.{needs}
+use Rattle.asking.proofs.remove.Statement.{statement}
+use Rattle.asking.proofs.remove.Tie as tie
+
+load-addr-requires : tie.Need-load-addr-requires
+load-addr-requires c κs = search needs
+
+remove-unchecked-requires : tie.Need-remove-unchecked-requires
+remove-unchecked-requires c κs = search needs
+
+remove-reply-requires : tie.Need-remove-reply-requires
+remove-reply-requires c κs = search needs
+
+same-length : tie.Need-same-length
+same-length c = search needs
+
+returns : tie.Need-returns
+returns c =
+    let a = c .before .before .before .before .before .before .before .before .args in
+    let u = c .before .before .before .remove-unchecked in
+    replied (a .state .now) _ _ _ _ (ap Remove (c .before .before .before .before .before .load-addr .ensures ∙ sym (key-at (a .at) 16 (a .input .now) (omega arith)))) (c .remove-reply .ensures (u .result .entry) ∙ ap reply (u .ensures .0)) (u .ensures .2)
+
+pub remove-spec : {M : Type 1} → statement M
+remove-spec =
+    tie.close
+    (tie.spec
+    load-addr-requires
+    remove-unchecked-requires
+    remove-reply-requires
+    same-length
+    returns)

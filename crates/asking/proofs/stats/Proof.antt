@@ -1,0 +1,27 @@
+use mathlib.Core.Path.{sym, _∙_, ap}
+use native.Mathlib.Omega.{arith}
+use Rattle.rules.specs.Commands.{reply}
+use Rattle.rules.specs.Calls.{Stats}
+use Rattle.decoding.proofs.Operands.{first-at}
+use Rattle.asking.proofs.Replying.{replied}
+use borrow.Author.Needs.{needs}
+use Rattle.asking.proofs.stats.Statement.{statement}
+use Rattle.asking.proofs.stats.Tie as tie
+
+read-u64-requires : tie.Need-read-u64-requires
+read-u64-requires c κs = search needs
+
+stats-unchecked-requires : tie.Need-stats-unchecked-requires
+stats-unchecked-requires c κs = search needs
+
+stats-reply-requires : tie.Need-stats-reply-requires
+stats-reply-requires c κs = search needs
+
+returns : tie.Need-returns
+returns c =
+    let a = c .before .before .before .before .before .args in
+    replied (a .state .now) _ _ _ _ (ap Stats (c .before .before .read-u64 .ensures ∙ sym (first-at (a .at) 8 8 (a .input .now) (omega arith)))) (c .stats-reply .ensures ∙ ap reply (c .before .stats-unchecked .ensures .0)) (c .before .stats-unchecked .ensures .1)
+
+pub stats-spec : {M : Type 1} → statement M
+stats-spec =
+    tie.close (tie.spec read-u64-requires stats-unchecked-requires stats-reply-requires returns)
