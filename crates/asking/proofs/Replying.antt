@@ -9,7 +9,6 @@ use lib.ListN.{length}
 use borrow.Author.Tests.{ne-eqb}
 use Rattle.coord.specs.declared.node_addr.NodeAddr.{NodeAddr}
 use Rattle.coord.specs.Paths.{elements}
-use Rattle.types.specs.declared.reply.Reply.{Reply}
 use Rattle.types.specs.Values.{says, refuses}
 use Rattle.rules.specs.Cases.{maybe}
 use Rattle.rules.specs.Records.{State}
@@ -17,7 +16,7 @@ use Rattle.rules.specs.Rows.{rowAt, find}
 use Rattle.rules.specs.Entries.{expired}
 use Rattle.rules.specs.Sound.{sound}
 use Rattle.rules.specs.Lookups.{unexpiredRow, get}
-use Rattle.rules.specs.Calls.{Call, Get, Answer, PathFound, Done, pathGiven, verifiedWrite, drawsStamps}
+use Rattle.rules.specs.Calls.{Get, Answer, PathFound, Done, pathGiven, verifiedWrite, drawsStamps}
 use Rattle.rules.specs.Refusals.{Request, Step, gives, perform, performRequest, serve}
 use Rattle.rules.specs.Answers.{refusalOf}
 use Rattle.rules.specs.Memory.{capacity, view, viewRows}
@@ -31,14 +30,7 @@ use Rattle.rules.proofs.Refused.{by-serve}
 use Rattle.rules.proofs.Public.{SoundMemory, sound-memory}
 use Rattle.frame.proofs.Frame.{not-refused}
 use Rattle.lookups.proofs.Touching.{row-elements}
-use Rattle.decoding.specs.OnMemory.{Replied, partReply}
-
--- the call that the operands name
-pub replied : (l : List ℕ) (q q′ : Call) (r : Reply) (m : List ℕ) → q ≡ q′ → r ≡ reply (call l q .answer) → m ≡ call l q .memory → Replied l q′ r m
-replied l q q′ r m e a b = subst (λ (x : Call). Replied l x r m) e (record { says = a; leaves = b })
-
-pub both : (f : NodeAddr → ℕ → Call) {k k′ : NodeAddr} {t t′ : ℕ} → k ≡ k′ → t ≡ t′ → f k t ≡ f k′ t′
-both f e g = cc (e, g)
+use Rattle.decoding.specs.OnMemory.{partReply}
 
 -- ---- calls that return nothing: their number is all they say
 

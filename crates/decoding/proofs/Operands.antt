@@ -8,6 +8,7 @@ use mathlib.Core.Bool.{true, false, _||_}
 use lib.Dec.{eqb, leb, ltb}
 use lib.ListN.{length, take, drop, length-drop}
 use borrow.Author.Tests.{eqb-true, leb-true, le-ltb, lt-leb}
+use Rattle.coord.specs.declared.node_addr.NodeAddr.{NodeAddr}
 use Rattle.coord.specs.declared.coord.Path.{Path}
 use Rattle.types.specs.declared.reply.Reply.{Reply}
 use Rattle.types.specs.Values.{refuses}
@@ -121,6 +122,16 @@ asks b bs w h =
     let g = of-whole Asks b bs all-ask w k in
     let x = g .1 (omega (arith, g .0)) (take (k .code .width) bs) in
     (x .0, ap (λ (o : Option Code). maybe o none (λ c. c .reads (take (c .width) bs))) (k .is) ∙ x .1)
+
+-- the call that the operands name
+pub replied : (l : List ℕ) (q q′ : Call) (r : Reply) (m : List ℕ) → q ≡ q′ → r ≡ reply (call l q .answer) → m ≡ call l q .memory → Replied l q′ r m
+replied l q q′ r m e a b = subst (λ (x : Call). Replied l x r m) e (record { says = a; leaves = b })
+
+pub same-two : (f : NodeAddr → ℕ → Call) {k k′ : NodeAddr} {t t′ : ℕ} → k ≡ k′ → t ≡ t′ → f k t ≡ f k′ t′
+same-two f e g = cc (e, g)
+
+pub same-three : {A : Type 0} (f : NodeAddr → ℕ → A → Call) {k k′ : NodeAddr} {t t′ : ℕ} {x x′ : A} → k ≡ k′ → t ≡ t′ → x ≡ x′ → f k t x ≡ f k′ t′ x′
+same-three f e g h = cc (e, g, h)
 
 -- number 1, whatever the call is
 pub one-replied : (l : List ℕ) (q : Call) → sound (capacity l) (view l) ≡ false → Replied l q (refuses 1) l

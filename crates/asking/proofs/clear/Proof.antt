@@ -1,8 +1,9 @@
+use Rattle.decoding.proofs.Operands.{replied}
 use mathlib.Core.Path.{refl, sym, _∙_, ap}
 use Rattle.types.specs.Values.{refuses}
 use Rattle.rules.specs.Calls.{Clear}
 use Rattle.rules.specs.Refusals.{Asked, perform, performRequest, gives}
-use Rattle.asking.proofs.Replying.{replied, number-reply}
+use Rattle.asking.proofs.Replying.{number-reply}
 use borrow.Author.Needs.{needs}
 use Rattle.asking.proofs.clear.Statement.{statement}
 use Rattle.asking.proofs.clear.Tie as tie

@@ -3,8 +3,8 @@ use native.Mathlib.Omega.{arith}
 use Rattle.types.specs.Values.{refuses}
 use Rattle.rules.specs.Calls.{ClearPathMtu}
 use Rattle.rules.specs.Refusals.{Asked, perform, performRequest, gives}
-use Rattle.decoding.proofs.Operands.{key-at}
-use Rattle.asking.proofs.Replying.{replied, number-reply}
+use Rattle.decoding.proofs.Operands.{key-at, replied}
+use Rattle.asking.proofs.Replying.{number-reply}
 use borrow.Author.Needs.{needs}
 use Rattle.asking.proofs.clear_path_mtu.Statement.{statement}
 use Rattle.asking.proofs.clear_path_mtu.Tie as tie

@@ -5,8 +5,8 @@ use lib.ListN.{length}
 use native.Mathlib.Omega.{arith}
 use Rattle.rules.specs.Calls.{Get}
 use Rattle.decoding.specs.OnMemory.{partReply}
-use Rattle.decoding.proofs.Operands.{key-at, number-at}
-use Rattle.asking.proofs.Replying.{both, replied, got-reply}
+use Rattle.decoding.proofs.Operands.{key-at, number-at, same-two, replied}
+use Rattle.asking.proofs.Replying.{got-reply}
 use borrow.Author.Needs.{needs}
 use Rattle.asking.proofs.get.Statement.{statement}
 use Rattle.asking.proofs.get.Tie as tie
@@ -29,7 +29,7 @@ part-reply-requires c κs = search needs
 returns : tie.Need-returns
 returns c =
     let a = c .before .before .before .before .before .before .args in
-    replied (a .state .now) _ _ _ _ (both Get (c .before .before .before .load-addr .ensures ∙ sym (key-at (a .at) 24 (a .input .now) (omega arith))) (c .before .before .read-u64 .ensures ∙ sym (number-at (a .at) 24 16 8 (a .input .now) (omega arith)))) (c .part-reply .ensures ∙ ap (λ (x : List ℕ). partReply (length x)) (c .before .get-unchecked .ensures .0) ∙ got-reply (a .state .now) _ _ (c .before .before .before .before .before .before .pre .0)) (c .before .get-unchecked .ensures .1)
+    replied (a .state .now) _ _ _ _ (same-two Get (c .before .before .before .load-addr .ensures ∙ sym (key-at (a .at) 24 (a .input .now) (omega arith))) (c .before .before .read-u64 .ensures ∙ sym (number-at (a .at) 24 16 8 (a .input .now) (omega arith)))) (c .part-reply .ensures ∙ ap (λ (x : List ℕ). partReply (length x)) (c .before .get-unchecked .ensures .0) ∙ got-reply (a .state .now) _ _ (c .before .before .before .before .before .before .pre .0)) (c .before .get-unchecked .ensures .1)
 
 pub get-spec : {M : Type 1} → statement M
 get-spec =

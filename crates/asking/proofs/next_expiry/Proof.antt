@@ -1,6 +1,6 @@
+use Rattle.decoding.proofs.Operands.{replied}
 use mathlib.Core.Path.{refl, _∙_, ap}
 use Rattle.rules.specs.Commands.{reply}
-use Rattle.asking.proofs.Replying.{replied}
 use borrow.Author.Needs.{needs}
 use Rattle.asking.proofs.next_expiry.Statement.{statement}
 use Rattle.asking.proofs.next_expiry.Tie as tie

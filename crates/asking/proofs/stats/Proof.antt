@@ -2,8 +2,7 @@ use mathlib.Core.Path.{sym, _∙_, ap}
 use native.Mathlib.Omega.{arith}
 use Rattle.rules.specs.Commands.{reply}
 use Rattle.rules.specs.Calls.{Stats}
-use Rattle.decoding.proofs.Operands.{first-at}
-use Rattle.asking.proofs.Replying.{replied}
+use Rattle.decoding.proofs.Operands.{first-at, replied}
 use borrow.Author.Needs.{needs}
 use Rattle.asking.proofs.stats.Statement.{statement}
 use Rattle.asking.proofs.stats.Tie as tie

@@ -1,8 +1,7 @@
 use mathlib.Core.Path.{sym, _∙_}
 use native.Mathlib.Omega.{arith}
 use Rattle.rules.specs.Calls.{GetAndTouch}
-use Rattle.decoding.proofs.Operands.{key-at, number-at}
-use Rattle.asking.proofs.Replying.{both, replied}
+use Rattle.decoding.proofs.Operands.{key-at, number-at, same-two, replied}
 use borrow.Author.Needs.{needs}
 use Rattle.asking.proofs.touch.Statement.{statement}
 use Rattle.asking.proofs.touch.Tie as tie
@@ -28,7 +27,7 @@ same-length c = search needs
 returns : tie.Need-returns
 returns c =
     let a = c .before .before .before .before .before .before .before .before .before .args in
-    replied (a .state .now) _ _ _ _ (both GetAndTouch (c .before .before .before .before .before .before .load-addr .ensures ∙ sym (key-at (a .at) 24 (a .input .now) (omega arith))) (c .before .before .before .before .before .read-u64 .ensures ∙ sym (number-at (a .at) 24 16 8 (a .input .now) (omega arith)))) (c .touch-reply .ensures ∙ c .before .before .before .touch-unchecked .ensures .0) (c .before .before .before .touch-unchecked .ensures .2)
+    replied (a .state .now) _ _ _ _ (same-two GetAndTouch (c .before .before .before .before .before .before .load-addr .ensures ∙ sym (key-at (a .at) 24 (a .input .now) (omega arith))) (c .before .before .before .before .before .read-u64 .ensures ∙ sym (number-at (a .at) 24 16 8 (a .input .now) (omega arith)))) (c .touch-reply .ensures ∙ c .before .before .before .touch-unchecked .ensures .0) (c .before .before .before .touch-unchecked .ensures .2)
 
 pub touch-spec : {M : Type 1} → statement M
 touch-spec =
