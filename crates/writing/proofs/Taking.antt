@@ -72,7 +72,7 @@ unfolding badKind
 legal b bs h e = rw (kind-in bs) (ltb-false 1 (leNumber (cut 24 1 bs)) (sym (rw e) ∙ h))
 
 -- a kind over 1 makes no command
-bad-none : (b : ℕ) (bs : List ℕ) → badKind b bs ≡ true → reads b bs ≡ none
+pub bad-none : (b : ℕ) (bs : List ℕ) → badKind b bs ≡ true → reads b bs ≡ none
 unfolding badKind reads codeOf codes code
 bad-none b bs h = go (eqb b 0x12 || eqb b 0x13) refl (ltb 1 (leNumber (cut 24 1 bs))) refl h
   where
