@@ -98,7 +98,7 @@ pub fn run(
                 let reply = done.reply;
                 let refusal = reply.refusal;
                 put = put_line(output, put, code, reply);
-                counts = counts.counted(refusal);
+                counts = tally::count_held(counts, refusal);
                 path = done.pending;
                 is_sound = done.sound;
                 at += 1 + width;

@@ -76,8 +76,8 @@ put-line-requires c κs =
     let h = ample _ _ _ _ _ _ _ _ _ _ _ (c .before .before .before .before .before .before .before .before .before .before .before .before .loop .inv .4) (c .before .before .before .before .before .before .before .before .before .before .before .loop-test .taken) _ (same-room _ _ _ _ _ _ (c .before .before .before .before .before .before .before .before .before .before .before .before .loop .inv .2) ∙ sym (c .before .before .before .before .before .before .before .before .before .next-command .ensures) ∙ c .before .before .before .before .before .before .before .found .given .1) in
     omega (arith, h, c .before .before .before .before .before .before .before .before .before .before .before .before .loop .inv .2)
 
-counted-requires : tie.Need-counted-requires Inv-loop μ-loop
-counted-requires c κs = search needs
+count-held-requires : tie.Need-count-held-requires Inv-loop μ-loop
+count-held-requires c κs = search needs
 
 add-at : tie.Need-add-at Inv-loop μ-loop
 add-at c =
@@ -98,7 +98,7 @@ same-length-6 c = search needs
 returns-3 : tie.Need-returns-3 Inv-loop μ-loop
 returns-3 c =
     let n = (same-room _ _ _ _ _ _ (c .before .before .before .before .before .before .before .before .before .before .before .before .before .before .before .before .before .before .loop .inv .2) ∙ sym (c .before .before .before .before .before .before .before .before .before .before .before .before .before .before .before .next-command .ensures) ∙ c .before .before .before .before .before .before .before .before .before .before .before .before .before .found .given .1) in
-    let s = stops-six _ _ _ _ _ _ _ _ _ _ _ (c .before .before .before .before .before .before .before .before .before .before .before .before .before .before .before .before .before .before .loop .inv .4) (c .before .before .before .before .before .before .before .before .before .before .before .before .before .before .before .before .before .loop-test .taken) _ n _ _ (c .before .before .before .before .before .before .before .before .before .before .command-at .ensures) _ _ _ (c .before .before .before .before .before .put-line .ensures .0 .0) (c .before .before .before .before .before .put-line .ensures .1) (c .before .before .before .before .before .put-line .ensures .0 .1) (c .before .before .counted .ensures) (c .if1 .taken) in
+    let s = stops-six _ _ _ _ _ _ _ _ _ _ _ (c .before .before .before .before .before .before .before .before .before .before .before .before .before .before .before .before .before .before .loop .inv .4) (c .before .before .before .before .before .before .before .before .before .before .before .before .before .before .before .before .before .loop-test .taken) _ n _ _ (c .before .before .before .before .before .before .before .before .before .before .command-at .ensures) _ _ _ (c .before .before .before .before .before .put-line .ensures .0 .0) (c .before .before .before .before .before .put-line .ensures .1) (c .before .before .before .before .before .put-line .ensures .0 .1) (c .before .before .count-held .ensures) (c .if1 .taken) in
     (ended _ _ (held (c .before .before .before .before .before .before .before .before .before .before .command-at .last .0) (c .before .before .before .before .before .before .before .before .before .before .command-at .result .pending)) _ _ _ _ _ _ _ s refl refl refl refl refl, (used _ _ _ _ _ _ _ _ _ _ _ (c .before .before .before .before .before .before .before .before .before .before .before .before .before .before .before .before .before .before .loop .inv .4) (c .before .before .before .before .before .before .before .before .before .before .before .before .before .before .before .before .before .loop-test .taken) _ n, s .inside))
 
 loop-less : tie.Need-loop-less Inv-loop μ-loop
@@ -109,7 +109,7 @@ loop-less c =
 loop-again : tie.Need-loop-again Inv-loop μ-loop
 loop-again c =
     let n = (same-room _ _ _ _ _ _ (c .before .before .before .before .before .before .before .before .before .before .before .before .before .before .before .before .before .before .loop .inv .2) ∙ sym (c .before .before .before .before .before .before .before .before .before .before .before .before .before .before .before .next-command .ensures) ∙ c .before .before .before .before .before .before .before .before .before .before .before .before .before .found .given .1) in
-    (used _ _ _ _ _ _ _ _ _ _ _ (c .before .before .before .before .before .before .before .before .before .before .before .before .before .before .before .before .before .before .loop .inv .4) (c .before .before .before .before .before .before .before .before .before .before .before .before .before .before .before .before .before .loop-test .taken) _ n, c .before .before .before .before .before .before .before .before .before .before .command-at .kept .0 ∙ c .before .before .before .before .before .before .before .before .before .before .before .before .before .before .before .before .before .before .loop .inv .1, c .before .before .before .before .before .put-line .kept .0 ∙ c .before .before .before .before .before .before .before .before .before .before .before .before .before .before .before .before .before .before .loop .inv .2, c .before .before .before .before .before .before .before .before .before .before .command-at .ensures .sounds, goes-on _ _ _ _ _ _ _ _ _ _ _ (c .before .before .before .before .before .before .before .before .before .before .before .before .before .before .before .before .before .before .loop .inv .4) (c .before .before .before .before .before .before .before .before .before .before .before .before .before .before .before .before .before .loop-test .taken) _ n _ _ (c .before .before .before .before .before .before .before .before .before .before .command-at .ensures) _ _ _ (c .before .before .before .before .before .put-line .ensures .0 .0) (c .before .before .before .before .before .put-line .ensures .1) (c .before .before .before .before .before .put-line .ensures .0 .1) (c .before .before .counted .ensures) (c .if1 .left))
+    (used _ _ _ _ _ _ _ _ _ _ _ (c .before .before .before .before .before .before .before .before .before .before .before .before .before .before .before .before .before .before .loop .inv .4) (c .before .before .before .before .before .before .before .before .before .before .before .before .before .before .before .before .before .loop-test .taken) _ n, c .before .before .before .before .before .before .before .before .before .before .command-at .kept .0 ∙ c .before .before .before .before .before .before .before .before .before .before .before .before .before .before .before .before .before .before .loop .inv .1, c .before .before .before .before .before .put-line .kept .0 ∙ c .before .before .before .before .before .before .before .before .before .before .before .before .before .before .before .before .before .before .loop .inv .2, c .before .before .before .before .before .before .before .before .before .before .command-at .ensures .sounds, goes-on _ _ _ _ _ _ _ _ _ _ _ (c .before .before .before .before .before .before .before .before .before .before .before .before .before .before .before .before .before .before .loop .inv .4) (c .before .before .before .before .before .before .before .before .before .before .before .before .before .before .before .before .before .loop-test .taken) _ n _ _ (c .before .before .before .before .before .before .before .before .before .before .command-at .ensures) _ _ _ (c .before .before .before .before .before .put-line .ensures .0 .0) (c .before .before .before .before .before .put-line .ensures .1) (c .before .before .before .before .before .put-line .ensures .0 .1) (c .before .before .count-held .ensures) (c .if1 .left))
 
 same-length-7 : tie.Need-same-length-7 Inv-loop μ-loop
 same-length-7 c = search needs
@@ -145,7 +145,7 @@ run-spec =
     add-command-at
     command-at-requires
     put-line-requires
-    counted-requires
+    count-held-requires
     add-at
     add-at-2
     same-length-5
