@@ -9,7 +9,9 @@ use runs::Stop;
 use types::reply::Tally;
 ghost use mathlib.Core.Path.{_≡_};
 ghost use Prim.Native.Nat.{_+_, _-_, _≤_, _<_};
+ghost use mathlib.Core.List.{_++_};
 ghost use lib.ListN.{length, drop, getD};
+ghost use lib.Seq.{slice};
 ghost use Rattle.decoding.specs.OnMemory.{held};
 ghost use Rattle.runs.specs.Runs.{runPart};
 ghost use Rattle.stream.specs.Running.{nextIs, Runs};
@@ -121,4 +123,18 @@ pub fn run(
         tally: counts,
         stop: Stop::End,
     }
+}
+
+// The bytes of a buffer that a run did not use, from `used` up to `held`, move to its start; how many they are.
+pub fn keep_unused(buffer: &mut [u8], used: usize, held: usize) -> usize
+    requires { ⌜ (used ≤ held) × (held ≤ length (now buffer)) ⌝ }
+    ensures { λ r. ⌜ (r ≡ held - used) × (now (buffer .exit) ≡ slice used held (now (buffer .entry)) ++ drop (held - used) (now (buffer .entry))) ⌝ }
+{
+    let left = held - used;
+    let mut n = 0;
+    while n < left {
+        buffer[n] = buffer[n + used];
+        n += 1;
+    }
+    left
 }

@@ -1,0 +1,169 @@
+// Commands from standard input, one line each to standard output: 24 rows, starting fresh at max 8, ttl 300000. Input of any
+// length runs in the same memory. At its end, whatever ended it, the tally goes to standard error.
+use coord::coord::Path;
+use libc::STDERR_FILENO;
+use libc::STDIN_FILENO;
+use libc::STDOUT_FILENO;
+use runs::Stop;
+use stream::Ran;
+use types::reply::Tally;
+ghost use mathlib.Core.Path.{_≡_};
+ghost use lib.ListN.{length};
+
+// 24 rows.
+fn memory_of_24_rows() -> [u8; 26320]
+    ensures { λ r. ⌜ 26320 ≡ length r ⌝ }
+{
+    [0; 26320]
+}
+
+// What one turn leaves for the next.
+struct Session {
+    // Bytes at the start of the input that are still to run.
+    held: usize,
+    pending: Path,
+    tally: Tally,
+    // More input is wanted before the next run.
+    hungry: bool,
+    // The input has ended.
+    last: bool,
+    over: bool,
+}
+
+impl Session {
+    fn new() -> Session {
+        Session {
+            held: 0,
+            pending: Path::empty(),
+            tally: Tally {
+                done: 0,
+                refused: 0,
+            },
+            hungry: true,
+            last: false,
+            over: false,
+        }
+    }
+
+    fn with_input(self, held: usize) -> Session {
+        let mut s = self;
+        s.held = held;
+        s
+    }
+
+    fn at_last(self) -> Session {
+        let mut s = self;
+        s.last = true;
+        s
+    }
+
+    fn failed(self) -> Session {
+        let mut s = self;
+        s.over = true;
+        s
+    }
+
+    // After a run: what it left, unless it stopped for good.
+    fn after(self, ran: Ran, held: usize) -> Session {
+        let last = self.last;
+        let stop = ran.stop;
+        let pending = ran.pending;
+        let tally = ran.tally;
+        let hungry = !is_full(stop);
+        Session {
+            held: held,
+            pending: pending,
+            tally: tally,
+            hungry: hungry,
+            last: last,
+            over: is_six(stop) | (last & hungry),
+        }
+    }
+}
+
+fn is_full(stop: Stop) -> bool {
+    if let Stop::Full = stop { true } else { false }
+}
+
+fn is_six(stop: Stop) -> bool {
+    if let Stop::Six = stop { true } else { false }
+}
+
+// One read, behind the bytes that are held.
+fn fill(input: &mut [u8], s: Session) -> Session {
+    let held = s.held;
+    if held >= input.len() {
+        return s;
+    }
+    let got = libc::read(STDIN_FILENO, &mut input[held..]);
+    if got < 0 {
+        os::fail(b"coordrun: standard input");
+        return s.failed();
+    }
+    if got == 0 {
+        return s.at_last();
+    }
+    let more = io::count(got, &input[held..]);
+    s.with_input(held + more)
+}
+
+fn run_some(memory: &mut [u8], input: &mut [u8], output: &mut [u8], s: Session) -> Session {
+    let held = s.held;
+    if held > input.len() {
+        return s.failed();
+    }
+    let pending = s.pending;
+    let tally = s.tally;
+    let ran = stream::run(memory, pending, tally, &input[..held], s.last, output);
+    let written = ran.written;
+    if !io::write_all(STDOUT_FILENO, &output[..written]) {
+        os::fail(b"coordrun: standard output");
+        return s.failed();
+    }
+    let used = ran.used;
+    let left = stream::keep_unused(input, used, held);
+    s.after(ran, left)
+}
+
+fn turn(memory: &mut [u8], input: &mut [u8], output: &mut [u8], s: Session) -> Session {
+    if s.hungry & !s.last {
+        let t = fill(input, s);
+        if t.over {
+            return t;
+        }
+        return run_some(memory, input, output, t);
+    }
+    run_some(memory, input, output, s)
+}
+
+// A proved loop has to end, and nothing says that the input does. So it counts its turns down, from a number that no run
+// uses up.
+fn serve(memory: &mut [u8], input: &mut [u8], output: &mut [u8]) -> Tally {
+    fresh::fresh(memory, 8, 300000);
+    let mut s = Session::new();
+    let mut turns = u64::MAX;
+    while 0 < turns {
+        s = turn(memory, input, output, s);
+        if s.over {
+            return s.tally;
+        }
+        turns -= 1;
+    }
+    s.tally
+}
+
+fn print_tally(t: Tally) {
+    io::write_all(STDERR_FILENO, b"coordrun: ");
+    io::print_decimal(STDERR_FILENO, t.done);
+    io::write_all(STDERR_FILENO, b" done, ");
+    io::print_decimal(STDERR_FILENO, t.refused);
+    io::write_all(STDERR_FILENO, b" refused\n");
+}
+
+fn main() {
+    let mut memory = memory_of_24_rows();
+    let mut input = io::large_buffer();
+    let mut output = io::large_buffer();
+    let tally = serve(&mut memory, &mut input, &mut output);
+    print_tally(tally);
+}
