@@ -1,0 +1,102 @@
+// The command stream for a driver in another language: runs as the crate `stream` proves them, with the pending path as bytes
+// and the run's end as numbers. Thin; the calls have the contracts.
+use coord::coord::CoordEntry;
+use coord::coord::Path;
+use coord::node_addr::NodeAddr;
+use runs::Stop;
+use types::reply::Tally;
+
+// A length, and 32 places of 32 bytes.
+const PENDING: usize = 1025;
+
+// Used, written, why it stopped, commands done, commands refused.
+const REPORT: usize = 5;
+
+fn blank() -> CoordEntry {
+    CoordEntry {
+        node_addr: NodeAddr([0u8; 16]),
+        sequence: 0,
+        timestamp: 0,
+    }
+}
+
+fn load(pending: &[u8]) -> Path {
+    let mut entries = [blank(); 32];
+    if pending.len() < PENDING {
+        return Path::empty();
+    }
+    let mut k = 0;
+    while k < 32 {
+        entries[k] = paths::addr::load_coord_entry(pending, 1 + k * 32);
+        k += 1;
+    }
+    let len = raw::numbers::wide(pending[0]) as usize;
+    Path { entries, len }
+}
+
+fn store(pending: &mut [u8], path: Path) {
+    if pending.len() < PENDING {
+        return;
+    }
+    if 32 < path.len {
+        return;
+    }
+    insertion::values::store_path(pending, 0, path);
+}
+
+fn stop_code(stop: Stop) -> u64 {
+    match stop {
+        Stop::End => 0,
+        Stop::Cut => 1,
+        Stop::Full => 2,
+        Stop::Six => 3,
+    }
+}
+
+fn put(report: &mut [u64], i: usize, v: u64) {
+    if i < report.len() {
+        report[i] = v;
+    }
+}
+
+fn tell(report: &mut [u64], used: u64, written: u64, stop: u64, counts: Tally) {
+    put(report, 0, used);
+    put(report, 1, written);
+    put(report, 2, stop);
+    put(report, 3, counts.done);
+    put(report, 4, counts.refused);
+}
+
+#[no_mangle]
+pub extern "C" fn stream_run(
+    state: &mut [u8],
+    pending: &mut [u8],
+    input: &[u8],
+    last: u8,
+    output: &mut [u8],
+    report: &mut [u64],
+) {
+    if pending.len() < PENDING {
+        return;
+    }
+    if report.len() < REPORT {
+        return;
+    }
+    let path = load(pending);
+    let tally = Tally {
+        done: report[3],
+        refused: report[4],
+    };
+    let ran = stream::run(state, path, tally, input, last != 0, output);
+    let after = ran.pending;
+    let counts = ran.tally;
+    let stop = ran.stop;
+    store(pending, after);
+    tell(
+        report,
+        ran.used as u64,
+        ran.written as u64,
+        stop_code(stop),
+        counts,
+    );
+}
