@@ -11,6 +11,7 @@
 //! WHICH is `random LISTS CALLS SEED` or `file FILE`.
 pub mod antt;
 pub mod calls;
+pub mod dice;
 pub mod lists;
 pub mod tally;
 pub mod text;

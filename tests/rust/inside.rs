@@ -3,6 +3,20 @@
 use super::*;
 use crate::driver::calls::{Entry, Inside, Place as Where, Row};
 
+fn row_of(addr: &NodeAddr, slot: &Slot) -> Row {
+    Row {
+        key: *addr.as_bytes(),
+        entry: Entry::of(&slot.entry),
+        place: match slot.place {
+            Place::ByUse => Where::ByUse,
+            Place::Parked => Where::Parked,
+            Place::Probation => Where::Probation,
+        },
+        stamp: slot.key,
+        weight: slot.weight,
+    }
+}
+
 impl<E: EntropySource + Clone> Inside for CoordCache<E> {
     fn place(
         &mut self,
@@ -20,17 +34,7 @@ impl<E: EntropySource + Clone> Inside for CoordCache<E> {
         let mut rows: Vec<Row> = self
             .entries
             .iter()
-            .map(|(addr, slot)| Row {
-                key: *addr.as_bytes(),
-                entry: Entry::of(&slot.entry),
-                place: match slot.place {
-                    Place::ByUse => Where::ByUse,
-                    Place::Parked => Where::Parked,
-                    Place::Probation => Where::Probation,
-                },
-                stamp: slot.key,
-                weight: slot.weight,
-            })
+            .map(|(addr, slot)| row_of(addr, slot))
             .collect();
         rows.sort_by_key(|row| row.key);
         // each index holds the keys of its own place, under their stamps, and no others
@@ -49,6 +53,18 @@ impl<E: EntropySource + Clone> Inside for CoordCache<E> {
             assert_eq!(filed, held, "an index of the original differs from its slots");
         }
         rows
+    }
+
+    fn row(&self, addr: &NodeAddr) -> Option<Row> {
+        self.entries.get(addr).map(|slot| row_of(addr, slot))
+    }
+
+    fn in_main(&self, addr: &NodeAddr) -> bool {
+        self.segment_of(addr) == Some(Segment::Main)
+    }
+
+    fn main_rows(&self) -> u64 {
+        self.main_len() as u64
     }
 
     fn seq(&self) -> u64 {

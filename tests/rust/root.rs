@@ -1,10 +1,13 @@
-//! The crate around the original files: what they name under `crate::`, and the driver.
+//! The crate around the original files: what they name under `crate::`, and the driver; with `--cfg stream`
+//! the driver of tests/stream-against-rust beside it, which uses its parts.
 #![allow(dead_code, unused_imports)]
 
 extern crate alloc;
 
 mod cache;
 mod driver;
+#[cfg(stream)]
+mod stream;
 
 mod entropy {
     /// The host's random source.
@@ -69,6 +72,12 @@ mod utils {
     pub mod hash;
 }
 
+#[cfg(not(stream))]
 fn main() -> std::process::ExitCode {
     driver::main()
+}
+
+#[cfg(stream)]
+fn main() -> std::process::ExitCode {
+    stream::main()
 }

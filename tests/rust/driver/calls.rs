@@ -107,6 +107,9 @@ pub trait Inside {
         stated: bool,
     ) -> Placed;
     fn rows(&self) -> Vec<Row>;
+    fn row(&self, addr: &NodeAddr) -> Option<Row>;
+    fn in_main(&self, addr: &NodeAddr) -> bool;
+    fn main_rows(&self) -> u64;
     fn seq(&self) -> u64;
     fn set_seq(&mut self, seq: u64);
     fn stored_weight(&self) -> u64;

@@ -1,56 +1,11 @@
 //! Random lists of calls. The choices look at what the original holds, so that times fall on
 //! expiries, fundings on charges, and keys on held rows.
 use super::calls::{Addr, Call, Elem, Held, LAST_SEQ, List, Path, Row, path_weight, probation_bound};
+use super::dice::Dice;
 use crate::cache::Funding;
 
-/// splitmix64
-struct Dice(u64);
-
-impl Dice {
-    fn roll(&mut self) -> u64 {
-        self.0 = self.0.wrapping_add(0x9e37_79b9_7f4a_7c15);
-        let mut z = self.0;
-        z = (z ^ (z >> 30)).wrapping_mul(0xbf58_476d_1ce4_e5b9);
-        z = (z ^ (z >> 27)).wrapping_mul(0x94d0_49bb_1331_11eb);
-        z ^ (z >> 31)
-    }
-
-    fn below(&mut self, n: usize) -> usize {
-        (self.roll() % n as u64) as usize
-    }
-
-    fn chance(&mut self, percent: u64) -> bool {
-        self.roll() % 100 < percent
-    }
-
-    fn pick<T: Clone>(&mut self, from: &[T]) -> T {
-        from[self.below(from.len())].clone()
-    }
-
-    /// An index, with these weights.
-    fn weighted(&mut self, weights: &[u64]) -> usize {
-        let mut at = self.roll() % weights.iter().sum::<u64>();
-        for (i, w) in weights.iter().enumerate() {
-            if at < *w {
-                return i;
-            }
-            at -= w;
-        }
-        unreachable!("the weights' sum is above every roll")
-    }
-
-    /// A number near `n`.
-    fn near(&mut self, n: u64) -> u64 {
-        match self.below(4) {
-            0 => n.saturating_sub(1),
-            1 | 2 => n,
-            _ => n.saturating_add(1),
-        }
-    }
-}
-
 /// Addresses that differ in the first byte, in the last, in one between.
-fn addresses() -> Vec<Addr> {
+pub fn addresses() -> Vec<Addr> {
     let mut all = vec![[0; 16], [0x01; 16], [0xaa; 16], [0xff; 16]];
     for first in [0x02, 0x10, 0x1b, 0x2e, 0x37, 0x44, 0x5c, 0x6d, 0x77, 0x80, 0x91, 0xb0, 0xc4, 0xd3, 0xe8, 0xf2] {
         let mut a = [first; 16];

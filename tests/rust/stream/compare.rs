@@ -1,0 +1,232 @@
+//! The proved command stream beside the original: after every command, and whole.
+use super::decode;
+use super::encode;
+use super::lines::{Reply, shown};
+use super::original::{Original, caught};
+use super::packed;
+use super::proved::{Counts, Proved, Stop, output};
+use super::streams::Stream;
+use super::tally::Tally;
+use crate::driver::dice::Dice;
+
+/// The longest line of 01 has 110 bytes: two digits, a refusal, five numbers of up to twenty digits, the end. A run may ask for
+/// more before it makes a command, which 01 leaves free; not for more than this.
+pub const LINE: usize = 160;
+
+/// What is not as it should be, in words.
+pub type Unlike = Vec<String>;
+
+/// Both sides after the same commands.
+#[derive(Clone)]
+pub struct Pair {
+    pub original: Original,
+    /// what the original holds, packed
+    memory: Vec<u8>,
+    counts: Counts,
+    proved: Proved,
+}
+
+impl Pair {
+    /// Both at the stream's start: the proved side by the command 00, on memory that is no state.
+    pub fn start(stream: &Stream) -> Result<Pair, Unlike> {
+        let mut proved = Proved::new(stream.rows);
+        let before = proved.state().to_vec();
+        let original = Original::new(stream.rows, stream.max, stream.ttl, 0);
+        let memory = packed::after_fresh(&original, before);
+        let mut text = output(LINE);
+        let report = proved.run(&stream.fresh(), true, &mut text).map_err(|why| vec![why])?;
+        let mut pair = Pair { original, memory, counts: Counts { done: 1, refused: 0 }, proved };
+        let mut said = pair.unlike(&pair.proved);
+        if text[..report.written] != Reply::new(0, Ok([0; 5])).line() {
+            said.insert(0, format!("the line of the first fresh: found {}", shown(&text[..report.written])));
+        }
+        if !said.is_empty() {
+            return Err(said);
+        }
+        if stream.seq > 0 {
+            pair.original = Original::new(stream.rows, stream.max, stream.ttl, stream.seq);
+            packed::write(&pair.original, &mut pair.memory);
+            pair.proved.set_seq(stream.seq);
+        }
+        Ok(pair)
+    }
+
+    /// One command on both sides, as a run of its own.
+    pub fn step(&mut self, command: &[u8]) -> Result<Reply, Unlike> {
+        let (original, memory) = (&mut self.original, &mut self.memory);
+        let made = caught(|| {
+            let (reply, _) = original.command(command);
+            // what takes the original shared, or is not made on it, leaves the memory as it is
+            if reply.refusal == 0 && !matches!(reply.code, 0x01 | 0x20 | 0x40 | 0x41) {
+                packed::write(original, memory);
+            }
+            reply
+        });
+        let reply = made.map_err(|why| vec![format!("the original stopped, or is not as 01 and this driver have it: {why}")])?;
+        let line = reply.line();
+        count(&mut self.counts, reply.refusal);
+        let mut text = output(LINE);
+        let report = self.proved.run(command, true, &mut text).map_err(|why| vec![why])?;
+        let mut said = self.unlike(&self.proved);
+        let text = &text[..report.written];
+        if text != line {
+            said.insert(0, format!("line: expected {:?}, found {:?}", shown(&line), shown(text)));
+        }
+        let stop = if reply.refusal == 6 { Stop::Six } else { Stop::End };
+        if report.stop != stop {
+            said.push(format!("stop: expected {stop:?}, found {:?}", report.stop));
+        }
+        // how much of a command that is refused by 6 counts as used is not said by 01, and nothing reads on behind it
+        if reply.refusal != 6 && report.used != command.len() {
+            said.push(format!("bytes used: expected {}, found {}", command.len(), report.used));
+        }
+        if said.is_empty() { Ok(reply) } else { Err(said) }
+    }
+
+    /// Memory, pending path and counts where they differ.
+    fn unlike(&self, proved: &Proved) -> Unlike {
+        let mut said = Vec::new();
+        let pending = packed::pending(self.original.pending());
+        if *proved.pending() != pending {
+            said.extend(packed::pending_unlike(&pending, proved.pending()));
+        }
+        if proved.state() != self.memory {
+            said.extend(packed::unlike(&self.memory, proved.state(), self.original.rows));
+        }
+        if proved.counts != self.counts {
+            said.push(format!("tally: expected {:?}, found {:?}", self.counts, proved.counts));
+        }
+        said
+    }
+
+    /// The stream whole on other memory, each run in one piece or in chunks of input and output: its lines together are
+    /// `lines`, and it ends as this pair stands.
+    pub fn whole(&self, stream: &Stream, lines: &[u8], mut dice: Option<&mut Dice>) -> Result<(), Unlike> {
+        let started = |proved: &mut Proved| -> Result<(), String> {
+            proved.run(&stream.fresh(), true, &mut output(LINE))?;
+            if stream.seq > 0 {
+                proved.set_seq(stream.seq);
+            }
+            Ok(())
+        };
+        let mut proved = Proved::new(stream.rows);
+        let mut text = Vec::new();
+        let mut run_all = || -> Result<(), String> {
+            started(&mut proved)?;
+            for run in stream.runs() {
+                let mut bytes = run.bytes;
+                if run.six && !run.cut {
+                    // a run stops after a 6: this would be seen
+                    bytes.extend(encode::fresh(0, 0));
+                    bytes.extend(encode::bare(0x41));
+                }
+                match &mut dice {
+                    None => piece(&mut proved, &bytes, &mut text, lines.len() + LINE)?,
+                    Some(dice) => chunks(&mut proved, &bytes, &mut text, dice)?,
+                }
+            }
+            Ok(())
+        };
+        let mut said: Unlike = run_all().err().into_iter().collect();
+        if text != lines {
+            let at = text.iter().zip(lines).take_while(|(a, b)| a == b).filter(|(a, _)| **a == b'\n').count();
+            let nth = |all: &[u8]| all.split(|b| *b == b'\n').nth(at).map(shown).unwrap_or_default();
+            said.push(format!("line {}: expected {:?}, found {:?}", at + 1, nth(lines), nth(&text)));
+        }
+        said.extend(self.unlike(&proved));
+        if said.is_empty() {
+            return Ok(());
+        }
+        said.insert(0, format!("run whole, {}:", if dice.is_none() { "in one piece" } else { "in chunks" }));
+        Err(said)
+    }
+}
+
+fn count(counts: &mut Counts, refusal: u8) {
+    if refusal == 0 {
+        counts.done += 1;
+    } else {
+        counts.refused += 1;
+    }
+}
+
+/// One run, all its input lent at once, and output enough for the lines that are expected.
+fn piece(proved: &mut Proved, bytes: &[u8], text: &mut Vec<u8>, room: usize) -> Result<(), String> {
+    let mut out = output(room);
+    let report = proved.run(bytes, true, &mut out)?;
+    text.extend_from_slice(&out[..report.written]);
+    match report.stop {
+        Stop::Six => Ok(()),
+        Stop::End if report.used == bytes.len() => Ok(()),
+        stop => Err(format!("said {stop:?}, with {} of {} bytes used", report.used, bytes.len())),
+    }
+}
+
+/// One run, its input lent in growing pieces and its output taken in small ones.
+fn chunks(proved: &mut Proved, bytes: &[u8], text: &mut Vec<u8>, dice: &mut Dice) -> Result<(), String> {
+    // byte by byte only where that is not long
+    let steps: &[usize] = if bytes.len() < 4000 { &[1, 30, 90, 400] } else { &[400, 5000, 20000] };
+    let step = dice.pick(steps);
+    let rooms: &[usize] = if bytes.len() < 4000 { &[LINE, 240, 1000] } else { &[1000, 8000] };
+    let (mut from, mut to) = (0, 0);
+    let mut starved = false;
+    loop {
+        let last = to == bytes.len() && dice.chance(70);
+        // an output that is too short for a line gets none; the next one is longer
+        let room = if !starved && dice.chance(5) { dice.below(LINE) } else { dice.pick(rooms) + dice.below(20) };
+        let mut out = output(room);
+        let report = proved.run(&bytes[from..to], last, &mut out)?;
+        text.extend_from_slice(&out[..report.written]);
+        from += report.used;
+        starved = false;
+        match report.stop {
+            Stop::Six => return Ok(()),
+            Stop::End if from < to => return Err(format!("said End with {} bytes of input left", to - from)),
+            Stop::End if last => return Ok(()),
+            Stop::Cut if last => return Err("said Cut where no more input comes".to_string()),
+            Stop::Cut if !decode::cut(&bytes[from..to]) => return Err("said Cut where no command is cut".to_string()),
+            Stop::End | Stop::Cut => to = bytes.len().min(to + 1 + dice.below(step)),
+            Stop::Full if room - report.written >= LINE => {
+                return Err(format!("said Full with {} bytes of output free", room - report.written));
+            }
+            Stop::Full => starved = true,
+        }
+    }
+}
+
+/// Whether lines or the end differ where each run is made in one piece: what a search can afford to ask of a long stream.
+pub fn ends_unlike(stream: &Stream) -> bool {
+    let proved = Proved::new(stream.rows);
+    let mut original = Original::new(stream.rows, stream.max, stream.ttl, stream.seq);
+    let mut memory = packed::after_fresh(&original, proved.state().to_vec());
+    let (mut lines, mut counts) = (Vec::new(), Counts { done: 1, refused: 0 });
+    let made = caught(|| {
+        for command in &stream.commands {
+            let (reply, _) = original.command(command);
+            reply.write(&mut lines);
+            count(&mut counts, reply.refusal);
+        }
+        packed::write(&original, &mut memory);
+    });
+    made.is_err() || Pair { original, memory, counts, proved }.whole(stream, &lines, None).is_err()
+}
+
+/// A stream's difference: the commands that were alike before it, and what is unlike.
+pub struct Difference {
+    pub at: usize,
+    pub unlike: Unlike,
+}
+
+/// The stream after every command, then whole, in one piece and in chunks.
+pub fn compare(stream: &Stream, tally: &mut Tally) -> Result<(), Difference> {
+    let mut pair = Pair::start(stream).map_err(|unlike| Difference { at: 0, unlike })?;
+    let mut lines = Vec::new();
+    for (at, command) in stream.commands.iter().enumerate() {
+        let reply = pair.step(command).map_err(|unlike| Difference { at, unlike })?;
+        reply.write(&mut lines);
+        tally.count(&reply);
+    }
+    let mut dice = Dice(stream.commands.len() as u64);
+    let whole = pair.whole(stream, &lines, None).and_then(|()| pair.whole(stream, &lines, Some(&mut dice)));
+    whole.map_err(|unlike| Difference { at: stream.commands.len(), unlike })
+}
