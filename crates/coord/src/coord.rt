@@ -3,7 +3,7 @@ use crate::node_addr::NodeAddr;
 ghost use mathlib.Core.Path.{_≡_};
 ghost use Prim.Native.Nat.{_≤_};
 ghost use lib.ListN.{length};
-ghost use Rattle.coord.specs.Paths.{emptyPath, elements, sameEntry, samePath, contains, rootOf, startsAt, pathWeight, appended};
+ghost use Rattle.coord.specs.Paths.{emptyPath, elements, sameEntry, samePath, startsAt, pathWeight, appended};
 
 // A node on a path, with the sequence number and the timestamp of its declaration.
 pub struct CoordEntry {
@@ -83,34 +83,6 @@ impl Path {
             i += 1;
         }
         true
-    }
-
-    pub fn contains(self, addr: NodeAddr) -> bool
-        ensures { λ r. ⌜ r ≡ contains addr self ⌝ }
-    {
-        let n = self.count();
-        let mut at = 0;
-        while at < n {
-            let x = self.entries[at];
-            if addr.same_as(x.node_addr) {
-                return true;
-            }
-            at += 1;
-        }
-        false
-    }
-
-    // The last address; zeros where there is none.
-    pub fn root_id(self) -> NodeAddr
-        ensures { λ r. ⌜ r ≡ rootOf self ⌝ }
-    {
-        let n = self.count();
-        if n == 0 {
-            return NodeAddr([0u8; 16]);
-        }
-        let i = n - 1;
-        let x = self.entries[i];
-        x.node_addr
     }
 
     pub fn starts_at(self, key: NodeAddr) -> bool

@@ -1,6 +1,6 @@
 // A node's routing address. As in the original it is a type of its own, so that no other sixteen bytes pass for one.
 ghost use mathlib.Core.Path.{_≡_};
-ghost use Rattle.coord.specs.Addresses.{sameAddr, addrBefore};
+ghost use Rattle.coord.specs.Addresses.{sameAddr};
 
 pub struct NodeAddr(pub [u8; 16]);
 
@@ -19,21 +19,5 @@ impl NodeAddr {
             i += 1;
         }
         true
-    }
-
-    // The bytewise order: the first byte that differs decides.
-    pub fn before(self, other: NodeAddr) -> bool
-        ensures { λ r. ⌜ r ≡ addrBefore self other ⌝ }
-    {
-        let a = self.0;
-        let b = other.0;
-        let mut at = 0;
-        while at < 16 {
-            if a[at] != b[at] {
-                return a[at] < b[at];
-            }
-            at += 1;
-        }
-        false
     }
 }

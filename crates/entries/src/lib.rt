@@ -4,7 +4,7 @@ ghost use Prim.Native.Nat.{_+_, _*_, _-_, _≤_, _<_};
 ghost use lib.ListN.{length};
 ghost use Rattle.rules.specs.Rows.{rowSize, rowAt};
 ghost use Rattle.rules.specs.Entries.{expired, addTimes};
-ghost use Rattle.rules.specs.Memory.{headSize, viewRows, view};
+ghost use Rattle.rules.specs.Memory.{headSize, viewRows};
 
 // Whether row i is expired: now > expires_at.
 pub fn is_expired(state: &[u8], n: usize, i: usize, time: u64) -> bool

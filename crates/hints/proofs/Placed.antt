@@ -21,7 +21,7 @@ use Rattle.rules.specs.Lent.{Bytes, call}
 use Rattle.rules.proofs.CallsKeep.{path-ok}
 use Rattle.rules.proofs.Public.{sound-memory}
 use Rattle.filing.specs.Filings.{Writable}
-use Rattle.placement.specs.Placements.{Placing}
+use Rattle.newkeys.specs.Placements.{Placing}
 use Rattle.frame.specs.Writes.{writeRefusal}
 use Rattle.frame.proofs.Frame.{done-with}
 use Rattle.frame.proofs.Writing.{passed, write-refused, hint-allowed}

@@ -2,7 +2,7 @@
 // and public.
 use coord::coord::Path;
 use coord::node_addr::NodeAddr;
-use placement::hint::place_hint;
+use placement::place_hint;
 use types::answers::HintAnswer;
 use types::placed::Funding;
 ghost use mathlib.Core.Path.{_≡_};

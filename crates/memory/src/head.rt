@@ -1,8 +1,7 @@
 // The head's five numbers, and R.
 ghost use mathlib.Core.Path.{_≡_};
-ghost use Prim.Native.Nat.{_≤_, _*_, _+_};
+ghost use Prim.Native.Nat.{_≤_};
 ghost use lib.ListN.{length};
-ghost use Rattle.rules.specs.Rows.{rowSize};
 ghost use Rattle.rules.specs.Memory.{headSize, capacity, viewRows};
 ghost use Rattle.memory.specs.Edits.{withSeq, withStoredWeight, withRowCount};
 

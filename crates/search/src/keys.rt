@@ -34,40 +34,12 @@ pub fn order_to(state: &[u8], at: usize, key: NodeAddr) -> Order
     Order::Equal
 }
 
-// The address at `a` against the one at `b`.
-fn order_of(state: &[u8], a: usize, b: usize) -> Order
-    requires { ⌜ (a + addressSize ≤ length (now state)) × (b + addressSize ≤ length (now state)) ⌝ }
-    ensures { λ r. ⌜ r ≡ orderOf (record { 0 = cut a addressSize (now (state .entry)) }) (record { 0 = cut b addressSize (now (state .entry)) }) ⌝ }
-{
-    let mut j = 0;
-    while j < 16 {
-        let x = state[a + j];
-        let y = state[b + j];
-        if x < y {
-            return Order::Less;
-        }
-        if y < x {
-            return Order::Greater;
-        }
-        j += 1;
-    }
-    Order::Equal
-}
-
 // The key of row i of n against an address.
 fn key_order(state: &[u8], n: usize, i: usize, key: NodeAddr) -> Order
     requires { ⌜ (i < n) × (headSize + n * rowSize ≤ length (now state)) ⌝ }
     ensures { λ r. ⌜ r ≡ orderOf (rowAt i (viewRows n (now (state .entry)) .rows) .key) key ⌝ }
 {
     order_to(state, HEAD + i * ROW, key)
-}
-
-// The key of row i of n against that of row j.
-pub fn keys_order(state: &[u8], n: usize, i: usize, j: usize) -> Order
-    requires { ⌜ (i < n) × (j < n) × (headSize + n * rowSize ≤ length (now state)) ⌝ }
-    ensures { λ r. ⌜ r ≡ orderOf (rowAt i (viewRows n (now (state .entry)) .rows) .key) (rowAt j (viewRows n (now (state .entry)) .rows) .key) ⌝ }
-{
-    order_of(state, HEAD + i * ROW, HEAD + j * ROW)
 }
 
 // The row of a key, by halves: rows below `lo` stand before the key, rows from `hi` on behind it.

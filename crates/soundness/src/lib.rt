@@ -2,7 +2,6 @@
 pub mod head;
 pub mod key;
 pub mod pass;
-pub mod row;
 
 use crate::head::head_is_sound;
 use crate::head::probation_bound;

@@ -1,6 +1,6 @@
 // The pass over the rows.
 use crate::key::key_rises;
-use crate::row::row_is_sound;
+use rowcheck::row_is_sound;
 ghost use mathlib.Core.Path.{_≡_};
 ghost use Prim.Native.Nat.{_+_, _*_, _^_, _≤_, _<_};
 ghost use lib.ListN.{length};

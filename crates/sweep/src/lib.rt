@@ -5,7 +5,7 @@ ghost use mathlib.Core.Bool.{cond};
 ghost use Prim.Native.Nat.{_+_, _*_, _-_, _≤_, _<_};
 ghost use lib.ListN.{length};
 ghost use Rattle.rules.specs.Rows.{rowSize, rowAt, inMain, weighRows, withOnlyRows};
-ghost use Rattle.rules.specs.Memory.{headSize, viewRows, view};
+ghost use Rattle.rules.specs.Memory.{headSize, viewRows};
 ghost use Rattle.memory.specs.Edits.{OnlyRows};
 ghost use Rattle.sweep.specs.Sweep.{sweepTest, keptRows, keptDown, PathFit, PathsFit};
 

@@ -2,7 +2,7 @@
 use crate::reply::Reply;
 use crate::reply::says;
 ghost use mathlib.Core.Path.{_≡_};
-ghost use Rattle.types.specs.Values.{covers, fundingKind, fundingAmount, outcomeCode, segmentCode, placedReply, verifiedReply};
+ghost use Rattle.types.specs.Values.{covers, outcomeCode, segmentCode, placedReply, verifiedReply};
 
 // What the writer of a hint can pay, in units of weight.
 pub enum Funding {
@@ -54,22 +54,6 @@ impl Funding {
         match self {
             Funding::Upto(n) => weight <= n,
             Funding::Uncharged => true,
-        }
-    }
-
-    pub fn kind(self) -> u8
-        ensures { λ r. ⌜ r ≡ fundingKind self ⌝ }
-    {
-        if let Funding::Upto(_) = self { 1 } else { 0 }
-    }
-
-    // 0 for Uncharged, whose charges have no limit to name.
-    pub fn amount(self) -> u64
-        ensures { λ r. ⌜ r ≡ fundingAmount self ⌝ }
-    {
-        match self {
-            Funding::Upto(n) => n,
-            Funding::Uncharged => 0,
         }
     }
 }

@@ -1,0 +1,297 @@
+-- A held key: what each branch meets, and what it leaves.
+use mathlib.Core.Path.{_≡_, refl, sym, ap, _∙_, subst}
+use Prim.Native.Nat.{ℕ, _+_, _*_, _-_, _≤_, _<_, max}
+use native.Mathlib.Omega.{arith}
+use mathlib.Core.List.{List}
+use mathlib.Core.Option.{none, some}
+use mathlib.Core.Bool.{Bool, true, false, cond, _&&_, _||_, not}
+use lib.ListN.{length}
+use lib.Dec.{leb}
+use borrow.Author.Tests.{lt-ltb, le-ltb, le-leb, lt-leb, eq-eqb, ltb-false}
+use Rattle.coord.specs.declared.node_addr.NodeAddr.{NodeAddr}
+use Rattle.coord.specs.declared.coord.Path.{Path}
+use Rattle.coord.specs.Paths.{pathWeight, samePath}
+use Rattle.types.specs.declared.placed.Funding.{Funding}
+use Rattle.types.specs.declared.placed.Segment.{Segment}
+use Rattle.types.specs.declared.placed.Segment.the-variants.{Main, Probation}
+use Rattle.types.specs.declared.placed.HintOutcome.{HintOutcome}
+use Rattle.types.specs.declared.placed.HintOutcome.the-variants.{Changed, Unchanged}
+use Rattle.types.specs.declared.placed.Placed.{Placed}
+use Rattle.types.specs.Values.{covers}
+use Rattle.rules.specs.Records.{Entry, Row, State, mainBound, probationBound}
+use Rattle.rules.specs.Rows.{rowAt, find, inMain, inProbation, atPlace, mainCount, probationCount, mainWeight, withOnlyRows, withRows}
+use Rattle.rules.specs.Sound.{sound, ascends}
+use Rattle.rules.specs.Entries.{expired, verified, update}
+use Rattle.rules.specs.Room.{refile, refiled, stamp, raised, fileNew, takeOut, makeRoom}
+use Rattle.rules.specs.Placement.{placeResult, rejected, heldOutcome, staysVerified, placeNew, placeProbation, placeMain, placeHeld, placeHint}
+use Rattle.rules.specs.Memory.{cut, rowOf, capacity, viewRows}
+use Rattle.rules.proofs.SoundTest.{RowOk, ascends-test}
+use Rattle.rules.proofs.RowLists.{cores, every-at, find-at, rising-unique, total-without, length-change}
+use Rattle.rules.proofs.LentMemory.{capacity-same}
+use Rattle.rules.proofs.Walks.{Roomed, room-roomed}
+use Rattle.rules.proofs.Moves.{ready, takeOut-sound}
+use Rattle.rules.proofs.Others.{takeOut-gone, takeOut-seq, takeOut-max, takeOut-main}
+use Rattle.memory.proofs.RowLaws.{view-length}
+use Rattle.memory.proofs.Fields.{row-at}
+use Rattle.search.specs.declared.answers.Search.{Search}
+use Rattle.search.specs.declared.answers.Search.the-variants.{At, Absent}
+use Rattle.search.specs.ByKey.{searched}
+use Rattle.search.proofs.SearchLaws.{at-found, absent-none}
+use Rattle.room.specs.declared.answers.Room.{Room as RoomAnswer}
+use Rattle.room.specs.Rooms.{roomOf, Without}
+use Rattle.room.proofs.Files.{shown, laid-out, free-in-main, free-in-probation, reached-without, filed}
+use Rattle.filing.specs.declared.entry.NewEntry.{NewEntry}
+use Rattle.filing.specs.Filings.{entryFrom, Writable}
+use Rattle.newkeys.specs.Placements.{Placing, Holds, FreeInMain, rejectedAs, promotedAs, promotion, growth, foundHint}
+use Rattle.newkeys.proofs.AfterRoom.{Sought, still-without, seq-after, room-state}
+use Rattle.newkeys.proofs.NewKeys.{left-as-is}
+
+-- ---- a row that is there
+
+pub row-there : (k : NodeAddr) (n i : ℕ) (l : List ℕ) → Holds k n i l → (i < n) × (40 + n * 1095 ≤ length l)
+row-there k n i l h = (h .inside, laid-out n l (h .sound))
+
+pub out-asks : (k : NodeAddr) (n i : ℕ) (l : List ℕ) → Holds k n i l → (i < n) × (40 + n * 1095 ≤ length l) × (viewRows n l .storedWeight ≡ mainWeight (viewRows n l))
+out-asks k n i l h = (h .inside, laid-out n l (h .sound), shown n l (h .sound) .storedWeight)
+
+pub refile-asks : (n i : ℕ) (l : List ℕ) (p : Path) → sound (capacity l) (viewRows n l) ≡ true → i < n → Writable p → viewRows n l .seq ≤ 18446744073709547519
+    → (i < n) × (40 + n * 1095 ≤ length l) × (viewRows n l .seq < 18446744073709551615) × (p .len ≤ 32)
+refile-asks n i l p h j w q = (j, laid-out n l h, omega arith, w .short)
+
+-- ---- the outcome
+
+pub outcome-same : (p : Path) (r : Row) (b : Bool) → b ≡ samePath (r .entry .path) p → b ≡ true → Unchanged ≡ heldOutcome p r
+unfolding heldOutcome
+outcome-same p r b e h = rw (← e, h)
+
+pub outcome-other : (p : Path) (r : Row) (b : Bool) → b ≡ samePath (r .entry .path) p → b ≡ false → Changed ≡ heldOutcome p r
+unfolding heldOutcome
+outcome-other p r b e h = rw (← e, h)
+
+-- ---- refiled where it stands
+
+refiled-length : (e : Entry) (w i : ℕ) (s : State) → length (refile e w i s .rows) ≡ length (s .rows)
+unfolding refile stamp raised withRows
+refiled-length e w i s = length-change (refiled (s .seq + 1) e w) i (s .rows)
+
+pub stays : (p : Path) (time ttl n i w : ℕ) (g : Segment) (o : HintOutcome) (l y : List ℕ) → o ≡ heldOutcome p (rowAt i (viewRows n l .rows)) → viewRows n y ≡ refile (update p time ttl (rowAt i (viewRows n l .rows) .entry)) w i (viewRows n l)
+    → Placing (placeResult (heldOutcome p (rowAt i (viewRows n l .rows))) 0 g false 0 (refile (update p time ttl (rowAt i (viewRows n l .rows) .entry)) w i (viewRows n l))) (record { outcome = o; «added_weight» = 0; segment = g; unfunded = false; examined = 0 }) y
+unfolding placeResult
+stays p time ttl n i w g o l y a b = record {
+  says = ap (λ (x : HintOutcome). record { outcome = x; «added_weight» = 0; segment = g; unfunded = false; examined = 0 }) a;
+  state = ap (λ (x : ℕ). viewRows x y) (refiled-length (update p time ttl (rowAt i (viewRows n l .rows) .entry)) w i (viewRows n l) ∙ view-length n l) ∙ b;
+}
+
+-- ---- taken out
+
+probation-one-less : (i : ℕ) (s : State) → i < length (s .rows) → atPlace 2 (rowAt i (s .rows)) ≡ true → probationCount (takeOut i s) + 1 ≡ probationCount s
+unfolding takeOut withOnlyRows
+probation-one-less i s h e = rw e at (total-without (λ r. cond (inProbation r) 1 0) i (s .rows) h)
+
+not-main : (r : Row) → r .place ≤ 2 → inMain r ≡ false → atPlace 2 r ≡ true
+unfolding inMain atPlace
+not-main r h e = eq-eqb (r .place) 2 (omega (arith, ltb-false (r .place) 2 e))
+
+module _ (k : NodeAddr) (n i : ℕ) (l m : List ℕ) (ho : Holds k n i l) (z : length m ≡ length l) (v : viewRows (n - 1) m ≡ takeOut i (viewRows n l)) where
+  inside : i < length (viewRows n l .rows)
+  inside = rw (view-length n l) (ho .inside)
+
+  pub out-without : Without k (n - 1) m
+  out-without = let s = shown n l (ho .sound) in
+      reached-without k l m (n - 1) (takeOut i (viewRows n l)) (record { size = z; state = v }) (takeOut-sound (capacity l) i (viewRows n l) s) (takeOut-gone k i (viewRows n l) (rising-unique (cores (viewRows n l .rows)) (s .rising)) inside (ho .key))
+
+  pub out-seq : viewRows n l .seq ≤ 18446744073709547519 → viewRows (n - 1) m .seq ≤ 18446744073709547519
+  out-seq q = rw v (omega (arith, takeOut-seq i (viewRows n l)))
+
+  module _ (x : List ℕ) (time w : ℕ) (r : RoomAnswer) (so : Sought m x time w (viewRows (n - 1) m) r) where
+    made : Roomed time w (viewRows (n - 1) m) (makeRoom time w (viewRows (n - 1) m))
+    made = room-roomed time w (viewRows (n - 1) m) (ready (shown (n - 1) m (out-without .sound)))
+
+    same-size : capacity x ≡ capacity l
+    same-size = capacity-same m x (so .size) ∙ capacity-same l m z
+
+    -- the row that was taken out left one free
+    pub freed-in-main : inMain (rowAt i (viewRows n l .rows)) ≡ true → FreeInMain (r .rows) x
+    freed-in-main e =
+        let s = shown n l (ho .sound) in
+        let a : mainCount (viewRows (n - 1) m) + 1 ≡ mainCount (viewRows n l) = rw v (takeOut-main i (viewRows n l) inside e) in
+        let b : viewRows (n - 1) m .maxEntries ≡ viewRows n l .maxEntries = rw v (takeOut-max i (viewRows n l)) in
+        let c : makeRoom time w (viewRows (n - 1) m) .state .maxEntries ≡ viewRows n l .maxEntries = made .maxEntries ∙ b in
+        rw (same-size, room-state k (n - 1) m x time w r out-without so) (subst (λ (y : ℕ). mainCount (makeRoom time w (viewRows (n - 1) m) .state) < mainBound (capacity l) y) (sym c) (omega (arith, made .mains, a, s .mains)))
+
+    freed-in-probation : inMain (rowAt i (viewRows n l .rows)) ≡ false → probationCount (viewRows (r .rows) x) < probationBound (viewRows (r .rows) x .maxEntries)
+    freed-in-probation e =
+        let s = shown n l (ho .sound) in
+        let p = not-main (rowAt i (viewRows n l .rows)) (every-at (RowOk (viewRows n l .seq)) i (viewRows n l .rows) inside (s .each) .place) e in
+        let a : probationCount (viewRows (n - 1) m) + 1 ≡ probationCount (viewRows n l) = rw v (probation-one-less i (viewRows n l) inside p) in
+        let b : viewRows (n - 1) m .maxEntries ≡ viewRows n l .maxEntries = rw v (takeOut-max i (viewRows n l)) in
+        let c : makeRoom time w (viewRows (n - 1) m) .state .maxEntries ≡ viewRows n l .maxEntries = made .maxEntries ∙ b in
+        rw (room-state k (n - 1) m x time w r out-without so) (subst (λ (y : ℕ). probationCount (makeRoom time w (viewRows (n - 1) m) .state) < probationBound y) (sym c) (omega (arith, made .probations, a, s .probations)))
+
+    -- what filing asks, for one that was in probation
+    pub promote-asks : (e : NewEntry) (p : Path) → inMain (rowAt i (viewRows n l .rows)) ≡ false → viewRows n l .seq ≤ 18446744073709547519 → Writable p → e .path ≡ p
+        → (sound (capacity x) (viewRows (r .rows) x) ≡ true) × (r .rows < capacity x) × (find k (viewRows (r .rows) x .rows) ≡ none) × (viewRows (r .rows) x .seq < 18446744073709551615) × (e .path .len ≤ 32)
+    promote-asks e p f q wr pe =
+        let h = still-without k (n - 1) m x time w r out-without so in
+        (h .sound, free-in-probation (r .rows) x (h .sound) (freed-in-probation f), h .gone, seq-after k (n - 1) m x time w r out-without so (out-seq q), rw pe (wr .short))
+
+    pub grow-asks : (e : NewEntry) (p : Path) → inMain (rowAt i (viewRows n l .rows)) ≡ true → viewRows n l .seq ≤ 18446744073709547519 → Writable p → e .path ≡ p
+        → (sound (capacity x) (viewRows (r .rows) x) ≡ true) × (r .rows < capacity x) × (find k (viewRows (r .rows) x .rows) ≡ none) × (viewRows (r .rows) x .seq < 18446744073709551615) × (e .path .len ≤ 32)
+    grow-asks e p f q wr pe =
+        let h = still-without k (n - 1) m x time w r out-without so in
+        (h .sound, free-in-main (r .rows) x (h .sound) (freed-in-main f), h .gone, seq-after k (n - 1) m x time w r out-without so (out-seq q), rw pe (wr .short))
+
+    pub back-asks : (row : List ℕ) → row ≡ cut (40 + i * 1095) 1095 l → inMain (rowAt i (viewRows n l .rows)) ≡ true → viewRows n l .seq ≤ 18446744073709547519
+        → (sound (capacity x) (viewRows (r .rows) x) ≡ true) × (r .rows < capacity x) × (find k (viewRows (r .rows) x .rows) ≡ none) × (viewRows (r .rows) x .seq < 18446744073709551615) × (rowOf row .key ≡ k)
+    back-asks row c f q =
+        let h = still-without k (n - 1) m x time w r out-without so in
+        (h .sound, free-in-main (r .rows) x (h .sound) (freed-in-main f), h .gone, seq-after k (n - 1) m x time w r out-without so (out-seq q), ap (λ (y : Row). y .key) (ap rowOf c ∙ sym (row-at n i l (ho .inside))) ∙ ho .key)
+
+    -- the room that was sought, by the rules
+    sought-there : (u : ℕ) → w ≡ u → roomOf r (viewRows (r .rows) x) ≡ makeRoom time u (takeOut i (viewRows n l))
+    sought-there u a = so .room ∙ rw (v, a)
+
+    pub promoted-is : (p : Path) (ttl u a b : ℕ) (o : HintOutcome) (e : NewEntry) (y : List ℕ) (d : Placed) → w ≡ u → a ≡ u → o ≡ heldOutcome p (rowAt i (viewRows n l .rows)) → entryFrom e ≡ update p time ttl (rowAt i (viewRows n l .rows) .entry)
+        → b ≡ cond (r .made) 0 2 → viewRows (r .rows + 1) y ≡ fileNew k (entryFrom e) u b (viewRows (r .rows) x) → d ≡ promotedAs o (r .made) a (r .examined)
+        → Placing (promotion k p time ttl u i (viewRows n l)) d y
+    unfolding promotion placeResult roomOf
+    promoted-is p ttl u a b o e y d wu au oh eu bc f ds = rw (← (sought-there u wu), ← oh) (go (r .made) refl)
+      where
+        go : (c : Bool) → r .made ≡ c → Placing (cond (r .made) (placeResult o u Main false (r .examined) (fileNew k (update p time ttl (rowAt i (viewRows n l .rows) .entry)) u 0 (viewRows (r .rows) x))) (placeResult o 0 Probation false (r .examined) (fileNew k (update p time ttl (rowAt i (viewRows n l .rows) .entry)) u 2 (viewRows (r .rows) x)))) d y
+        go true h =
+            let b0 : b ≡ 0 = bc ∙ rw h in
+            rw h (record { says = ds ∙ rw (h, au); state = filed k (update p time ttl (rowAt i (viewRows n l .rows) .entry)) (entryFrom e) u u 0 (r .rows) x y (viewRows (r .rows) x) refl eu refl (f ∙ rw b0) })
+        go false h =
+            let b2 : b ≡ 2 = bc ∙ rw h in
+            rw h (record { says = ds ∙ rw h; state = filed k (update p time ttl (rowAt i (viewRows n l .rows) .entry)) (entryFrom e) u u 2 (r .rows) x y (viewRows (r .rows) x) refl eu refl (f ∙ rw b2) })
+
+    pub grown-is : (p : Path) (ttl u a : ℕ) (stated : Bool) (o : HintOutcome) (e : NewEntry) (y : List ℕ) → w ≡ u → a ≡ u - rowAt i (viewRows n l .rows) .weight → o ≡ heldOutcome p (rowAt i (viewRows n l .rows)) → entryFrom e ≡ update p time ttl (rowAt i (viewRows n l .rows) .entry)
+        → r .made || stated ≡ true → viewRows (r .rows + 1) y ≡ fileNew k (entryFrom e) u 0 (viewRows (r .rows) x)
+        → Placing (growth k p time ttl stated u i (viewRows n l)) (record { outcome = o; «added_weight» = a; segment = Main; unfunded = false; examined = r .examined }) y
+    unfolding growth placeResult roomOf
+    grown-is p ttl u a stated o e y wu au oh eu h f = rw (← (sought-there u wu), h)
+        (record { says = rw (au, oh); state = filed k (update p time ttl (rowAt i (viewRows n l .rows) .entry)) (entryFrom e) u u 0 (r .rows) x y (viewRows (r .rows) x) refl eu refl f })
+
+    pub goes-back : (p : Path) (ttl u : ℕ) (stated : Bool) (row y : List ℕ) (d : Placed) → w ≡ u → row ≡ cut (40 + i * 1095) 1095 l → r .made || stated ≡ false → viewRows (r .rows + 1) y ≡ fileNew k (rowOf row .entry) (rowOf row .weight) 0 (viewRows (r .rows) x)
+        → d ≡ rejectedAs false (r .examined) → Placing (growth k p time ttl stated u i (viewRows n l)) d y
+    unfolding growth rejected placeResult roomOf
+    goes-back p ttl u stated row y d wu rc h f ds =
+        let g : rowOf row ≡ rowAt i (viewRows n l .rows) = ap rowOf rc ∙ sym (row-at n i l (ho .inside)) in
+        rw (← (sought-there u wu), h)
+        (record { says = ds; state = filed k (rowAt i (viewRows n l .rows) .entry) (rowOf row .entry) (rowAt i (viewRows n l .rows) .weight) (rowOf row .weight) 0 (r .rows) x y (viewRows (r .rows) x) refl (ap (λ (t : Row). t .entry) g) (ap (λ (t : Row). t .weight) g) f })
+
+-- ---- the steps
+
+-- 4
+module _ (k : NodeAddr) (p : Path) (time ttl : ℕ) (f : Funding) (i : ℕ) (s : State) where
+  pub larger-weight : (w a b : ℕ) → w ≡ max a b → a ≡ pathWeight p → b ≡ rowAt i (s .rows) .weight → w ≡ max (pathWeight p) (rowAt i (s .rows) .weight)
+  larger-weight w a b e x y = e ∙ rw (x, y)
+
+  pub probation-uncovered : (w v : ℕ) (d : Placed) (y : List ℕ) → w ≡ max (pathWeight p) (rowAt i (s .rows) .weight) → v ≡ w → covers f v ≡ false
+      → Placing (placeResult (heldOutcome p (rowAt i (s .rows))) 0 Probation false 0 (refile (update p time ttl (rowAt i (s .rows) .entry)) w i s)) d y → Placing (placeProbation k p time ttl f i s) d y
+  unfolding placeProbation
+  probation-uncovered w v d y e a c h =
+      let c1 : covers f (max (pathWeight p) (rowAt i (s .rows) .weight)) ≡ false = subst (λ (x : ℕ). covers f x ≡ false) (a ∙ e) c in
+      rw c1 (subst (λ (x : ℕ). Placing (placeResult (heldOutcome p (rowAt i (s .rows))) 0 Probation false 0 (refile (update p time ttl (rowAt i (s .rows) .entry)) x i s)) d y) e h)
+
+  pub probation-covered : (w v : ℕ) (d : Placed) (y : List ℕ) → w ≡ max (pathWeight p) (rowAt i (s .rows) .weight) → v ≡ w → covers f v ≡ true
+      → Placing (promotion k p time ttl w i s) d y → Placing (placeProbation k p time ttl f i s) d y
+  unfolding placeProbation promotion
+  probation-covered w v d y e a c h =
+      let c1 : covers f (max (pathWeight p) (rowAt i (s .rows) .weight)) ≡ true = subst (λ (x : ℕ). covers f x ≡ true) (a ∙ e) c in
+      rw c1 (subst (λ (x : ℕ). Placing (promotion k p time ttl x i s) d y) e h)
+
+  -- 5
+  module _ (stated : Bool) where
+    pub main-light : (w b : ℕ) (d : Placed) (y : List ℕ) → w ≡ pathWeight p → b ≡ rowAt i (s .rows) .weight → w ≤ b
+        → Placing (placeResult (heldOutcome p (rowAt i (s .rows))) 0 Main false 0 (refile (update p time ttl (rowAt i (s .rows) .entry)) b i s)) d y → Placing (placeMain k p time ttl f stated i s) d y
+    unfolding placeMain
+    main-light w b d y e x h g =
+        let c : leb (pathWeight p) (rowAt i (s .rows) .weight) ≡ true = le-leb (pathWeight p) (rowAt i (s .rows) .weight) (omega (arith, e, x)) in
+        rw c (subst (λ (z : ℕ). Placing (placeResult (heldOutcome p (rowAt i (s .rows))) 0 Main false 0 (refile (update p time ttl (rowAt i (s .rows) .entry)) z i s)) d y) x g)
+
+    added-is : (w b a : ℕ) → w ≡ pathWeight p → b ≡ rowAt i (s .rows) .weight → a ≡ w - b → a ≡ pathWeight p - rowAt i (s .rows) .weight
+    added-is w b a e x h = h ∙ rw (e, x)
+
+    pub main-uncovered : (w b a n : ℕ) (l : List ℕ) (d : Placed) → s ≡ viewRows n l → w ≡ pathWeight p → b ≡ rowAt i (s .rows) .weight → b < w → a ≡ w - b → covers f a ≡ false → d ≡ rejectedAs true 0 → Placing (placeMain k p time ttl f stated i s) d l
+    unfolding placeMain rejected placeResult
+    main-uncovered w b a n l d q e x h g c r =
+        let c0 : leb (pathWeight p) (rowAt i (s .rows) .weight) ≡ false = lt-leb (pathWeight p) (rowAt i (s .rows) .weight) (omega (arith, e, x)) in
+        let c1 : covers f (pathWeight p - rowAt i (s .rows) .weight) ≡ false = subst (λ (z : ℕ). covers f z ≡ false) (added-is w b a e x g) c in
+        rw (c0, c1) (record { says = r; state = subst (λ (z : State). viewRows (length (z .rows)) l ≡ z) (sym q) (left-as-is n l) })
+
+    pub main-grows : (w b a : ℕ) (d : Placed) (y : List ℕ) → w ≡ pathWeight p → b ≡ rowAt i (s .rows) .weight → b < w → a ≡ w - b → covers f a ≡ true → Placing (growth k p time ttl stated w i s) d y → Placing (placeMain k p time ttl f stated i s) d y
+    unfolding placeMain growth
+    main-grows w b a d y e x h g c r =
+        let c0 : leb (pathWeight p) (rowAt i (s .rows) .weight) ≡ false = lt-leb (pathWeight p) (rowAt i (s .rows) .weight) (omega (arith, e, x)) in
+        let c1 : covers f (pathWeight p - rowAt i (s .rows) .weight) ≡ true = subst (λ (z : ℕ). covers f z ≡ true) (added-is w b a e x g) c in
+        rw (c0, c1) (subst (λ (z : ℕ). Placing (growth k p time ttl stated z i s) d y) e r)
+
+    -- 3
+    pub held-rejected : (n : ℕ) (l : List ℕ) (b : Bool) (d : Placed) → s ≡ viewRows n l → b ≡ staysVerified p time stated (rowAt i (s .rows)) → b ≡ true → d ≡ rejectedAs false 0 → Placing (placeHeld k p time ttl f stated i s) d l
+    unfolding placeHeld rejected placeResult
+    held-rejected n l b d q e h r = rw (← e, h) (record { says = r; state = subst (λ (z : State). viewRows (length (z .rows)) l ≡ z) (sym q) (left-as-is n l) })
+
+    pub held-main : (b : Bool) (d : Placed) (y : List ℕ) → b ≡ staysVerified p time stated (rowAt i (s .rows)) → b ≡ false → inMain (rowAt i (s .rows)) ≡ true → Placing (placeMain k p time ttl f stated i s) d y → Placing (placeHeld k p time ttl f stated i s) d y
+    unfolding placeHeld
+    held-main b d y e h m r = rw (← e, h, m) r
+
+    pub held-probation : (b : Bool) (d : Placed) (y : List ℕ) → b ≡ staysVerified p time stated (rowAt i (s .rows)) → b ≡ false → inMain (rowAt i (s .rows)) ≡ false → Placing (placeProbation k p time ttl f i s) d y → Placing (placeHeld k p time ttl f stated i s) d y
+    unfolding placeHeld
+    held-probation b d y e h m r = rw (← e, h, m) r
+
+pub main-of : (r : Row) (x : ℕ) → x ≡ r .place → x < 2 → inMain r ≡ true
+unfolding inMain
+main-of r x e h = lt-ltb (r .place) 2 (omega (arith, e))
+
+pub main-not : (r : Row) (x : ℕ) → x ≡ r .place → 2 ≤ x → inMain r ≡ false
+unfolding inMain
+main-not r x e h = le-ltb (r .place) 2 (omega (arith, e))
+
+module _ (p : Path) (time : ℕ) (stated : Bool) (r : Row) where
+  pub not-verified : (b : Bool) → b ≡ verified time (r .entry) → b ≡ false → false ≡ staysVerified p time stated r
+  unfolding staysVerified
+  not-verified b e h = rw (← e, h)
+
+  pub unstated : (b : Bool) → b ≡ verified time (r .entry) → b ≡ true → stated ≡ false → true ≡ staysVerified p time stated r
+  unfolding staysVerified
+  unstated b e h s = rw (← e, h, s)
+
+  pub stated-same : (b c : Bool) → b ≡ verified time (r .entry) → b ≡ true → stated ≡ true → c ≡ samePath (r .entry .path) p → c ≡ staysVerified p time stated r
+  unfolding staysVerified
+  stated-same b c e h s g = rw (← e, h, s, ← g) (twice c)
+    where
+      twice : (c : Bool) → c ≡ true && not (true && not c)
+      twice true = refl
+      twice false = refl
+
+-- 1
+module _ (k : NodeAddr) (p : Path) (time ttl : ℕ) (f : Funding) (stated : Bool) where
+  pub found-expired : (n i : ℕ) (l m y : List ℕ) (b : Bool) (d : Placed) → b ≡ expired time (rowAt i (viewRows n l .rows) .entry) → b ≡ true → viewRows (n - 1) m ≡ takeOut i (viewRows n l)
+      → Placing (placeNew k p time ttl f (viewRows (n - 1) m)) d y → Placing (foundHint k p time ttl f stated i (viewRows n l)) d y
+  unfolding foundHint
+  found-expired n i l m y b d e h v r = rw (← e, h) (subst (λ (s : State). Placing (placeNew k p time ttl f s) d y) v r)
+
+  pub found-held : (i : ℕ) (s : State) (y : List ℕ) (b : Bool) (d : Placed) → b ≡ expired time (rowAt i (s .rows) .entry) → b ≡ false → Placing (placeHeld k p time ttl f stated i s) d y → Placing (foundHint k p time ttl f stated i s) d y
+  unfolding foundHint
+  found-held i s y b d e h r = rw (← e, h) r
+
+  pub hint-found : (i : ℕ) (s : State) (y : List ℕ) (d : Placed) → find k (s .rows) ≡ some i → Placing (foundHint k p time ttl f stated i s) d y → Placing (placeHint k p time ttl f stated s) d y
+  unfolding placeHint foundHint
+  hint-found i s y d e r = rw e r
+
+  pub hint-new : (s : State) (y : List ℕ) (d : Placed) → find k (s .rows) ≡ none → Placing (placeNew k p time ttl f s) d y → Placing (placeHint k p time ttl f stated s) d y
+  unfolding placeHint
+  hint-new s y d e r = rw e r
+
+-- what the search tells
+pub search-asks : (n : ℕ) (l : List ℕ) → sound (capacity l) (viewRows n l) ≡ true → (ascends (viewRows n l .rows) ≡ true) × (40 + n * 1095 ≤ length l)
+search-asks n l h = (ascends-test (viewRows n l .rows) (shown n l h .rising), laid-out n l h)
+
+pub holds-found : (k : NodeAddr) (n i : ℕ) (l : List ℕ) (r : Search) → sound (capacity l) (viewRows n l) ≡ true → r ≡ searched k (viewRows n l .rows) → r ≡ At i → Holds k n i l
+holds-found k n i l r h e g =
+    let a = find-at k (viewRows n l .rows) i (at-found k (viewRows n l .rows) i (sym e ∙ g)) in
+    record { sound = h; inside = rw (← (view-length n l)) (a .inside); key = a .key }
+
+pub without-missing : (k : NodeAddr) (n i : ℕ) (l : List ℕ) (r : Search) → sound (capacity l) (viewRows n l) ≡ true → r ≡ searched k (viewRows n l .rows) → r ≡ Absent i → Without k n l
+without-missing k n i l r h e g = record { sound = h; gone = absent-none k (viewRows n l .rows) i (sym e ∙ g) }

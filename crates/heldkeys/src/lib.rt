@@ -1,0 +1,261 @@
+// A held key: 3. verified, 4. in probation, 5. in main.
+use coord::coord::Path;
+use coord::node_addr::NodeAddr;
+use filing::entry::updated_entry;
+use filing::file::file_again;
+use filing::file::file_new;
+use filing::file::save_row;
+use filing::refile::update_and_refile;
+use memory::row;
+use memory::rows::remove_row;
+use newkeys::reject;
+use newkeys::row_weight;
+use raw::numbers::wide;
+use room::victims::make_room;
+use stamps::row::BY_USE;
+use stamps::row::PROBATION;
+use stamps::row::is_verified;
+use types::placed::Funding;
+use types::placed::HintOutcome;
+use types::placed::Placed;
+use types::placed::Segment;
+ghost use mathlib.Core.Path.{_≡_};
+ghost use mathlib.Core.Bool.{true, false, cond};
+ghost use Prim.Native.Nat.{_+_, _*_, _-_, _≤_, _<_, max};
+ghost use lib.ListN.{length};
+ghost use Rattle.coord.specs.Paths.{samePath};
+ghost use Rattle.rules.specs.Records.{byUse, probation};
+ghost use Rattle.rules.specs.Rows.{rowSize, rowAt, inMain};
+ghost use Rattle.rules.specs.Sound.{sound};
+ghost use Rattle.rules.specs.Entries.{update};
+ghost use Rattle.rules.specs.Room.{refile};
+ghost use Rattle.rules.specs.Placement.{placeResult, heldOutcome, staysVerified, placeProbation, placeMain, placeHeld};
+ghost use Rattle.rules.specs.Refusals.{lastSeq};
+ghost use Rattle.rules.specs.Memory.{headSize, capacity, viewRows};
+ghost use Rattle.filing.specs.Filings.{Writable};
+ghost use Rattle.newkeys.specs.Placements.{Placing, Holds, promotedAs, promotion, growth};
+
+// Whether row i's path and this one are the same: no field differs.
+fn is_path(state: &[u8], n: usize, i: usize, path: Path) -> bool
+    requires { ⌜ (i < n) × (headSize + n * rowSize ≤ length (now state)) ⌝ }
+    ensures { λ r. ⌜ r ≡ samePath (rowAt i (viewRows n (now (state .entry)) .rows) .entry .path) path ⌝ }
+{
+    let held = paths::path::load_path(state, n, i);
+    held.same_as(path)
+}
+
+// Changed where the path differs from the new one, else Unchanged.
+fn held_outcome(state: &[u8], n: usize, i: usize, path: Path) -> HintOutcome
+    requires { ⌜ (i < n) × (headSize + n * rowSize ≤ length (now state)) ⌝ }
+    ensures { λ r. ⌜ r ≡ heldOutcome path (rowAt i (viewRows n (now (state .entry)) .rows)) ⌝ }
+{
+    if is_path(state, n, i, path) {
+        HintOutcome::Unchanged
+    } else {
+        HintOutcome::Changed
+    }
+}
+
+// Updated and refiled at this weight, with nothing added.
+fn refile_held(
+    state: &mut [u8],
+    n: usize,
+    i: usize,
+    path: Path,
+    time: u64,
+    ttl: u64,
+    weight: u8,
+    segment: Segment,
+) -> Placed
+    requires { ⌜ (sound (capacity (now state)) (viewRows n (now state)) ≡ true) × (i < n) × Writable path × (viewRows n (now state) .seq ≤ lastSeq) ⌝ }
+    ensures { λ r. ⌜ Placing (placeResult (heldOutcome path (rowAt i (viewRows n (now (state .entry)) .rows))) 0 segment false 0 (refile (update path time ttl (rowAt i (viewRows n (now (state .entry)) .rows) .entry)) weight i (viewRows n (now (state .entry))))) r (now (state .exit)) ⌝ }
+{
+    let outcome = held_outcome(state, n, i, path);
+    update_and_refile(state, n, i, path, time, ttl, weight);
+    Placed {
+        outcome: outcome,
+        added_weight: 0,
+        segment: segment,
+        unfunded: false,
+        examined: 0,
+    }
+}
+
+// Where a row goes that was to be promoted.
+fn place_for(made: bool) -> u8
+    ensures { λ r. ⌜ r ≡ cond made byUse probation ⌝ }
+{
+    if made { BY_USE } else { PROBATION }
+}
+
+// The charge is added only where room was made.
+fn promoted(outcome: HintOutcome, made: bool, weight: u64, examined: u64) -> Placed
+    ensures { λ r. ⌜ r ≡ promotedAs outcome made weight examined ⌝ }
+{
+    if made {
+        return Placed {
+            outcome: outcome,
+            added_weight: weight,
+            segment: Segment::Main,
+            unfunded: false,
+            examined: examined,
+        };
+    }
+    Placed {
+        outcome: outcome,
+        added_weight: 0,
+        segment: Segment::Probation,
+        unfunded: false,
+        examined: examined,
+    }
+}
+
+// Covered: taken out, updated, and with room made filed in main, or without room back in probation.
+fn promote(
+    state: &mut [u8],
+    n: usize,
+    i: usize,
+    key: NodeAddr,
+    path: Path,
+    time: u64,
+    ttl: u64,
+    weight: u8,
+) -> Placed
+    requires { ⌜ Holds key n i (now state) × Writable path × (viewRows n (now state) .seq ≤ lastSeq) × (inMain (rowAt i (viewRows n (now state) .rows)) ≡ false) ⌝ }
+    ensures { λ r. ⌜ Placing (promotion key path time ttl weight i (viewRows n (now (state .entry)))) r (now (state .exit)) ⌝ }
+{
+    let outcome = held_outcome(state, n, i, path);
+    let e = updated_entry(state, n, i, path, time, ttl);
+    remove_row(state, n, i);
+    let room = make_room(state, n - 1, wide(weight), time);
+    file_new(state, room.rows, key, e, weight, place_for(room.made));
+    promoted(outcome, room.made, wide(weight), room.examined)
+}
+
+fn larger(a: u8, b: u8) -> u8
+    ensures { λ r. ⌜ r ≡ max a b ⌝ }
+{
+    if a < b { b } else { a }
+}
+
+// 4. In probation.
+fn place_probation(
+    state: &mut [u8],
+    n: usize,
+    i: usize,
+    key: NodeAddr,
+    path: Path,
+    time: u64,
+    ttl: u64,
+    funding: Funding,
+) -> Placed
+    requires { ⌜ Holds key n i (now state) × Writable path × (viewRows n (now state) .seq ≤ lastSeq) × (inMain (rowAt i (viewRows n (now state) .rows)) ≡ false) ⌝ }
+    ensures { λ r. ⌜ Placing (placeProbation key path time ttl funding i (viewRows n (now (state .entry)))) r (now (state .exit)) ⌝ }
+{
+    let w = larger(row_weight(path), row::weight(state, n, i));
+    if !funding.covers(wide(w)) {
+        return refile_held(state, n, i, path, time, ttl, w, Segment::Probation);
+    }
+    promote(state, n, i, key, path, time, ttl, w)
+}
+
+// Growth to `units`, the new weight: row out, room sought for it; without room an unstated one goes back unchanged but newly stamped.
+fn grow(
+    state: &mut [u8],
+    n: usize,
+    i: usize,
+    key: NodeAddr,
+    path: Path,
+    time: u64,
+    ttl: u64,
+    stated: bool,
+    weight: u8,
+    units: u64,
+    added: u64,
+) -> Placed
+    requires { ⌜ Holds key n i (now state) × Writable path × (viewRows n (now state) .seq ≤ lastSeq) × (inMain (rowAt i (viewRows n (now state) .rows)) ≡ true) × (units ≡ weight) × (added ≡ weight - rowAt i (viewRows n (now state) .rows) .weight) ⌝ }
+    ensures { λ r. ⌜ Placing (growth key path time ttl stated weight i (viewRows n (now (state .entry)))) r (now (state .exit)) ⌝ }
+{
+    let outcome = held_outcome(state, n, i, path);
+    let e = updated_entry(state, n, i, path, time, ttl);
+    let saved = save_row(state, n, i);
+    remove_row(state, n, i);
+    let room = make_room(state, n - 1, units, time);
+    if room.made | stated {
+        file_new(state, room.rows, key, e, weight, BY_USE);
+        return Placed {
+            outcome: outcome,
+            added_weight: added,
+            segment: Segment::Main,
+            unfunded: false,
+            examined: room.examined,
+        };
+    }
+    file_again(state, room.rows, key, saved);
+    reject(false, room.examined)
+}
+
+// 5. In main.
+fn place_main(
+    state: &mut [u8],
+    n: usize,
+    i: usize,
+    key: NodeAddr,
+    path: Path,
+    time: u64,
+    ttl: u64,
+    funding: Funding,
+    stated: bool,
+) -> Placed
+    requires { ⌜ Holds key n i (now state) × Writable path × (viewRows n (now state) .seq ≤ lastSeq) × (inMain (rowAt i (viewRows n (now state) .rows)) ≡ true) ⌝ }
+    ensures { λ r. ⌜ Placing (placeMain key path time ttl funding stated i (viewRows n (now (state .entry)))) r (now (state .exit)) ⌝ }
+{
+    let w = row_weight(path);
+    let old = row::weight(state, n, i);
+    if w <= old {
+        return refile_held(state, n, i, path, time, ttl, old, Segment::Main);
+    }
+    let units = wide(w);
+    let added = units - wide(old);
+    if !funding.covers(added) {
+        return reject(true, 0);
+    }
+    grow(state, n, i, key, path, time, ttl, stated, w, units, added)
+}
+
+// 3. A verified key is Rejected, unless stated and differing.
+fn stays_verified(state: &[u8], n: usize, i: usize, path: Path, time: u64, stated: bool) -> bool
+    requires { ⌜ (i < n) × (headSize + n * rowSize ≤ length (now state)) ⌝ }
+    ensures { λ r. ⌜ r ≡ staysVerified path time stated (rowAt i (viewRows n (now (state .entry)) .rows)) ⌝ }
+{
+    if !is_verified(state, n, i, time) {
+        return false;
+    }
+    if !stated {
+        return true;
+    }
+    is_path(state, n, i, path)
+}
+
+pub fn place_held(
+    state: &mut [u8],
+    n: usize,
+    i: usize,
+    key: NodeAddr,
+    path: Path,
+    time: u64,
+    ttl: u64,
+    funding: Funding,
+    stated: bool,
+) -> Placed
+    requires { ⌜ Holds key n i (now state) × Writable path × (viewRows n (now state) .seq ≤ lastSeq) ⌝ }
+    ensures { λ r. ⌜ Placing (placeHeld key path time ttl funding stated i (viewRows n (now (state .entry)))) r (now (state .exit)) ⌝ }
+{
+    if stays_verified(state, n, i, path, time, stated) {
+        return reject(false, 0);
+    }
+    if row::place(state, n, i) < PROBATION {
+        return place_main(state, n, i, key, path, time, ttl, funding, stated);
+    }
+    place_probation(state, n, i, key, path, time, ttl, funding)
+}

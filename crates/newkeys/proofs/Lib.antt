@@ -1,0 +1,2 @@
+pub mod AfterRoom
+pub mod NewKeys

@@ -1,0 +1,43 @@
+use Rattle.coord.specs.Paths.{pathWeight}
+use Rattle.rules.specs.Entries.{newEntry}
+use Rattle.newkeys.proofs.NewKeys.{uncharged-rejected, upto-probation}
+use borrow.Author.Needs.{needs}
+use Rattle.newkeys.proofs.new_without_room.Statement.{statement}
+use Rattle.newkeys.proofs.new_without_room.Tie as tie
+
+enum-told : tie.Need-enum-told
+enum-told c = search needs
+
+reject-requires : tie.Need-reject-requires
+reject-requires c κs = search needs
+
+enum-told-2 : tie.Need-enum-told-2
+enum-told-2 c = search needs
+
+new-in-probation-requires : tie.Need-new-in-probation-requires
+new-in-probation-requires c κs = search needs
+
+returns : tie.Need-returns
+returns c =
+    let s = c .before .before .before .before .args in
+    uncharged-rejected (s .funding) (s .key) (newEntry (s .path) (s .time) (s .ttl)) (pathWeight (s .path)) (s .examined) (s .n) (s .state .now) _ (c .before .enum-told .given .1) (c .reject .ensures)
+
+same-length : tie.Need-same-length
+same-length c = search needs
+
+returns-2 : tie.Need-returns-2
+returns-2 c =
+    let s = c .before .before .before .before .before .before .before .args in
+    upto-probation (s .funding) _ (s .key) (newEntry (s .path) (s .time) (s .ttl)) (pathWeight (s .path)) (s .examined) (s .n) (s .state .now) _ _ (c .before .before .before .before .enum-told2 .given .1) (c .before .before .new-in-probation .ensures)
+
+pub new-without-room-spec : {M : Type 1} → statement M
+new-without-room-spec =
+    tie.close
+    (tie.spec
+    enum-told
+    reject-requires
+    enum-told-2
+    new-in-probation-requires
+    returns
+    same-length
+    returns-2)

@@ -1,3 +1,0 @@
-pub mod AfterRoom
-pub mod NewKeys
-pub mod HeldKeys
