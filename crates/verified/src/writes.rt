@@ -19,6 +19,7 @@ ghost use mathlib.Core.Bool.{true, false};
 ghost use mathlib.Core.Option.{none};
 ghost use Prim.Native.Nat.{_+_, _*_, _≤_};
 ghost use lib.ListN.{length};
+ghost use Rattle.coord.specs.declared.node_addr.NodeAddr.{NodeAddr as Address};
 ghost use Rattle.coord.specs.Paths.{pathWeight};
 ghost use Rattle.rules.specs.Rows.{rowSize};
 ghost use Rattle.rules.specs.Sound.{sound};
