@@ -1,12 +1,14 @@
-// The calls that need no room, on a fresh, a full and a foreign state; on states that one field makes unsound, each
-// condition in turn; on memory of every length up to 3 rows. What it prints is held to `stdout`.
+// The calls that need no room, on a fresh, a full and a foreign state; on unsound states, each condition in turn; on memory
+// of every length up to 3 rows, and of 1,025 rows. What it prints is held to `stdout`.
 mod asking;
 mod lines;
 mod states;
 
 use asking::CALLS;
 use states::BAD_STATES;
+ghost use mathlib.Core.Path.{_≡_};
 ghost use Prim.Native.Nat.{_≤_};
+ghost use lib.ListN.{length};
 
 // The length of 3 rows.
 const LAST: usize = 3325;
@@ -76,19 +78,20 @@ fn bad_states() {
     }
 }
 
-// How many of the calls refuse a memory of this length, whose head claims 3 entries; fresh among them, by 5.
-fn short_refusals(memory: &mut [u8], before: &[u8]) -> u64
+// How many of the calls refuse a memory because of its length; fresh among them, by 5.
+fn length_refusals(memory: &mut [u8], before: &[u8]) -> u64
     ensures { λ r. ⌜ r ≤ 22 ⌝ }
 {
     refusals(memory, before) + refused(memory, before, asking::FRESH_3, 5)
 }
 
+// The head claims 3 entries.
 fn short_length(memory: &mut [u8], before: &[u8], length: usize) -> u64
     ensures { λ r. ⌜ r ≤ 22 ⌝ }
 {
     if length <= memory.len() {
         if length <= before.len() {
-            return short_refusals(&mut memory[..length], &before[..length]);
+            return length_refusals(&mut memory[..length], &before[..length]);
         }
     }
     0
@@ -115,10 +118,28 @@ fn short_lengths() {
     lines::last(count);
 }
 
+// 1,025 rows.
+fn long_memory() -> [u8; 1122415]
+    ensures { λ r. ⌜ 1122415 ≡ length r ⌝ }
+{
+    [0; 1122415]
+}
+
+// A fresh head for 2 entries and no rows: only that R is over 1,024 is wrong.
+fn long_length() {
+    let mut memory = long_memory();
+    let mut before = long_memory();
+    states::make(&mut memory, states::FRESH);
+    states::make(&mut before, states::FRESH);
+    lines::number(states::LONG);
+    lines::last(length_refusals(&mut memory, &before));
+}
+
 fn main() {
     answers(states::FRESH);
     answers(states::FULL);
     answers(states::FOREIGN);
     bad_states();
     short_lengths();
+    long_length();
 }

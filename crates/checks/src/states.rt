@@ -10,6 +10,8 @@ pub const BAD: u64 = 3;
 
 pub const SHORT: u64 = 4;
 
+pub const LONG: u64 = 5;
+
 pub const BAD_STATES: u64 = 32;
 
 // Where a row's fields stand in it.
@@ -284,13 +286,28 @@ fn spoil_entry(memory: &mut [u8], number: u64) {
     }
 }
 
-// One field of a row changed: the place, the stamp, the weight.
+// Row i moved, and the stored weight made what main then weighs, so that nothing else is wrong. Here M is 2 and Q is 1.
+fn spoil_segment(memory: &mut [u8], i: usize, place: u8, stored: u8) {
+    put_in(memory, i, PLACE, place);
+    put(memory, 24, stored);
+}
+
+// Row 1 parked with first 0, which is its verified_until: only that it is a hint is wrong.
+fn spoil_parked(memory: &mut [u8]) {
+    put_in(memory, 1, PLACE, 1);
+    put_in(memory, 1, STAMP_FIRST, 0);
+}
+
+// A place changed, or one field of a row: the stamp, the weight.
 fn spoil_place(memory: &mut [u8], number: u64) {
     match number {
-        22 => put_in(memory, 0, PLACE, 3),
-        23 => put_in(memory, 1, PLACE, 1),
-        24 => put_in(memory, 1, PLACE, 2),
-        25 => put_in(memory, 2, PLACE, 0),
+        // Place 3 is none; row 1 alone is in main.
+        22 => spoil_segment(memory, 0, 3, 20),
+        23 => spoil_parked(memory),
+        // Rows 1 and 2 in probation, both hints; row 0 alone in main.
+        24 => spoil_segment(memory, 1, 2, 16),
+        // All three rows in main.
+        25 => spoil_segment(memory, 2, 0, 52),
         26 => put_in(memory, 2, PLACE, 255),
         27 => put_in(memory, 0, STAMP_FIRST, 0),
         28 => put_in(memory, 1, STAMP_SEQ, 10),

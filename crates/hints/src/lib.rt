@@ -39,8 +39,16 @@ pub fn insert_unchecked(state: &mut [u8], key: NodeAddr, path: Path, time: u64) 
     requires { ⌜ sound (capacity (now state)) (view (now state)) ≡ true ⌝ }
     ensures { λ r. ⌜ (hintSaid r ≡ call (now (state .entry)) (Insert key path time) .answer) × (now (state .exit) ≡ call (now (state .entry)) (Insert key path time) .memory) ⌝ }
 {
-    let ttl = memory::head::default_ttl(state);
-    hint(state, key, path, time, ttl, Funding::Uncharged, false)
+    let default_ttl = memory::head::default_ttl(state);
+    hint(
+        state,
+        key,
+        path,
+        time,
+        default_ttl,
+        Funding::Uncharged,
+        false,
+    )
 }
 
 pub fn insert(state: &mut [u8], key: NodeAddr, path: Path, time: u64) -> HintAnswer
@@ -90,8 +98,8 @@ pub fn insert_funded_unchecked(
     requires { ⌜ sound (capacity (now state)) (view (now state)) ≡ true ⌝ }
     ensures { λ r. ⌜ (hintSaid r ≡ call (now (state .entry)) (InsertFunded key path time funding) .answer) × (now (state .exit) ≡ call (now (state .entry)) (InsertFunded key path time funding) .memory) ⌝ }
 {
-    let ttl = memory::head::default_ttl(state);
-    hint(state, key, path, time, ttl, funding, false)
+    let default_ttl = memory::head::default_ttl(state);
+    hint(state, key, path, time, default_ttl, funding, false)
 }
 
 pub fn insert_funded(
@@ -120,9 +128,9 @@ pub fn insert_stated_unchecked(
     requires { ⌜ sound (capacity (now state)) (view (now state)) ≡ true ⌝ }
     ensures { λ r. ⌜ (hintSaid r ≡ call (now (state .entry)) (InsertStated key path time funding) .answer) × (now (state .exit) ≡ call (now (state .entry)) (InsertStated key path time funding) .memory) ⌝ }
 {
-    let ttl = memory::head::default_ttl(state);
+    let default_ttl = memory::head::default_ttl(state);
     let stated = path.starts_at(key);
-    hint(state, key, path, time, ttl, funding, stated)
+    hint(state, key, path, time, default_ttl, funding, stated)
 }
 
 pub fn insert_stated(

@@ -5,17 +5,17 @@ use borrow.Author.Needs.{needs}
 use Rattle.checks.proofs.short_length.Statement.{statement}
 use Rattle.checks.proofs.short_length.Tie as tie
 
-slice-relend-prefix-short-refusals : tie.Need-slice-relend-prefix-short-refusals
-slice-relend-prefix-short-refusals c = search needs
+slice-relend-prefix-length-refusals : tie.Need-slice-relend-prefix-length-refusals
+slice-relend-prefix-length-refusals c = search needs
 
-slice-aggregate-short-refusals : tie.Need-slice-aggregate-short-refusals
-slice-aggregate-short-refusals c = sym (length-take-le (c .before .before .before .before .before .args .length) (c .before .before .before .before .before .args .memory .now) (omega (arith, c .before .before .if1 .taken)))
+slice-aggregate-length-refusals : tie.Need-slice-aggregate-length-refusals
+slice-aggregate-length-refusals c = sym (length-take-le (c .before .before .before .before .before .args .length) (c .before .before .before .before .before .args .memory .now) (omega (arith, c .before .before .if1 .taken)))
 
-slice-aggregate-short-refusals-2 : tie.Need-slice-aggregate-short-refusals-2
-slice-aggregate-short-refusals-2 c = sym (length-take-le (c .before .before .before .before .before .before .args .length) (c .before .before .before .before .before .before .args .before .now) (omega (arith, c .before .before .if2 .taken)))
+slice-aggregate-length-refusals-2 : tie.Need-slice-aggregate-length-refusals-2
+slice-aggregate-length-refusals-2 c = sym (length-take-le (c .before .before .before .before .before .before .args .length) (c .before .before .before .before .before .before .args .before .now) (omega (arith, c .before .before .if2 .taken)))
 
-short-refusals-requires : tie.Need-short-refusals-requires
-short-refusals-requires c κs = search needs
+length-refusals-requires : tie.Need-length-refusals-requires
+length-refusals-requires c κs = search needs
 
 same-length : tie.Need-same-length
 same-length c = search needs
@@ -33,10 +33,10 @@ pub short-length-spec : {M : Type 1} → statement M
 short-length-spec =
     tie.close
     (tie.spec
-    slice-relend-prefix-short-refusals
-    slice-aggregate-short-refusals
-    slice-aggregate-short-refusals-2
-    short-refusals-requires
+    slice-relend-prefix-length-refusals
+    slice-aggregate-length-refusals
+    slice-aggregate-length-refusals-2
+    length-refusals-requires
     same-length
     returns
     returns-2
