@@ -1,5 +1,5 @@
 //! Recorded vectors: a fixed list of streams with the original's lines and what it then holds, for programs that replay
-//! them without the original.
+//! them without the original. crates/vectors does: its file `stdin` is what is written here, and it reads 65,536 bytes of it.
 use super::decode;
 use super::encode;
 use super::make;
@@ -12,7 +12,8 @@ use crate::driver::calls::Inside;
 
 /// The format, at the head of the file. The script's help says the same.
 const FORMAT: &str = "\
-# Command streams of document 01 with the answers of the original Rust. Written by tests/stream-against-rust --record FILE.
+# Command streams of document 01 with the answers of the original Rust. Written by tests/stream-against-rust --record FILE: the
+# streams, and the seeds of those that are drawn, are fixed in tests/rust/stream/record.rs.
 # A line that begins with # is for readers. Each stream is:
 #   stream R MAX TTL                the memory has R rows; it starts fresh at MAX and TTL, with an empty pending path
 #   in HEX                          the bytes of the run, all on one line
