@@ -1,5 +1,5 @@
 // Commands from standard input, one line each to standard output: 24 rows, starting fresh at max 8, ttl 300000. Input of any
-// length runs in the same memory. At its end, whatever ended it, the tally goes to standard error.
+// length runs in the same memory. At its end, or where it cannot read or write, the tally goes to standard error.
 use coord::coord::Path;
 use libc::STDERR_FILENO;
 use libc::STDIN_FILENO;
@@ -20,11 +20,11 @@ fn memory_of_24_rows() -> [u8; 26320]
 // What one turn leaves for the next.
 struct Session {
     // Bytes at the start of the input that are still to run.
-    held: usize,
+    filled: usize,
     pending: Path,
     tally: Tally,
     // More input is wanted before the next run.
-    hungry: bool,
+    wants_input: bool,
     // The input has ended.
     last: bool,
     over: bool,
@@ -33,21 +33,21 @@ struct Session {
 impl Session {
     fn new() -> Session {
         Session {
-            held: 0,
+            filled: 0,
             pending: Path::empty(),
             tally: Tally {
                 done: 0,
                 refused: 0,
             },
-            hungry: true,
+            wants_input: true,
             last: false,
             over: false,
         }
     }
 
-    fn with_input(self, held: usize) -> Session {
+    fn with_input(self, filled: usize) -> Session {
         let mut s = self;
-        s.held = held;
+        s.filled = filled;
         s
     }
 
@@ -64,19 +64,19 @@ impl Session {
     }
 
     // After a run: what it left, unless it stopped for good.
-    fn after(self, ran: Ran, held: usize) -> Session {
+    fn after(self, ran: Ran, filled: usize) -> Session {
         let last = self.last;
         let stop = ran.stop;
         let pending = ran.pending;
         let tally = ran.tally;
-        let hungry = !is_full(stop);
+        let wants_input = !is_full(stop);
         Session {
-            held: held,
+            filled: filled,
             pending: pending,
             tally: tally,
-            hungry: hungry,
+            wants_input: wants_input,
             last: last,
-            over: is_six(stop) | (last & hungry),
+            over: is_six(stop) | (last & wants_input),
         }
     }
 }
@@ -89,13 +89,13 @@ fn is_six(stop: Stop) -> bool {
     if let Stop::Six = stop { true } else { false }
 }
 
-// One read, behind the bytes that are held.
+// One read, behind the bytes that are there. The input is never full: a run that wants more leaves less than one command.
 fn fill(input: &mut [u8], s: Session) -> Session {
-    let held = s.held;
-    if held >= input.len() {
+    let filled = s.filled;
+    if filled >= input.len() {
         return s;
     }
-    let got = libc::read(STDIN_FILENO, &mut input[held..]);
+    let got = libc::read(STDIN_FILENO, &mut input[filled..]);
     if got < 0 {
         os::fail(b"coordrun: standard input");
         return s.failed();
@@ -103,30 +103,32 @@ fn fill(input: &mut [u8], s: Session) -> Session {
     if got == 0 {
         return s.at_last();
     }
-    let more = io::count(got, &input[held..]);
-    s.with_input(held + more)
+    let more = io::count(got, &input[filled..]);
+    s.with_input(filled + more)
 }
 
+// Its commands count also where their lines cannot be written.
 fn run_some(memory: &mut [u8], input: &mut [u8], output: &mut [u8], s: Session) -> Session {
-    let held = s.held;
-    if held > input.len() {
+    let filled = s.filled;
+    if filled > input.len() {
         return s.failed();
     }
     let pending = s.pending;
     let tally = s.tally;
-    let ran = stream::run(memory, pending, tally, &input[..held], s.last, output);
-    let written = ran.written;
-    if !io::write_all(STDOUT_FILENO, &output[..written]) {
-        os::fail(b"coordrun: standard output");
-        return s.failed();
-    }
+    let ran = stream::run(memory, pending, tally, &input[0..filled], s.last, output);
     let used = ran.used;
-    let left = stream::keep_unused(input, used, held);
-    s.after(ran, left)
+    let written = ran.written;
+    let left = stream::keep_unused(input, used, filled);
+    let t = s.after(ran, left);
+    if io::write_all(STDOUT_FILENO, &output[0..written]) {
+        return t;
+    }
+    os::fail(b"coordrun: standard output");
+    t.failed()
 }
 
 fn turn(memory: &mut [u8], input: &mut [u8], output: &mut [u8], s: Session) -> Session {
-    if s.hungry & !s.last {
+    if s.wants_input & !s.last {
         let t = fill(input, s);
         if t.over {
             return t;
@@ -138,6 +140,7 @@ fn turn(memory: &mut [u8], input: &mut [u8], output: &mut [u8], s: Session) -> S
 
 // A proved loop has to end, and nothing says that the input does. So it counts its turns down, from a number that no run
 // uses up.
+// 24 rows are room enough for max 8, so fresh is done (runs, StreamDemand.fresh-24).
 fn serve(memory: &mut [u8], input: &mut [u8], output: &mut [u8]) -> Tally {
     fresh::fresh(memory, 8, 300000);
     let mut s = Session::new();

@@ -1,4 +1,4 @@
--- One command on the lent memory.
+-- One command on the lent memory: what Commands says of a state, said of its bytes (runs, OnStates.on-states).
 use Prim.Native.Nat.{ℕ, _/_}
 use mathlib.Core.Path.{_≡_}
 use mathlib.Core.List.{List}

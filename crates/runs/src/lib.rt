@@ -1,6 +1,6 @@
 // A run over a stream of commands: why it ended.
 pub enum Stop {
-    // Every command was obeyed.
+    // Every byte was used.
     End,
     // The last command is incomplete; it is left for when more bytes are there.
     Cut,

@@ -25,7 +25,7 @@ use Rattle.runs.specs.declared.Stop.the-variants as Stop
 use Rattle.runs.specs.Runs.{RunEnd, operands, cutShort, stopped, andThen, runPart}
 use Rattle.stream.specs.declared.Next.the-variants.{Full, Cut, Command}
 use Rattle.stream.specs.declared.Ran.{Ran}
-use Rattle.stream.specs.Running.{nextIs, Runs, prefixed, SoFar, Going}
+use Rattle.stream.specs.Running.{nextIs, EndsAs, prefixed, SoFar, Going}
 
 -- ---- what stands at the front
 
@@ -136,7 +136,7 @@ unfolding prefixed linesText tallyAfter
 start last m i o p t = record { turns = length i; enough = omega arith; done = record { lines = []; whole = none-before _ ∙ ap (λ (n : ℕ). prefixed [] 0 (runPart (length i) last n (held m p) i)) (let z : length o ≡ length o - 0 = omega arith in z); text = refl; end = refl; inside = omega arith; counted = refl } }
 
 pub ended : (e : RunEnd) (why : Stop) (h : Held) (o : List ℕ) (t : Tally) (at put : ℕ) (counts : Tally) (o′ : List ℕ) (r : Ran) → SoFar e (stopped why h) o t at put counts o′
-    → r .used ≡ at → r .written ≡ put → r .pending ≡ h .pending → r .tally ≡ counts → r .stop ≡ why → Runs e t r (h .memory) o o′
+    → r .used ≡ at → r .written ≡ put → r .pending ≡ h .pending → r .tally ≡ counts → r .stop ≡ why → EndsAs e t r (h .memory) o o′
 unfolding prefixed stopped
 ended e why h o t at put counts o′ r s eu ew ep et es =
     let l : e .lines ≡ s .lines = ap (λ (x : RunEnd). x .lines) (s .whole) ∙ nil-append (s .lines) in

@@ -22,7 +22,7 @@ unfoldable pub nextIs : ℕ → Bool → ℕ → List ℕ → Next
 nextIs room last b bs = cond (ltb room lineRoom) Full (cond (not last && cutShort b bs) Cut (Command (operands b bs)))
 
 -- the run's end, with the lines as text at the start of the output, and each command counted
-pub record Runs (e : RunEnd) (t : Tally) (r : Ran) (m o o′ : List ℕ) : Type 0 where
+pub record EndsAs (e : RunEnd) (t : Tally) (r : Ran) (m o o′ : List ℕ) : Type 0 where
   pub used : r .used ≡ e .used
   pub written : r .written ≡ length (linesText (e .lines))
   pub pending : r .pending ≡ e .held .pending

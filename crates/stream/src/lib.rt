@@ -14,7 +14,7 @@ ghost use lib.ListN.{length, drop, getD};
 ghost use lib.Seq.{slice};
 ghost use Rattle.decoding.specs.OnMemory.{held};
 ghost use Rattle.runs.specs.Runs.{runPart};
-ghost use Rattle.stream.specs.Running.{nextIs, Runs};
+ghost use Rattle.stream.specs.Running.{nextIs, EndsAs};
 
 pub struct Ran {
     // How many bytes of the input were used.
@@ -56,7 +56,8 @@ fn next_command(input: &[u8], at: usize, room: usize, last: bool) -> Next
     }
 }
 
-// Runs the commands of the input, one line each into the output. `last`: no bytes follow these.
+// Runs the commands of the input, one line each into the output. `last`: no bytes follow these. An output of fewer than 129
+// bytes holds no line, and no command is run.
 pub fn run(
     state: &mut [u8],
     pending: Path,
@@ -65,7 +66,7 @@ pub fn run(
     last: bool,
     output: &mut [u8],
 ) -> Ran
-    ensures { λ r. ⌜ Runs (runPart (length (now (input .entry))) last (length (now (output .entry))) (held (now (state .entry)) pending) (now (input .entry))) tally r (now (state .exit)) (now (output .entry)) (now (output .exit)) ⌝ }
+    ensures { λ r. ⌜ EndsAs (runPart (length (now (input .entry))) last (length (now (output .entry))) (held (now (state .entry)) pending) (now (input .entry))) tally r (now (state .exit)) (now (output .entry)) (now (output .exit)) ⌝ }
     ensures { λ r. ⌜ (r .used ≤ length (now (input .entry))) × (r .written ≤ length (now (output .entry))) ⌝ }
 {
     let mut is_sound = soundness::is_sound(state);
