@@ -6,8 +6,8 @@ use mathlib.Core.List.{List, [], _∷_, _++_, append-nil}
 use mathlib.Core.Option.{Option, none, some}
 use mathlib.Core.Bool.{Bool, true, false, not, _&&_}
 use lib.Dec.{eqb, ltb}
-use lib.ListN.{length, drop, length-drop}
-use lib.Seq.{drop-drop, drop-length}
+use lib.ListN.{length, take, drop, length-drop}
+use lib.Seq.{drop-drop, drop-length, take-add}
 use borrow.Author.Tests.{eqb-false, eqb-true, ltb-true}
 use Rattle.rules.specs.Cases.{maybe, Every}
 use Rattle.rules.specs.Commands.{Code, Decoded, Line, code, codeOf, codes, decode, line, lineText}
@@ -19,7 +19,7 @@ use Rattle.runs.specs.declared.Stop.{Stop}
 use Rattle.runs.specs.declared.Stop.the-variants.{Cut, End, Full, Six}
 use Rattle.runs.specs.Runs.{Run, RunEnd, andThen, cutShort, lineRoom, operands, runAll, runPart, stopped}
 use Rattle.runs.specs.Streams.{toEnd}
-use Rattle.runs.proofs.OneCommand.{left-shorter, none-stays, six-exactly, some-stays, takes-operands}
+use Rattle.runs.proofs.OneCommand.{left-shorter, none-stays, own-bytes, six-exactly, some-stays, takes-operands}
 use Rattle.runs.proofs.Counts.{count-enough}
 
 -- lines, and then a run
@@ -137,6 +137,28 @@ kept (suc n) last room h (b ∷ bs) more i f =
     by-part (λ (e : RunEnd). Kept (e .stop) h (b ∷ bs) more e) n last room h b bs (λ x. refl) (λ y. refl) (λ y z. six-ends h b bs more (only-last last (cutShort b bs) more f y) z)
     (λ z. kept-on (later n last room h b bs .stop) h b bs more (later n last room h b bs) z ih)
 
+-- ---- what a part has done is the stream of the bytes that it used
+
+-- one command out of its own bytes, and then the next ones
+own-first : (h : Held) (b : ℕ) (bs more : List ℕ) → (obeyByte h b bs .reply .refusal ≡ 6 → ⊥) → toEnd h (b ∷ (take (operands b bs) bs ++ more)) ≡ behind (first h b bs ∷ []) (toEnd (obeyByte h b bs .held) more)
+own-first h b bs more ne = go (decode b bs) refl
+  where
+    go : (o : Option Decoded) → decode b bs ≡ o → toEnd h (b ∷ (take (operands b bs) bs ++ more)) ≡ behind (first h b bs ∷ []) (toEnd (obeyByte h b bs .held) more)
+    go none e = absurd (ne (six-exactly h b bs .1 e))
+    go (some d) e = rw (obeyed-some h b bs d e) (all-some h b (take (operands b bs) bs ++ more) (record { command = d .command; left = more }) (some-stays b (take (operands b bs) bs) more (record { command = d .command; left = [] }) (own-bytes b bs d e)))
+
+front-used : (b k u : ℕ) (bs : List ℕ) → take (1 + k + u) (b ∷ bs) ≡ b ∷ (take k bs ++ take u (drop k bs))
+front-used b k u bs = ap (λ (n : ℕ). take n (b ∷ bs)) (let z : 1 + k + u ≡ suc (k + u) = omega arith in z) ∙ ap (λ (l : List ℕ). b ∷ l) (take-add k u bs)
+
+done-so-far : (n : ℕ) (last : Bool) (room : ℕ) (h : Held) (bs : List ℕ) → (runPart n last room h bs .stop ≡ Six → ⊥) → toEnd h (take (runPart n last room h bs .used) bs) ≡ over (runPart n last room h bs)
+unfolding runPart runAll stopped andThen
+done-so-far zero last room h bs = λ x. refl
+done-so-far (suc n) last room h [] = λ x. refl
+done-so-far (suc n) last room h (b ∷ bs) =
+    let ih = done-so-far n last (room - length (lineText (first h b bs))) (obeyByte h b bs .held) (past b bs) in
+    by-part (λ (e : RunEnd). (e .stop ≡ Six → ⊥) → toEnd h (take (e .used) (b ∷ bs)) ≡ over e) n last room h b bs (λ x s. refl) (λ y s. refl) (λ y z s. absurd (s refl))
+    (λ z s. ap (toEnd h) (front-used b (operands b bs) (later n last room h b bs .used) bs) ∙ own-first h b bs (take (later n last room h b bs .used) (past b bs)) z ∙ ap (behind (first h b bs ∷ [])) (ih s))
+
 -- ---- the bytes used
 
 operands-there : (b : ℕ) (bs : List ℕ) → operands b bs ≤ length bs
@@ -252,6 +274,10 @@ nothing-lost-at-last room h bs =
       cut = λ s. contradiction {b = true} refl (cut-left (length bs) true room h bs s .0);
       used = used-there (length bs) true room h bs;
     }
+
+-- WHAT A PART HAS DONE IS THE STREAM OF THE BYTES THAT IT USED, run to its end
+pub part-done : (last : Bool) (room : ℕ) (h : Held) (bs : List ℕ) → let e = runPart (length bs) last room h bs in (e .stop ≡ Six → ⊥) → toEnd h (take (e .used) bs) ≡ over e
+part-done last room h bs = done-so-far (length bs) last room h bs
 
 -- A RUN GETS ON: with room for a line, and a first command that is whole, unknown, or the last, it uses bytes
 pub gets-on : (last : Bool) (room : ℕ) (h : Held) (b : ℕ) (bs : List ℕ) → lineRoom ≤ room → not last && cutShort b bs ≡ false → 1 ≤ runPart (length (b ∷ bs)) last room h (b ∷ bs) .used

@@ -2,12 +2,12 @@
 use mathlib.Core.Path.{_≡_, refl, sym, _∙_, ap, subst}
 use Prim.Native.Nat.{ℕ, _+_, _≤_, min}
 use native.Mathlib.Omega.{arith}
-use mathlib.Core.List.{List, _++_}
+use mathlib.Core.List.{List, [], _++_}
 use mathlib.Core.Option.{Option, none, some}
 use mathlib.Core.Bool.{Bool, true, false, cond}
 use lib.Dec.{eqb, leb, ltb}
 use lib.ListN.{length, take, drop, set, length-append, length-drop}
-use lib.Seq.{take-append-le, drop-append-le}
+use lib.Seq.{take-append-le, drop-append-le, take-length, drop-length, length-take-le}
 use borrow.Author.Tests.{leb-true, le-leb, le-ltb, ltb-false}
 use Rattle.coord.specs.declared.coord.Appended.{Appended}
 use Rattle.coord.specs.declared.coord.Path.{Path}
@@ -162,6 +162,24 @@ none-stays b bs more h e = more-same b bs more h ∙ ap (andMore more) e
 
 pub some-stays : (b : ℕ) (bs more : List ℕ) (d : Decoded) → decode b bs ≡ some d → decode b (bs ++ more) ≡ some (record { command = d .command; left = d .left ++ more })
 some-stays b bs more d e = more-same b bs more (takes-operands b bs d e .notCut) ∙ ap (andMore more) e
+
+-- ITS OWN BYTES ARE ENOUGH
+pub own-bytes : (b : ℕ) (bs : List ℕ) (d : Decoded) → decode b bs ≡ some d → decode b (take (operands b bs) bs) ≡ some (record { command = d .command; left = [] })
+own-bytes b bs d e = go (codeOf b codes) refl
+  where
+    at : (c : Code) → codeOf b codes ≡ some c → decode b (take (c .width) bs) ≡ some (record { command = d .command; left = [] })
+    at c f =
+        let t = takes-operands b bs d e in
+        let w : c .width ≤ length bs = leb-true (c .width) (length bs) (sym (whole-at b bs c f) ∙ t .whole) in
+        let n : length (take (c .width) bs) ≡ c .width = length-take-le (c .width) bs w in
+        let r : c .reads (take (c .width) bs) ≡ some (d .command) = sym (reads-at b bs c f) ∙ t .reads in
+        let x : take (c .width) (take (c .width) bs) ≡ take (c .width) bs = subst (λ (k : ℕ). take k (take (c .width) bs) ≡ take (c .width) bs) n (take-length (take (c .width) bs)) in
+        let y : drop (c .width) (take (c .width) bs) ≡ [] = subst (λ (k : ℕ). drop k (take (c .width) bs) ≡ []) n (drop-length (take (c .width) bs)) in
+        decode-at b (take (c .width) bs) c f ∙ ap (λ (a : Bool). cond a (taken c (take (c .width) bs)) none) (le-leb (c .width) (length (take (c .width) bs)) (omega (arith, n))) ∙ rw (x, y, r)
+
+    go : (o : Option Code) → codeOf b codes ≡ o → decode b (take (operands b bs) bs) ≡ some (record { command = d .command; left = [] })
+    go none f = contradiction {b = true} refl (let z : none ≡ some d = sym (code-none b bs f) ∙ e in cc)
+    go (some c) f = let w : c .width ≤ length bs = leb-true (c .width) (length bs) (sym (whole-at b bs c f) ∙ takes-operands b bs d e .whole) in subst (λ (k : ℕ). decode b (take k bs) ≡ some (record { command = d .command; left = [] })) (let z : c .width ≡ operands b bs = omega (arith, operands-at b bs c f) in z) (at c f)
 
 -- ---- number 6
 
