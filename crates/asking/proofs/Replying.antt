@@ -29,7 +29,7 @@ use Rattle.rules.proofs.SoundTest.{RowOk}
 use Rattle.rules.proofs.Refused.{by-serve}
 use Rattle.rules.proofs.Public.{SoundMemory, sound-memory}
 use Rattle.frame.proofs.Frame.{not-refused}
-use Rattle.lookups.proofs.Touching.{row-elements}
+use Rattle.paths.proofs.Places.{elements-length}
 use Rattle.decoding.specs.OnMemory.{partReply}
 
 -- ---- calls that return nothing: their number is all they say
@@ -60,7 +60,7 @@ part-of l n i s h =
     let k : rowAt i (viewRows n l .rows) .entry .path .len ≤ 32 = ok .short in
     subst (λ (x : State). PartOf l x i) (s .same) (record {
       bytes = length-cut (40 + i * 1095 + 17) (rowAt i (viewRows n l .rows) .entry .path .len * 32) l (omega (arith, s .long, k));
-      count = row-elements l n i h k;
+      count = elements-length n i l h k;
       long = ok .long;
     })
 

@@ -16,7 +16,7 @@ ghost use Rattle.rules.specs.Commands.{keyIn, timeIn};
 ghost use Rattle.decoding.specs.OnMemory.{Replied, Says, partReply, whole, obeyWhole, held};
 
 // A lookup found the key if its part has an element, of 32 bytes each.
-fn part_reply(bytes: usize) -> Reply
+pub fn part_reply(bytes: usize) -> Reply
     ensures { λ r. ⌜ r ≡ partReply bytes ⌝ }
 {
     if bytes == 0 {

@@ -1,3 +1,4 @@
 pub mod Refusing
 pub mod Touching
 pub mod Looking
+pub mod Placing

@@ -1,6 +1,6 @@
 -- get, by row.
 use mathlib.Core.Path.{_≡_, refl, sym, ap, _∙_, subst}
-use Prim.Native.Nat.{ℕ, _<_, _≤_}
+use Prim.Native.Nat.{ℕ, _+_, _*_, _-_, _<_, _≤_}
 use native.Mathlib.Omega.{arith}
 use mathlib.Core.List.{List, []}
 use mathlib.Core.Option.{none, some}
@@ -15,7 +15,8 @@ use Rattle.rules.specs.Calls.{Answer, Get, GetAndTouch, Refused, Hinted, Verifi
 use Rattle.rules.specs.Refusals.{refusal, Asked, perform, gives}
 use Rattle.rules.specs.Answers.{refusalOf, touchAnswer}
 use Rattle.types.specs.declared.answers.TouchAnswer.{TouchAnswer}
-use Rattle.rules.specs.Memory.{capacity, viewRows, view}
+use Rattle.rules.specs.Memory.{capacity, cut, viewRows, view}
+use Rattle.paths.specs.declared.path.PathPlace.{PathPlace}
 use Rattle.rules.specs.Lent.{Bytes, Typed, call, pathPart, foundPart, gotPart}
 use Rattle.rules.proofs.Addresses.{contradiction}
 use Rattle.rules.proofs.SoundTest.{RowOk}
@@ -26,6 +27,7 @@ use Rattle.rules.proofs.LentMemory.{capacity-same, lent-request}
 use Rattle.rules.proofs.GotPart.{answerBytes, touched-part}
 use Rattle.frame.proofs.Asking.{read-answer, read-memory}
 use Rattle.frame.proofs.Frame.{not-refused}
+use Rattle.lookups.specs.Steps.{StandsAt}
 
 get-allowed : (l : List ℕ) (k : NodeAddr) (time : ℕ) → sound (capacity l) (view l) ≡ true → refusal (capacity l) (view l) (Asked (Get k time)) ≡ none
 unfolding pathGiven verifiedWrite drawsStamps
@@ -58,6 +60,21 @@ got-held l n k time i p h s f x v =
 
 pub path-short : (l : List ℕ) (n i : ℕ) → SoundMemory l n → i < n → rowAt i (viewRows n l .rows) .entry .path .len ≤ 32
 path-short l n i s j = every-at (RowOk (viewRows n l .seq)) i (viewRows n l .rows) (omega (arith, s .rows)) (s .sound .each) .short
+
+-- ---- where the part stands
+
+pub nothing-stands : (l : List ℕ) (k : NodeAddr) (time : ℕ) (r : PathPlace) → r ≡ record { at = 0; bytes = 0 } → [] ≡ gotPart k time l → StandsAt k time l (r .at) (r .bytes)
+nothing-stands l k time r e g = rw e (record { part = g; inside = omega arith })
+
+pub path-stands : (l : List ℕ) (n : ℕ) (k : NodeAddr) (time i : ℕ) (r : PathPlace) → sound (capacity l) (view l) ≡ true → SoundMemory l n → i < n → find k (viewRows n l .rows) ≡ some i → expired time (rowAt i (viewRows n l .rows) .entry) ≡ false
+    → r ≡ record { at = 40 + i * 1095 + 17; bytes = rowAt i (viewRows n l .rows) .entry .path .len * 32 } → StandsAt k time l (r .at) (r .bytes)
+unfolding pathPart
+path-stands l n k time i r h s j f x e =
+    let b = path-short l n i s j in
+    rw e (record { part = got-held l n k time i _ h s f x refl; inside = omega (arith, s .long, b) })
+
+pub part-from : (at bytes : ℕ) (l p : List ℕ) → cut at bytes l ≡ p → cut at (at + bytes - at) l ≡ p
+part-from at bytes l p e = ap (λ (j : ℕ). cut at j l) (let z : at + bytes - at ≡ bytes = omega arith in z) ∙ e
 
 -- get is done: number 0
 pub get-done : (l : List ℕ) (n : ℕ) (k : NodeAddr) (time : ℕ) → sound (capacity l) (view l) ≡ true → SoundMemory l n → Bytes l → 0 ≡ refusalOf (call l (Get k time) .answer)

@@ -22,30 +22,18 @@ use Rattle.rules.specs.Calls.{Refused, PathFound, GetAndTouch, pathGiven, verif
 use Rattle.rules.specs.Refusals.{refusal, Asked, performRequest, perform, gives, serve}
 use Rattle.rules.specs.Answers.{refusalOf, touchAnswer, touchReply}
 use Rattle.rules.specs.Commands.{reply}
-use Rattle.rules.specs.Memory.{capacity, coordEntriesOf, pathOf, entryOf, rowOf, cut, viewRows, view}
+use Rattle.rules.specs.Memory.{capacity, viewRows, view}
 use Rattle.rules.specs.Lent.{Bytes, lent, call}
 use Rattle.rules.proofs.SoundTest.{RowOk}
 use Rattle.rules.proofs.RowLists.{every-at}
 use Rattle.rules.proofs.Public.{SoundMemory, unsound-one}
-use Rattle.memory.proofs.Fields.{row-at}
 use Rattle.memory.proofs.RowLaws.{view-length}
 use Rattle.memory.specs.Edits.{withTimes}
+use Rattle.paths.proofs.Places.{elements-length}
 use Rattle.frame.proofs.Frame.{done-with, not-refused, rewritten-length, out-length}
 use Rattle.lookups.specs.Steps.{touchedAt, touchSays}
 
 -- ---- row i
-
-entries-length : (n : ℕ) (l : List ℕ) → length (coordEntriesOf n l) ≡ n
-unfolding coordEntriesOf
-entries-length zero l = refl
-entries-length (suc n) l = ap suc (entries-length n (drop 32 l))
-
-places-of : (c : List ℕ) → length (rowOf c .entry .path .entries) ≡ 32
-unfolding rowOf entryOf pathOf
-places-of c = entries-length 32 (drop 1 (cut 16 1061 c))
-
-row-places : (l : List ℕ) (n i : ℕ) → i < n → length (rowAt i (viewRows n l .rows) .entry .path .entries) ≡ 32
-row-places l n i h = ap (λ (r : Row). length (r .entry .path .entries)) (row-at n i l h) ∙ places-of (cut (40 + i * 1095) 1095 l)
 
 pub touched-out : (l : List ℕ) (n i time : ℕ) (m : List ℕ) → i < n → expired time (rowAt i (viewRows n l .rows) .entry) ≡ true → viewRows (n - 1) m ≡ takeOut i (viewRows n l)
     → (TouchAnswer.Absent ≡ touchSays i time (viewRows n l)) × (viewRows (length (touchedAt i time (viewRows n l) .rows)) m ≡ touchedAt i time (viewRows n l))
@@ -70,11 +58,6 @@ touch-absent-state k time s e = rw e
 touch-absent-says : (k : NodeAddr) (time : ℕ) (s : State) → find k (s .rows) ≡ none → touchAnswer (perform s (GetAndTouch k time) .answer) ≡ TouchAnswer.Absent
 unfolding perform gives get unexpiredRow touchAnswer
 touch-absent-says k time s e = rw e
-
--- a row's path has its length in elements
-pub row-elements : (l : List ℕ) (n i : ℕ) → i < n → rowAt i (viewRows n l .rows) .entry .path .len ≤ 32 → length (elements (rowAt i (viewRows n l .rows) .entry .path)) ≡ rowAt i (viewRows n l .rows) .entry .path .len
-unfolding elements
-row-elements l n i h b = length-take-le (rowAt i (viewRows n l .rows) .entry .path .len) (rowAt i (viewRows n l .rows) .entry .path .entries) (subst (λ (x : ℕ). rowAt i (viewRows n l .rows) .entry .path .len ≤ x) (sym (row-places l n i h)) b)
 
 touch-says : (k : NodeAddr) (time : ℕ) (s : State) (i : ℕ) → find k (s .rows) ≡ some i → length (elements (rowAt i (s .rows) .entry .path)) ≡ rowAt i (s .rows) .entry .path .len → touchAnswer (perform s (GetAndTouch k time) .answer) ≡ touchSays i time s
 unfolding perform gives get unexpiredRow touchAnswer touchSays
@@ -111,7 +94,7 @@ touch-done-at l n k time i r m h s j f b z a v =
     let p = touch-state k time (viewRows n l) i f in
     let o : rowAt i (viewRows n l .rows) .entry .path .len ≤ 32 = every-at (RowOk (viewRows n l .seq)) i (viewRows n l .rows) (omega (arith, s .rows)) (s .sound .each) .short in
     let d = done-with l n (GetAndTouch k time) m (length (touchedAt i time (viewRows n l) .rows)) s (touch-allowed l k time h) b z (ap (λ (x : State). length (x .rows)) p) (v ∙ sym p) in
-    told l k time r m (a ∙ sym (ap touchAnswer (d .answer) ∙ ap (λ (x : State). touchAnswer (perform x (GetAndTouch k time) .answer)) (sym (s .same)) ∙ touch-says k time (viewRows n l) i f (row-elements l n i j o))) (sym (d .memory))
+    told l k time r m (a ∙ sym (ap touchAnswer (d .answer) ∙ ap (λ (x : State). touchAnswer (perform x (GetAndTouch k time) .answer)) (sym (s .same)) ∙ touch-says k time (viewRows n l) i f (elements-length n i l j o))) (sym (d .memory))
 
 pub touch-done-absent : (l : List ℕ) (n : ℕ) (k : NodeAddr) (time : ℕ) → sound (capacity l) (view l) ≡ true → SoundMemory l n → find k (viewRows n l .rows) ≡ none → Bytes l
     → Told l k time TouchAnswer.Absent l

@@ -1,5 +1,6 @@
 // get and get_and_touch, and touch, which does the work of the latter.
 use coord::node_addr::NodeAddr;
+use paths::path::PathPlace;
 use search::answers::Search;
 use types::answers::TouchAnswer;
 ghost use mathlib.Core.Path.{_≡_};
@@ -15,7 +16,7 @@ ghost use Rattle.rules.specs.Answers.{refusalOf, touchAnswer, touchReply};
 ghost use Rattle.rules.specs.Memory.{headSize, capacity, viewRows, view};
 ghost use Rattle.rules.specs.Commands.{reply};
 ghost use Rattle.rules.specs.Lent.{call, gotPart};
-ghost use Rattle.lookups.specs.Steps.{touchedAt, touchSays};
+ghost use Rattle.lookups.specs.Steps.{touchedAt, touchSays, touchedPlace, StandsAt};
 
 // Row i is refreshed: last_used and expires_at are set.
 fn refresh_at(state: &mut [u8], n: usize, i: usize, time: u64)
@@ -62,22 +63,40 @@ pub fn touch(state: &mut [u8], key: NodeAddr, time: u64) -> TouchAnswer
     touch_unchecked(state, key, time)
 }
 
-pub fn get_unchecked<'a>(state: &'a [u8], key: NodeAddr, time: u64) -> &'a [u8]
+// Nothing is found.
+fn nowhere() -> PathPlace
+    ensures { λ r. ⌜ r ≡ record { at = 0; bytes = 0 } ⌝ }
+{
+    PathPlace { at: 0, bytes: 0 }
+}
+
+// Where the path that get hands back stands in the memory; no bytes where nothing is found.
+pub fn get_place(state: &[u8], key: NodeAddr, time: u64) -> PathPlace
     requires { ⌜ sound (capacity (now state)) (view (now state)) ≡ true ⌝ }
-    ensures part { λ r. ⌜ now r ≡ gotPart key time (now (state .entry)) ⌝ }
-    ensures left { λ r. ⌜ now (state .exit) ≡ call (now (state .entry)) (Get key time) .memory ⌝ }
+    ensures { λ r. ⌜ StandsAt key time (now (state .entry)) (r .at) (r .bytes) × (now (state .exit) ≡ call (now (state .entry)) (Get key time) .memory) ⌝ }
 {
     let n = memory::head::row_count(state) as usize;
     let at = search::keys::search(state, n, key);
     match at {
         Search::At(i) => {
             if entries::is_expired(state, n, i, time) {
-                return &state[0..0];
+                return nowhere();
             }
-            paths::path::path_part(state, n, i)
+            paths::path::path_place(state, n, i)
         }
-        Search::Absent(_) => &state[0..0],
+        Search::Absent(_) => nowhere(),
     }
+}
+
+pub fn get_unchecked<'a>(state: &'a [u8], key: NodeAddr, time: u64) -> &'a [u8]
+    requires { ⌜ sound (capacity (now state)) (view (now state)) ≡ true ⌝ }
+    ensures part { λ r. ⌜ now r ≡ gotPart key time (now (state .entry)) ⌝ }
+    ensures left { λ r. ⌜ now (state .exit) ≡ call (now (state .entry)) (Get key time) .memory ⌝ }
+{
+    let place = get_place(state, key, time);
+    let start = place.at;
+    let end = start + place.bytes;
+    &state[start..end]
 }
 
 // The number lent beside the state is the refusal, 0 if done.
@@ -94,19 +113,44 @@ pub fn get<'a>(state: &'a [u8], key: NodeAddr, time: u64, refused: &mut u8) -> &
     get_unchecked(state, key, time)
 }
 
-// touch does the work; the part is then read from the memory that it leaves. A parameter that lends a part
-// out has no memory at exit to speak of, so the equation of the memory stands at touch.
+// Row i is touched; where its path then stands.
+fn touch_row(state: &mut [u8], n: usize, i: usize, time: u64) -> PathPlace
+    requires { ⌜ (i < n) × (headSize + n * rowSize ≤ length (now state)) × (viewRows n (now state) .storedWeight ≡ mainWeight (viewRows n (now state))) ⌝ }
+    ensures { λ r. ⌜ (r ≡ touchedPlace i time (viewRows n (now (state .entry)))) × (viewRows (length (touchedAt i time (viewRows n (now (state .entry))) .rows)) (now (state .exit)) ≡ touchedAt i time (viewRows n (now (state .entry)))) ⌝ }
+{
+    let place = paths::path::path_place(state, n, i);
+    let answer = touch_at(state, n, i, time);
+    match answer {
+        TouchAnswer::Found(_) => place,
+        TouchAnswer::Absent => nowhere(),
+        TouchAnswer::Refused(_) => nowhere(),
+    }
+}
+
+// What touch does, and where the path that get_and_touch hands back stands in the memory after it.
+pub fn touch_place(state: &mut [u8], key: NodeAddr, time: u64) -> PathPlace
+    requires { ⌜ sound (capacity (now state)) (view (now state)) ≡ true ⌝ }
+    ensures { λ r. ⌜ StandsAt key time (now (state .exit)) (r .at) (r .bytes) × (now (state .exit) ≡ call (now (state .entry)) (GetAndTouch key time) .memory) ⌝ }
+{
+    let n = memory::head::row_count(state) as usize;
+    let at = search::keys::search(state, n, key);
+    match at {
+        Search::At(i) => touch_row(state, n, i, time),
+        Search::Absent(_) => nowhere(),
+    }
+}
+
+// The part is read from the memory after the touch. A parameter that lends a part out has no memory at exit to speak of, so
+// the equation of the memory stands at touch and touch_place.
 pub fn get_and_touch_unchecked<'a>(state: &'a mut [u8], key: NodeAddr, time: u64) -> &'a [u8]
     requires { ⌜ sound (capacity (now state)) (view (now state)) ≡ true ⌝ }
     ensures { λ r. ⌜ now r ≡ gotPart key time (call (now (state .entry)) (GetAndTouch key time) .memory) ⌝ }
 {
-    let answer = touch_unchecked(state, key, time);
+    let place = touch_place(state, key, time);
+    let start = place.at;
+    let end = start + place.bytes;
     let after = &state[..];
-    match answer {
-        TouchAnswer::Found(_) => get_unchecked(after, key, time),
-        TouchAnswer::Absent => &after[0..0],
-        TouchAnswer::Refused(_) => &after[0..0],
-    }
+    &after[start..end]
 }
 
 pub fn get_and_touch<'a>(

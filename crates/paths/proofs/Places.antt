@@ -16,7 +16,6 @@ use Rattle.coord.proofs.Laws.{entryAt, among-turn, last-element}
 use Rattle.rules.specs.Records.{Row}
 use Rattle.rules.specs.Rows.{rowAt}
 use Rattle.rules.specs.Memory.{cut, coordEntryOf, coordEntriesOf, pathOf, entryOf, rowOf, viewRows}
-use Rattle.rules.specs.Lent.{pathPart}
 use Rattle.raw.proofs.StoreLaws.{cut-cut}
 use Rattle.memory.proofs.Fields.{row-at}
 use Rattle.paths.proofs.Bytes.{element-addr}
@@ -25,12 +24,12 @@ use Rattle.paths.proofs.Bytes.{element-addr}
 abbrev pub rowPath : ℕ → ℕ → List ℕ → Path
 rowPath n i l = rowAt i (viewRows n l .rows) .entry .path
 
-entries-length : (n : ℕ) (l : List ℕ) → length (coordEntriesOf n l) ≡ n
+pub entries-length : (n : ℕ) (l : List ℕ) → length (coordEntriesOf n l) ≡ n
 unfolding coordEntriesOf
 entries-length zero l = refl
 entries-length (suc n) l = ap suc (entries-length n (drop 32 l))
 
-entries-at : (n k : ℕ) (l : List ℕ) (d : CoordEntry) → k < n → getD (coordEntriesOf n l) k d ≡ coordEntryOf (cut (k * 32) 32 l)
+pub entries-at : (n k : ℕ) (l : List ℕ) (d : CoordEntry) → k < n → getD (coordEntriesOf n l) k d ≡ coordEntryOf (cut (k * 32) 32 l)
 unfolding coordEntriesOf
 entries-at zero k l d h = absurd (not-suc-le-zero h)
 entries-at (suc n) zero l d h = refl
@@ -91,10 +90,3 @@ module _ (n i : ℕ) (l : List ℕ) (h : i < n) where
       last-element _ (rowPath n i l) (λ e. omega (arith, elements-length g))
       ∙ ap (λ (k : ℕ). entryAt (rowPath n i l) (k - 1) .«node_addr») (elements-length g)
       ∙ place-addr (rowPath n i l .len - 1) (omega arith)
-
--- the part from the first place up to the last element
-pub part-made : (i : ℕ) (l : List ℕ) {len k : ℕ} → k ≡ len → cut (40 + i * 1095 + 17) (40 + i * 1095 + 17 + k * 32 - (40 + i * 1095 + 17)) l ≡ pathPart i len l
-unfolding pathPart
-part-made i l {len} {k} e =
-    let w : 40 + i * 1095 + 17 + k * 32 - (40 + i * 1095 + 17) ≡ len * 32 = omega arith in
-    ap (λ (j : ℕ). cut (40 + i * 1095 + 17) j l) w

@@ -12,8 +12,13 @@ ghost use lib.ListN.{length};
 ghost use Rattle.coord.specs.Addresses.{sameAddr};
 ghost use Rattle.coord.specs.Paths.{pathPlaces, contains, rootOf};
 ghost use Rattle.rules.specs.Rows.{rowSize, rowAt};
-ghost use Rattle.rules.specs.Memory.{headSize, viewRows};
-ghost use Rattle.rules.specs.Lent.{pathPart};
+ghost use Rattle.rules.specs.Memory.{headSize, entryOffset, placesOffset, coordEntrySize, viewRows};
+
+// Where a stored path stands in the memory: its first byte, and how many bytes it has.
+pub struct PathPlace {
+    pub at: usize,
+    pub bytes: usize,
+}
 
 // Whether an element up to the length has the address.
 pub fn path_contains(state: &[u8], n: usize, i: usize, a: NodeAddr) -> bool
@@ -42,15 +47,16 @@ pub fn root_is(state: &[u8], n: usize, i: usize, a: NodeAddr) -> bool
     addr::addr_at(state, places + (len - 1) * 32, a)
 }
 
-// The elements up to the length, where they stand in the memory.
-pub fn path_part<'a>(state: &'a [u8], n: usize, i: usize) -> &'a [u8]
-    requires { ⌜ (i < n) × (headSize + n * rowSize ≤ length (now state)) × (rowAt i (viewRows n (now state) .rows) .entry .path .len ≤ pathPlaces) ⌝ }
-    ensures { λ r. ⌜ now r ≡ pathPart i (rowAt i (viewRows n (now (state .entry)) .rows) .entry .path .len) (now (state .entry)) ⌝ }
+// Where the elements up to the length stand.
+pub fn path_place(state: &[u8], n: usize, i: usize) -> PathPlace
+    requires { ⌜ (i < n) × (headSize + n * rowSize ≤ length (now state)) ⌝ }
+    ensures { λ r. ⌜ r ≡ record { at = headSize + i * rowSize + (entryOffset + placesOffset); bytes = rowAt i (viewRows n (now (state .entry)) .rows) .entry .path .len * coordEntrySize } ⌝ }
 {
     let len = row::path_len(state, n, i) as usize;
-    let start = HEAD + i * ROW + 17;
-    let end = start + len * 32;
-    &state[start..end]
+    PathPlace {
+        at: HEAD + i * ROW + 17,
+        bytes: len * 32,
+    }
 }
 
 // All 32 places and the length.

@@ -9,6 +9,7 @@ use lib.ListN.{length, take, drop, length-drop}
 use borrow.Author.Tests.{le-ltb}
 use lib.Seq.{take-take, take-add, take-nil, drop-nil, drop-drop, length-take-le}
 use Rattle.coord.specs.declared.node_addr.NodeAddr.{NodeAddr}
+use Rattle.coord.specs.declared.coord.Path.{Path}
 use Rattle.coord.specs.Paths.{elements}
 use Rattle.rules.specs.Cases.{Every, maybe}
 use Rattle.rules.specs.Records.{Entry, Row, State}
@@ -172,27 +173,35 @@ entry-fresh : (now ttl : ℕ) (r : Row) → now ≤ lastTime → expired now (wi
 unfolding withEntry
 entry-fresh now ttl r h = fresh-after now ttl (r .entry) h
 
-refreshed-path : (now ttl : ℕ) (r : Row) → some (elements (withEntry (refresh now ttl (r .entry)) r .entry .path)) ≡ some (elements (r .entry .path))
+refreshed-path : (now ttl : ℕ) (r : Row) → withEntry (refresh now ttl (r .entry)) r .entry .path ≡ r .entry .path
 unfolding withEntry refresh
 refreshed-path now ttl r = refl
 
-get-refreshed : (k : NodeAddr) (now : ℕ) (s : State) (i : ℕ) → now ≤ lastTime → find k (s .rows) ≡ some i → i < length (s .rows) → expired now (rowAt i (s .rows) .entry) ≡ false → get k now (rewrite (refresh now (s .defaultTtl)) i s) ≡ get k now s
-get-refreshed k now s i h e l x =
+-- a row after a refresh: its key's, unexpired, with its path
+pub record RefreshedRow (k : NodeAddr) (now i : ℕ) (s d : State) : Type 0 where
+  pub held : find k (d .rows) ≡ some i
+  pub unexpired : expired now (rowAt i (d .rows) .entry) ≡ false
+  pub path : rowAt i (d .rows) .entry .path ≡ rowAt i (s .rows) .entry .path
+
+pub refreshed-row : (k : NodeAddr) (now : ℕ) (s : State) (i : ℕ) → now ≤ lastTime → find k (s .rows) ≡ some i → i < length (s .rows) → RefreshedRow k now i s (rewrite (refresh now (s .defaultTtl)) i s)
+refreshed-row k now s i h e l =
     let f : Row → Row = λ r. withEntry (refresh now (s .defaultTtl) (r .entry)) r in
     let d = rewrite (refresh now (s .defaultTtl)) i s in
     let rs : d .rows ≡ changeRow f i (s .rows) = rewrite-rows (refresh now (s .defaultTtl)) i s in
-    let g : find k (d .rows) ≡ some i = ap (find k) rs ∙ find-change k f i (s .rows) (λ r. kept-key (refresh now (s .defaultTtl)) r) ∙ e in
     let r : rowAt i (d .rows) ≡ f (rowAt i (s .rows)) = ap (λ (xs : List Row). rowAt i xs) rs ∙ row-change f i (s .rows) l in
-    let y : expired now (rowAt i (d .rows) .entry) ≡ false = ap (λ (x : Row). expired now (x .entry)) r ∙ now-fresh (rowAt i (s .rows)) in
-    let a : get k now d ≡ some (elements (rowAt i (d .rows) .entry .path)) = get-some k now d i g ∙ rw y in
-    let b : get k now s ≡ some (elements (rowAt i (s .rows) .entry .path)) = get-some k now s i e ∙ rw x in
-    a ∙ ap (λ (x : Row). some (elements (x .entry .path))) r ∙ same-path (rowAt i (s .rows)) ∙ sym b
-  where
-    now-fresh : (r : Row) → expired now (withEntry (refresh now (s .defaultTtl) (r .entry)) r .entry) ≡ false
-    now-fresh r = entry-fresh now (s .defaultTtl) r h
+    record {
+      held = ap (find k) rs ∙ find-change k f i (s .rows) (λ x. kept-key (refresh now (s .defaultTtl)) x) ∙ e;
+      unexpired = ap (λ (x : Row). expired now (x .entry)) r ∙ entry-fresh now (s .defaultTtl) (rowAt i (s .rows)) h;
+      path = ap (λ (x : Row). x .entry .path) r ∙ refreshed-path now (s .defaultTtl) (rowAt i (s .rows));
+    }
 
-    same-path : (r : Row) → some (elements (withEntry (refresh now (s .defaultTtl) (r .entry)) r .entry .path)) ≡ some (elements (r .entry .path))
-    same-path r = refreshed-path now (s .defaultTtl) r
+get-refreshed : (k : NodeAddr) (now : ℕ) (s : State) (i : ℕ) → now ≤ lastTime → find k (s .rows) ≡ some i → i < length (s .rows) → expired now (rowAt i (s .rows) .entry) ≡ false → get k now (rewrite (refresh now (s .defaultTtl)) i s) ≡ get k now s
+get-refreshed k now s i h e l x =
+    let d = rewrite (refresh now (s .defaultTtl)) i s in
+    let r = refreshed-row k now s i h e l in
+    let a : get k now d ≡ some (elements (rowAt i (d .rows) .entry .path)) = get-some k now d i (r .held) ∙ rw (r .unexpired) in
+    let b : get k now s ≡ some (elements (rowAt i (s .rows) .entry .path)) = get-some k now s i e ∙ rw x in
+    a ∙ ap (λ (p : Path). some (elements p)) (r .path) ∙ sym b
 
 -- a touched key is found as it was, and nothing is found where nothing was
 get-touched : (R : ℕ) (k : NodeAddr) (now : ℕ) (s : State) → Sound R s → now ≤ lastTime → get k now (touched k now s) ≡ get k now s
@@ -251,11 +260,16 @@ lent-answer : (l : List ℕ) (q : Call) → call l q .answer ≡ step (capacity 
 unfolding lent
 lent-answer l q = refl
 
+-- what get_and_touch answers, get answers on the memory after it
+pub got-after-touch : (l : List ℕ) (k : NodeAddr) (now : ℕ) → Bytes l → Typed (GetAndTouch k now) → call (call l (GetAndTouch k now) .memory) (Get k now) .answer ≡ call l (GetAndTouch k now) .answer
+got-after-touch l k now b g =
+    let m = call l (GetAndTouch k now) .memory in
+    let c = lent-request l (Asked (GetAndTouch k now)) b g in
+    let r : capacity m ≡ capacity l = capacity-same l m (c .size) in
+    lent-answer m (Get k now) ∙ ap (λ (s : State). step (capacity m) s (Get k now) .answer) (c .state) ∙ ap (λ (n : ℕ). step n (step (capacity l) (view l) (GetAndTouch k now) .state) (Get k now) .answer) r ∙ touch-get (capacity l) k now (view l) (omega (arith, small8-less now (g .1))) ∙ sym (lent-answer l (GetAndTouch k now))
+
 -- GET_AND_TOUCH HANDS BACK THE STORED PATH LIKEWISE, as a part of the memory after it
 pub touched-part : (l : List ℕ) (k : NodeAddr) (now : ℕ) → Bytes l → Typed (GetAndTouch k now) → gotPart k now (call l (GetAndTouch k now) .memory) ≡ answerBytes (call l (GetAndTouch k now) .answer)
 touched-part l k now b g =
     let m = call l (GetAndTouch k now) .memory in
-    let c = lent-request l (Asked (GetAndTouch k now)) b g in
-    let r : capacity m ≡ capacity l = capacity-same l m (c .size) in
-    let a : call m (Get k now) .answer ≡ call l (GetAndTouch k now) .answer = lent-answer m (Get k now) ∙ ap (λ (s : State). step (capacity m) s (Get k now) .answer) (c .state) ∙ ap (λ (n : ℕ). step n (step (capacity l) (view l) (GetAndTouch k now) .state) (Get k now) .answer) r ∙ touch-get (capacity l) k now (view l) (omega (arith, small8-less now (g .1))) ∙ sym (lent-answer l (GetAndTouch k now)) in
-    got-part m k now (c .bytes) ∙ ap answerBytes a
+    got-part m k now (lent-request l (Asked (GetAndTouch k now)) b g .bytes) ∙ ap answerBytes (got-after-touch l k now b g)

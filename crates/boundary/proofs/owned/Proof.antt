@@ -1,0 +1,10 @@
+use mathlib.Core.Path.{refl}
+use Rattle.memory.proofs.Owned.{owned-addr}
+use Rattle.boundary.proofs.owned.Statement.{statement}
+use Rattle.boundary.proofs.owned.Tie as tie
+
+returns : tie.Need-returns
+returns c = (refl, owned-addr (c .args .a) _ (c .good .0))
+
+pub owned-spec : {M : Type 1} → statement M
+owned-spec = tie.close (tie.spec returns)

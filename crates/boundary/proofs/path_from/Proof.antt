@@ -1,0 +1,74 @@
+use mathlib.Core.Path.{ap}
+use mathlib.Core.Path.{_≡_, refl, sym, _∙_}
+use mathlib.Core.List.{_++_}
+use Prim.Native.Nat.{_-_, _*_, _≤_, min}
+use native.Mathlib.Omega.{arith}
+use borrow.Author.Needs.{needs}
+use lib.ListN.{length, take, drop, replicate, length-set}
+use Rattle.coord.specs.Paths.{zeroEntry}
+use Rattle.rules.specs.Memory.{coordEntriesOf}
+use Rattle.paths.proofs.Bytes.{stored}
+use Rattle.paths.proofs.Places.{entries-length, entries-at}
+use Rattle.boundary.proofs.Operands.{path-made}
+use Rattle.boundary.proofs.path_from.Statement.{statement}
+use Rattle.boundary.proofs.path_from.Tie as tie
+
+abbrev Inv-loop : tie.InvT-loop
+Inv-loop bytes len held entries₀ k₀ entries k = (k ≤ held) × (entries ≡ take k (coordEntriesOf held bytes) ++ drop k (replicate 32 zeroEntry)) × (length entries ≡ 32)
+
+abbrev μ-loop : tie.MeasureT-loop
+μ-loop bytes len held entries₀ k₀ entries k = held - k
+
+lesser-requires : tie.Need-lesser-requires Inv-loop μ-loop
+lesser-requires c κs = search needs
+
+zero-entry-requires : tie.Need-zero-entry-requires Inv-loop μ-loop
+zero-entry-requires c κs = search needs
+
+loop-holds : tie.Need-loop-holds Inv-loop μ-loop
+loop-holds c = (omega arith, ap (replicate 32) (c .zero-entry .ensures), refl)
+
+mul-load-coord-entry : tie.Need-mul-load-coord-entry Inv-loop μ-loop
+mul-load-coord-entry c = search needs
+
+load-coord-entry-requires : tie.Need-load-coord-entry-requires Inv-loop μ-loop
+load-coord-entry-requires c κs = omega (arith, c .before .before .before .lesser .ensures)
+
+mul-entries : tie.Need-mul-entries Inv-loop μ-loop
+mul-entries c = search needs
+
+array-set-from-entries : tie.Need-array-set-from-entries Inv-loop μ-loop
+array-set-from-entries c = search needs
+
+add-k : tie.Need-add-k Inv-loop μ-loop
+add-k c = search needs
+
+loop-less : tie.Need-loop-less Inv-loop μ-loop
+loop-less c = search needs
+
+loop-again : tie.Need-loop-again Inv-loop μ-loop
+loop-again c =
+    let s = c .before .before .before .before .before .before .args in
+    let n = entries-length (c .before .before .before .before .lesser .result) (s .bytes .now) in
+    (omega arith, stored (coordEntriesOf (c .before .before .before .before .lesser .result) (s .bytes .now)) (replicate 32 zeroEntry) (c .before .before .loop .entries) (c .before .before .loop .k) (c .load-coord-entry .result) (c .load-coord-entry .result) (c .before .before .loop .inv .1) (c .load-coord-entry .ensures ∙ sym (entries-at (c .before .before .before .before .lesser .result) (c .before .before .loop .k) (s .bytes .now) _ (omega arith))) (omega (arith, n)) (omega (arith, c .before .before .before .before .lesser .ensures)), simp length-set (c .before .before .loop .inv .2))
+
+returns : tie.Need-returns Inv-loop μ-loop
+returns c = path-made (c .before .before .before .before .before .args .bytes .now) _ (c .before .before .before .lesser .result) (c .before .loop .k) (c .before .loop .entries) refl (c .before .before .before .lesser .ensures) (c .before .loop .inv .1) (omega arith)
+
+pub path-from-spec : {M : Type 1} → statement M
+path-from-spec =
+    tie.close
+    (tie.spec
+    Inv-loop
+    μ-loop
+    lesser-requires
+    zero-entry-requires
+    loop-holds
+    mul-load-coord-entry
+    load-coord-entry-requires
+    mul-entries
+    array-set-from-entries
+    add-k
+    loop-less
+    loop-again
+    returns)

@@ -1,0 +1,104 @@
+// Operands as they come from another language, and replies as they go there.
+use coord::coord::CoordEntry;
+use coord::coord::Path;
+use coord::node_addr::NodeAddr;
+use search::answers::Search;
+use types::placed::Funding;
+use types::reply::Reply;
+ghost use mathlib.Core.Path.{_≡_};
+ghost use Prim.Native.Nat.{min};
+ghost use Rattle.coord.specs.Paths.{zeroEntry};
+ghost use mathlib.Core.Bool.{true};
+ghost use mathlib.Core.Option.{some};
+ghost use Prim.Native.Nat.{_≤_};
+ghost use Rattle.rules.specs.Sound.{sound};
+ghost use Rattle.rules.specs.Memory.{capacity, view};
+ghost use Rattle.rules.specs.Lent.{AddrFits};
+ghost use Rattle.boundary.specs.Exported.{addressFrom, pathFrom, fundingFrom, rowTaken};
+
+// The bytes of an element.
+const ELEMENT: usize = 32;
+
+// The places of a path.
+const PLACES: usize = 32;
+
+// What is known of an address by value.
+fn owned(a: NodeAddr) -> NodeAddr
+    ensures { λ r. ⌜ (r ≡ a) × AddrFits r ⌝ }
+{
+    a
+}
+
+pub fn address(bytes: &[u8; 16]) -> NodeAddr
+    ensures { λ r. ⌜ (r ≡ addressFrom (now (bytes .entry))) × AddrFits r ⌝ }
+{
+    owned(NodeAddr(*bytes))
+}
+
+fn lesser(a: usize, b: usize) -> usize
+    ensures { λ r. ⌜ r ≡ min a b ⌝ }
+{
+    if a < b { a } else { b }
+}
+
+fn zero_entry() -> CoordEntry
+    ensures { λ r. ⌜ r ≡ zeroEntry ⌝ }
+{
+    CoordEntry {
+        node_addr: NodeAddr([0u8; 16]),
+        sequence: 0,
+        timestamp: 0,
+    }
+}
+
+// The elements that stand whole in the bytes.
+pub fn path_from(bytes: &[u8]) -> Path
+    ensures { λ r. ⌜ r ≡ pathFrom (now (bytes .entry)) ⌝ }
+{
+    let len = bytes.len() / ELEMENT;
+    let held = lesser(len, PLACES);
+    let zero = zero_entry();
+    let mut entries = [zero; 32];
+    let mut k = 0;
+    while k < held {
+        entries[k] = paths::addr::load_coord_entry(bytes, k * ELEMENT);
+        k += 1;
+    }
+    Path { entries, len }
+}
+
+// The five values go out, and the number comes back.
+pub fn tell(reply: Reply, values: &mut [u64; 5]) -> u8
+    ensures { λ r. ⌜ (r ≡ reply .refusal) × (now (values .exit) ≡ reply .values) ⌝ }
+{
+    let v = reply.values;
+    *values = v;
+    reply.refusal
+}
+
+// Kind 0 Uncharged, 1 Upto.
+pub fn funding(kind: u8, amount: u64) -> Funding
+    requires { ⌜ kind ≤ 1 ⌝ }
+    ensures { λ r. ⌜ fundingFrom kind amount ≡ some r ⌝ }
+{
+    if kind == 0 {
+        Funding::Uncharged
+    } else {
+        Funding::Upto(amount)
+    }
+}
+
+// The bytes of the key's row, where it has one.
+pub fn keep_row(state: &[u8], key: NodeAddr, row: &mut [u8; 1095])
+    requires { ⌜ sound (capacity (now state)) (view (now state)) ≡ true ⌝ }
+    ensures { λ _. ⌜ now (row .exit) ≡ rowTaken key (now (state .entry)) (now (row .entry)) ⌝ }
+{
+    let n = memory::head::row_count(state) as usize;
+    let at = search::keys::search(state, n, key);
+    match at {
+        Search::At(i) => {
+            *row = filing::file::save_row(state, n, i);
+        }
+        Search::Absent(_) => {}
+    }
+}

@@ -1,0 +1,68 @@
+-- What the exported lookups and remove tell.
+use mathlib.Core.Path.{_≡_, refl, sym, ap, _∙_, subst}
+use Prim.Native.Nat.{ℕ}
+use mathlib.Core.List.{List, []}
+use mathlib.Core.Bool.{true, false}
+use lib.ListN.{length}
+use Rattle.coord.specs.declared.node_addr.NodeAddr.{NodeAddr}
+use Rattle.types.specs.declared.reply.Reply.{Reply}
+use Rattle.types.specs.Values.{refuses}
+use Rattle.rules.specs.Sound.{sound}
+use Rattle.rules.specs.Calls.{Call, Get, GetAndTouch, Remove}
+use Rattle.rules.specs.Commands.{reply}
+use Rattle.rules.specs.Refusals.{Asked}
+use Rattle.rules.specs.Memory.{cut, capacity, view}
+use Rattle.rules.specs.Lent.{Bytes, Typed, call, gotPart}
+use Rattle.rules.proofs.MemoryLaws.{length-cut}
+use Rattle.rules.proofs.GotPart.{got-after-touch}
+use Rattle.paths.specs.declared.path.PathPlace.{PathPlace}
+use Rattle.lookups.specs.Steps.{StandsAt}
+use Rattle.lookups.proofs.Refusing.{one-got}
+use Rattle.decoding.specs.OnMemory.{partReply}
+use Rattle.decoding.proofs.Operands.{one-replied}
+use Rattle.decoding.proofs.Typing.{lent-sound}
+use Rattle.asking.proofs.Replying.{got-reply}
+use Rattle.boundary.specs.Exported.{addressFrom, Told, PartAt, rowTaken}
+use Rattle.boundary.proofs.Operands.{none-taken}
+use Rattle.coordcache.proofs.Telling.{told, told-call}
+
+-- ---- where the part stands
+
+part-length : (k : NodeAddr) (time : ℕ) (l : List ℕ) (p : PathPlace) → StandsAt k time l (p .at) (p .bytes) → p .bytes ≡ length (gotPart k time l)
+part-length k time l p s = sym (length-cut (p .at) (p .bytes) l (s .inside)) ∙ ap length (s .part)
+
+part-at : (k : NodeAddr) (time : ℕ) (l : List ℕ) (p : PathPlace) (at : ℕ) → StandsAt k time l (p .at) (p .bytes) → at ≡ p .at → PartAt at l (gotPart k time l)
+part-at k time l p at s e = rw e (ap (λ (j : ℕ). cut (p .at) j l) (sym (part-length k time l p s)) ∙ s .part)
+
+-- ---- get
+
+pub got-told : (l : List ℕ) (k k′ : NodeAddr) (time : ℕ) (p : PathPlace) (r : Reply) (n : ℕ) (vs : List ℕ) (at : ℕ) → sound (capacity l) (view l) ≡ true → k ≡ k′ → StandsAt k time l (p .at) (p .bytes) → l ≡ call l (Get k time) .memory → r ≡ partReply (p .bytes) → n ≡ r .refusal → vs ≡ r .values → at ≡ p .at
+    → Told (call l (Get k′ time)) n vs l × PartAt at l (gotPart k′ time l)
+got-told l k k′ time p r n vs at h f s m e a b d =
+    subst (λ (x : NodeAddr). Told (call l (Get x time)) n vs l × PartAt at l (gotPart x time l)) f
+    (told (call l (Get k time)) r n vs l (e ∙ ap partReply (part-length k time l p s) ∙ got-reply l k time h) a b m, part-at k time l p at s d)
+
+-- ---- get_and_touch
+
+pub touched-told : (l : List ℕ) (k k′ : NodeAddr) (time : ℕ) (p : PathPlace) (r : Reply) (n : ℕ) (vs m : List ℕ) (at : ℕ) → sound (capacity l) (view l) ≡ true → Bytes l → Typed (GetAndTouch k time) → k ≡ k′ → StandsAt k time m (p .at) (p .bytes) → m ≡ call l (GetAndTouch k time) .memory → r ≡ partReply (p .bytes) → n ≡ r .refusal → vs ≡ r .values → at ≡ p .at
+    → Told (call l (GetAndTouch k′ time)) n vs m × PartAt at m (gotPart k′ time m)
+touched-told l k k′ time p r n vs m at h o g f s v e a b d =
+    let q : sound (capacity m) (view m) ≡ true = subst (λ (x : List ℕ). sound (capacity x) (view x) ≡ true) (sym v) (lent-sound l (Asked (GetAndTouch k time)) o g h) in
+    let w : partReply (p .bytes) ≡ reply (call l (GetAndTouch k time) .answer) = ap partReply (part-length k time m p s) ∙ got-reply m k time q ∙ ap (λ (x : List ℕ). reply (call x (Get k time) .answer)) v ∙ ap reply (got-after-touch l k time o g) in
+    subst (λ (x : NodeAddr). Told (call l (GetAndTouch x time)) n vs m × PartAt at m (gotPart x time m)) f
+    (told (call l (GetAndTouch k time)) r n vs m (e ∙ w) a b v, part-at k time m p at s d)
+
+-- ---- number 1
+
+pub one-told : (l : List ℕ) (q : Call) (r : Reply) (n : ℕ) (vs : List ℕ) → sound (capacity l) (view l) ≡ false → r ≡ refuses 1 → n ≡ r .refusal → vs ≡ r .values → Told (call l q) n vs l
+one-told l q r n vs h e a b = let o = one-replied l q h in told (call l q) r n vs l (e ∙ o .says) a b (o .leaves)
+
+pub no-part : (l : List ℕ) (k : NodeAddr) (time at : ℕ) → sound (capacity l) (view l) ≡ false → PartAt at l (gotPart k time l)
+no-part l k time at h = subst (λ (x : List ℕ). PartAt at l x) (one-got l k time h) refl
+
+-- ---- remove
+
+pub removed-told : (l : List ℕ) (k k′ : NodeAddr) (r : Reply) (n : ℕ) (vs m row row′ : List ℕ) → k ≡ k′ → r ≡ reply (call l (Remove k) .answer) → n ≡ r .refusal → vs ≡ r .values → m ≡ call l (Remove k) .memory → row′ ≡ rowTaken k l row
+    → Told (call l (Remove k′)) n vs m × (row′ ≡ rowTaken k′ l row)
+removed-told l k k′ r n vs m row row′ f e a b d g =
+    subst (λ (x : NodeAddr). Told (call l (Remove x)) n vs m × (row′ ≡ rowTaken x l row)) f (told (call l (Remove k)) r n vs m e a b d, g)

@@ -1,0 +1,47 @@
+use mathlib.Core.Path.{sym, _∙_}
+use borrow.Author.Tests.{not-true, not-false}
+use Rattle.coordcache.proofs.Finding.{one-told, no-part}
+use Rattle.boundary.specs.Exported.{addressFrom}
+use borrow.Author.Needs.{needs}
+use Rattle.coordcache.proofs.checked.coord_cache_get_and_touch.Statement.{statement}
+use Rattle.coordcache.proofs.checked.coord_cache_get_and_touch.Tie as tie
+
+is-sound-requires : tie.Need-is-sound-requires
+is-sound-requires c κs = search needs
+
+refused-requires : tie.Need-refused-requires
+refused-requires c κs = search needs
+
+tell-requires : tie.Need-tell-requires
+tell-requires c κs = search needs
+
+same-length : tie.Need-same-length
+same-length c = search needs
+
+returns : tie.Need-returns
+returns c =
+    let s = c .before .before .before .before .before .before .before .args in
+    let h = sym (c .before .before .before .before .is-sound .ensures) ∙ not-true _ (c .before .before .before .if1 .taken) in
+    (one-told (s .state .now) _ (c .before .before .refused .result) _ _ h (c .before .before .refused .ensures) (c .tell .ensures .0) (c .tell .ensures .1), no-part (s .state .now) (addressFrom (s .key .now)) (s .time) (s .at .now) h)
+
+coord-cache-get-and-touch-unchecked-requires : tie.Need-coord-cache-get-and-touch-unchecked-requires
+coord-cache-get-and-touch-unchecked-requires c κs = sym (c .before .before .before .before .is-sound .ensures) ∙ not-false _ (c .before .before .before .if1 .left)
+
+same-length-2 : tie.Need-same-length-2
+same-length-2 c = search needs
+
+returns-2 : tie.Need-returns-2
+returns-2 c = c .before .before .coord-cache-get-and-touch-unchecked .ensures
+
+pub coord-cache-get-and-touch-spec : {M : Type 1} → statement M
+coord-cache-get-and-touch-spec =
+    tie.close
+    (tie.spec
+    is-sound-requires
+    refused-requires
+    tell-requires
+    same-length
+    returns
+    coord-cache-get-and-touch-unchecked-requires
+    same-length-2
+    returns-2)

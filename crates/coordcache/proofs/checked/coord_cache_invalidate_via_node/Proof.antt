@@ -1,0 +1,38 @@
+use mathlib.Core.Path.{_∙_, ap}
+use Rattle.rules.specs.Commands.{reply}
+use Rattle.rules.specs.Calls.{InvalidateViaNode}
+use Rattle.coordcache.proofs.Telling.{told-call}
+use borrow.Author.Needs.{needs}
+use Rattle.coordcache.proofs.checked.coord_cache_invalidate_via_node.Statement.{statement}
+use Rattle.coordcache.proofs.checked.coord_cache_invalidate_via_node.Tie as tie
+
+address-requires : tie.Need-address-requires
+address-requires c κs = search needs
+
+invalidate-via-node-requires : tie.Need-invalidate-via-node-requires
+invalidate-via-node-requires c κs = search needs
+
+sweep-reply-requires : tie.Need-sweep-reply-requires
+sweep-reply-requires c κs = search needs
+
+tell-requires : tie.Need-tell-requires
+tell-requires c κs = search needs
+
+same-length : tie.Need-same-length
+same-length c = search needs
+
+returns : tie.Need-returns
+returns c =
+    let s = c .before .before .before .before .before .before .before .before .before .args in
+    told-call (s .state .now) _ _ (c .before .before .sweep-reply .result) _ _ _ (ap InvalidateViaNode (c .before .before .before .before .before .before .before .address .ensures .0)) (c .before .before .sweep-reply .ensures ∙ ap reply (c .before .before .before .before .before .invalidate-via-node .ensures .0)) (c .tell .ensures .0) (c .tell .ensures .1) (c .before .before .before .before .before .invalidate-via-node .ensures .1)
+
+pub coord-cache-invalidate-via-node-spec : {M : Type 1} → statement M
+coord-cache-invalidate-via-node-spec =
+    tie.close
+    (tie.spec
+    address-requires
+    invalidate-via-node-requires
+    sweep-reply-requires
+    tell-requires
+    same-length
+    returns)

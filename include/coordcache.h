@@ -1,0 +1,121 @@
+/* The coordinate cache for C: libcoordcache.a, made by `rt staticlib coordcache`.
+ *
+ * The state is memory that the caller lends: 40 bytes of head and rows of 1,095 bytes (docs/PACKING.md), any alignment. Every
+ * function takes it as a pointer and its length in bytes. Make it by coord_cache_fresh.
+ *
+ * Every function returns the number of its refusal, or 0 if done:
+ *   1  the state is not sound                           any call but fresh
+ *   2  a path of 0 elements, or of over 32              inserts
+ *   3  the sequence numbers are used up                 inserts, demote
+ *   4  no main row is left, and no room can be made     verified inserts
+ *   5  too few rows for max, or over 1,024 of them      fresh
+ *   6  a funding kind over 1                            insert_funded, insert_stated
+ * A refused call leaves the state as it was. Where several hold, 6 comes first, then 5, 1, 2, 3, 4.
+ *
+ * `values` gets five numbers; those that a call does not use, and all five of a refused call, are 0.
+ *
+ * A function whose name ends in _unchecked does the same without asking whether the state is sound, and never returns 1. Call it only
+ * on a state that is known to be sound: one that fresh made and that only these functions have written since. On any other state its
+ * behaviour is undefined. Calls on one state must not run at the same time, but for calls that take it as const.
+ *
+ * Addresses are 16 bytes. A path is its elements, node first and root last, 32 bytes each: address 16, sequence 8, timestamp 8,
+ * little-endian; path_len counts bytes, and those behind the last whole element are not read. Times are milliseconds.
+ * Pointers may not be null, also where a length is 0, and what is written may not overlap anything else that is lent to the call. */
+#ifndef COORDCACHE_H
+#define COORDCACHE_H
+
+#include <stddef.h>
+#include <stdint.h>
+
+#define COORD_CACHE_HEAD 40     /* bytes of the head */
+#define COORD_CACHE_ROW 1095    /* bytes of a row */
+#define COORD_CACHE_ROWS 1024   /* the most rows of a state */
+#define COORD_CACHE_ELEMENT 32  /* bytes of a path element */
+#define COORD_CACHE_PLACES 32   /* the most elements of a path */
+
+#define COORD_CACHE_UNCHARGED 0 /* funding kinds */
+#define COORD_CACHE_UPTO 1
+
+#ifdef __cplusplus
+extern "C" {
+#endif
+
+/* 1 if the state is sound, else 0. */
+uint8_t coord_cache_is_sound(const uint8_t *state, size_t len);
+
+/* An empty cache of these limits; the only call that a memory in any condition is good for. */
+uint8_t coord_cache_fresh(uint8_t *state, size_t len, uint64_t max, uint64_t ttl);
+
+/* Hints. values: outcome (inserted 0, changed 1, unchanged 2, rejected 3), added weight, segment (main 0, probation 1),
+ * 1 if unfunded, keys examined. */
+uint8_t coord_cache_insert(uint8_t *state, size_t len, const uint8_t key[16], const uint8_t *path, size_t path_len, uint64_t time,
+                           uint64_t values[5]);
+uint8_t coord_cache_insert_unchecked(uint8_t *state, size_t len, const uint8_t key[16], const uint8_t *path, size_t path_len,
+                                     uint64_t time, uint64_t values[5]);
+uint8_t coord_cache_insert_with_ttl(uint8_t *state, size_t len, const uint8_t key[16], const uint8_t *path, size_t path_len,
+                                    uint64_t time, uint64_t ttl, uint64_t values[5]);
+uint8_t coord_cache_insert_with_ttl_unchecked(uint8_t *state, size_t len, const uint8_t key[16], const uint8_t *path,
+                                              size_t path_len, uint64_t time, uint64_t ttl, uint64_t values[5]);
+uint8_t coord_cache_insert_funded(uint8_t *state, size_t len, const uint8_t key[16], const uint8_t *path, size_t path_len,
+                                  uint64_t time, uint8_t kind, uint64_t amount, uint64_t values[5]);
+uint8_t coord_cache_insert_funded_unchecked(uint8_t *state, size_t len, const uint8_t key[16], const uint8_t *path, size_t path_len,
+                                            uint64_t time, uint8_t kind, uint64_t amount, uint64_t values[5]);
+uint8_t coord_cache_insert_stated(uint8_t *state, size_t len, const uint8_t key[16], const uint8_t *path, size_t path_len,
+                                  uint64_t time, uint8_t kind, uint64_t amount, uint64_t values[5]);
+uint8_t coord_cache_insert_stated_unchecked(uint8_t *state, size_t len, const uint8_t key[16], const uint8_t *path, size_t path_len,
+                                            uint64_t time, uint8_t kind, uint64_t amount, uint64_t values[5]);
+
+/* Verified inserts. values: 0, weight, 0, 0, keys examined. */
+uint8_t coord_cache_insert_verified(uint8_t *state, size_t len, const uint8_t key[16], const uint8_t *path, size_t path_len,
+                                    uint64_t time, uint64_t values[5]);
+uint8_t coord_cache_insert_verified_unchecked(uint8_t *state, size_t len, const uint8_t key[16], const uint8_t *path,
+                                              size_t path_len, uint64_t time, uint64_t values[5]);
+uint8_t coord_cache_insert_verified_with_path_mtu(uint8_t *state, size_t len, const uint8_t key[16], const uint8_t *path,
+                                                  size_t path_len, uint64_t time, uint16_t mtu, uint64_t values[5]);
+uint8_t coord_cache_insert_verified_with_path_mtu_unchecked(uint8_t *state, size_t len, const uint8_t key[16], const uint8_t *path,
+                                                            size_t path_len, uint64_t time, uint16_t mtu, uint64_t values[5]);
+
+/* Lookups. values: 1 if found, elements of the path. The path stands in the state itself, from byte *at on, until the next call that
+ * writes; where nothing is found, *at tells nothing. */
+uint8_t coord_cache_get(const uint8_t *state, size_t len, const uint8_t key[16], uint64_t time, uint64_t values[5], uint64_t *at);
+uint8_t coord_cache_get_unchecked(const uint8_t *state, size_t len, const uint8_t key[16], uint64_t time, uint64_t values[5],
+                                  uint64_t *at);
+uint8_t coord_cache_get_and_touch(uint8_t *state, size_t len, const uint8_t key[16], uint64_t time, uint64_t values[5], uint64_t *at);
+uint8_t coord_cache_get_and_touch_unchecked(uint8_t *state, size_t len, const uint8_t key[16], uint64_t time, uint64_t values[5],
+                                            uint64_t *at);
+
+/* values: 1 if found. The bytes of the row that left go into row; where none was found, row is not written. */
+uint8_t coord_cache_remove(uint8_t *state, size_t len, const uint8_t key[16], uint64_t values[5], uint8_t row[1095]);
+uint8_t coord_cache_remove_unchecked(uint8_t *state, size_t len, const uint8_t key[16], uint64_t values[5], uint8_t row[1095]);
+
+/* values: 1 if the key is held. */
+uint8_t coord_cache_demote(uint8_t *state, size_t len, const uint8_t key[16], uint64_t values[5]);
+uint8_t coord_cache_demote_unchecked(uint8_t *state, size_t len, const uint8_t key[16], uint64_t values[5]);
+
+/* values: all 0. */
+uint8_t coord_cache_clear_path_mtu(uint8_t *state, size_t len, const uint8_t key[16], uint64_t values[5]);
+uint8_t coord_cache_clear_path_mtu_unchecked(uint8_t *state, size_t len, const uint8_t key[16], uint64_t values[5]);
+
+/* Sweeps. values: rows removed; for clear all 0. */
+uint8_t coord_cache_purge_expired(uint8_t *state, size_t len, uint64_t time, uint64_t values[5]);
+uint8_t coord_cache_purge_expired_unchecked(uint8_t *state, size_t len, uint64_t time, uint64_t values[5]);
+uint8_t coord_cache_clear(uint8_t *state, size_t len, uint64_t values[5]);
+uint8_t coord_cache_clear_unchecked(uint8_t *state, size_t len, uint64_t values[5]);
+uint8_t coord_cache_invalidate_via_node(uint8_t *state, size_t len, const uint8_t addr[16], uint64_t values[5]);
+uint8_t coord_cache_invalidate_via_node_unchecked(uint8_t *state, size_t len, const uint8_t addr[16], uint64_t values[5]);
+uint8_t coord_cache_invalidate_other_roots(uint8_t *state, size_t len, const uint8_t addr[16], uint64_t values[5]);
+uint8_t coord_cache_invalidate_other_roots_unchecked(uint8_t *state, size_t len, const uint8_t addr[16], uint64_t values[5]);
+
+/* values: rows held, max, expired rows, mean age in milliseconds. */
+uint8_t coord_cache_stats(const uint8_t *state, size_t len, uint64_t time, uint64_t values[5]);
+uint8_t coord_cache_stats_unchecked(const uint8_t *state, size_t len, uint64_t time, uint64_t values[5]);
+
+/* values: 1 if a row is held, the smallest expires_at. */
+uint8_t coord_cache_next_expiry(const uint8_t *state, size_t len, uint64_t values[5]);
+uint8_t coord_cache_next_expiry_unchecked(const uint8_t *state, size_t len, uint64_t values[5]);
+
+#ifdef __cplusplus
+}
+#endif
+
+#endif
