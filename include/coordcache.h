@@ -43,7 +43,8 @@ extern "C" {
 /* 1 if the state is sound, else 0. */
 uint8_t coord_cache_is_sound(const uint8_t *state, size_t len);
 
-/* An empty cache of these limits; the only call that a memory in any condition is good for. */
+/* An empty cache of these limits; the only call that a memory in any condition is good for. Done, it has written every byte of the head
+ * and of all rows that fit whole; bytes behind the last whole row are never written, by no call. */
 uint8_t coord_cache_fresh(uint8_t *state, size_t len, uint64_t max, uint64_t ttl);
 
 /* Hints. values: outcome (inserted 0, changed 1, unchanged 2, rejected 3), added weight, segment (main 0, probation 1),

@@ -1,6 +1,9 @@
 //! Every state that one changed byte, or one field set to a telling number, makes of a sound one; and memory of every length
 //! from 0 to 3 rows. Whether a state is sound is asked of a reading of document 01 that shares nothing with the proofs; the
-//! proved library must refuse every call on an unsound state by 1 and leave the memory, and refuse none by 1 on a sound one.
+//! proved libraries, of the command stream and of the exported calls, must refuse every call on an unsound state by 1 and leave
+//! the memory, and refuse none by 1 on a sound one. Fresh must make every one of them sound that has the rows.
+
+mod exported;
 
 unsafe extern "C" {
     fn stream_run(
@@ -166,6 +169,7 @@ struct Tried {
     unsound: u64,
     sound: u64,
     refused: u64,
+    renewed: u64,
 }
 
 impl Tried {
@@ -173,7 +177,7 @@ impl Tried {
         let mut pending = [0; PENDING];
         run(&mut [], &mut pending, &element(5));
         assert_eq!(pending[0], 1);
-        Tried { calls: calls(), pending, unsound: 0, sound: 0, refused: 0 }
+        Tried { calls: calls(), pending, unsound: 0, sound: 0, refused: 0, renewed: 0 }
     }
 
     /// All calls on this state, each on a copy of it.
@@ -190,6 +194,35 @@ impl Tried {
                 return Err(format!("{}: {said}, and {} answers {}", what(), format!("{:02x}", call[0]), String::from_utf8_lossy(&line)));
             }
             self.refused += u64::from(by_1);
+        }
+        self.exported(state, copy, expected, what)
+    }
+
+    /// The same through the exported calls; what a refused one writes beside the state is five zeros.
+    fn exported(&mut self, state: &[u8], copy: &mut Vec<u8>, expected: bool, what: &dyn Fn() -> String) -> Result<(), String> {
+        if exported::is_sound(state) != expected {
+            return Err(format!("{}: is_sound says {}", what(), !expected));
+        }
+        for (which, name) in exported::CALLS.iter().enumerate() {
+            copy.clear();
+            copy.extend_from_slice(state);
+            let said = exported::call(which, copy);
+            let by_1 = said.refusal == 1;
+            if by_1 == expected || by_1 && (said.values != [0; 5] || said.row_written || copy != state) {
+                let kept = if copy == state { "as it was" } else { "changed" };
+                return Err(format!("{}: {name} returns {} {:?}, the memory {kept}", what(), said.refusal, said.values));
+            }
+            self.refused += u64::from(by_1);
+        }
+        if !expected {
+            copy.clear();
+            copy.extend_from_slice(state);
+            let fits = state.len() >= HEAD + 3 * ROW;
+            let number = exported::fresh(copy, 2, 300_000);
+            if number != if fits { 0 } else { 5 } || sound(copy) != fits || !fits && copy != state {
+                return Err(format!("{}: fresh returns {number}", what()));
+            }
+            self.renewed += u64::from(fits);
         }
         Ok(())
     }
@@ -242,9 +275,16 @@ fn all() -> Result<(), String> {
             if line != b"00 5 0 0 0 0 0\n" || fresh != short {
                 return Err(format!("{len} bytes of {fill}: fresh at max {rows} answers {}", String::from_utf8_lossy(&line)));
             }
+            let number = exported::fresh(&mut fresh, rows as u64, 0);
+            if number != 5 || fresh != short {
+                return Err(format!("{len} bytes of {fill}: the exported fresh at max {rows} returns {number}"));
+            }
         }
     }
-    println!("bad-states: {} states not sound, {} sound; {} calls refused by 1, the memory as it was", tried.unsound, tried.sound, tried.refused);
+    println!(
+        "bad-states: {} states not sound, {} sound; {} calls refused by 1, the memory as it was; {} made sound by fresh",
+        tried.unsound, tried.sound, tried.refused, tried.renewed
+    );
     Ok(())
 }
 

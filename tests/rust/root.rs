@@ -1,10 +1,13 @@
 //! The crate around the original files: what they name under `crate::`, and the driver; with `--cfg stream`
-//! the driver of tests/stream-against-rust beside it, which uses its parts.
+//! the driver of tests/stream-against-rust beside it, which uses its parts; with `--cfg bench` the benchmark in their place.
 #![allow(dead_code, unused_imports)]
 
 extern crate alloc;
 
+#[cfg(bench)]
+mod bench;
 mod cache;
+#[cfg(not(bench))]
 mod driver;
 #[cfg(stream)]
 mod stream;
@@ -72,7 +75,7 @@ mod utils {
     pub mod hash;
 }
 
-#[cfg(not(stream))]
+#[cfg(not(any(stream, bench)))]
 fn main() -> std::process::ExitCode {
     driver::main()
 }
@@ -80,4 +83,9 @@ fn main() -> std::process::ExitCode {
 #[cfg(stream)]
 fn main() -> std::process::ExitCode {
     stream::main()
+}
+
+#[cfg(bench)]
+fn main() -> std::process::ExitCode {
+    bench::main()
 }

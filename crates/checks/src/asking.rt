@@ -11,8 +11,10 @@ use types::stats::CacheStats;
 // The calls that need a sound state.
 pub const CALLS: u64 = 21;
 
-// fresh for 3 entries.
-pub const FRESH_3: u64 = 99;
+// fresh for 2 entries, which fit 3 rows, and for 3, which do not.
+pub const FRESH_2: u64 = 21;
+
+pub const FRESH_3: u64 = 22;
 
 const TIME: u64 = 10;
 
@@ -141,6 +143,7 @@ pub fn ask(memory: &mut [u8], call: u64) -> Said {
         18 => stats(memory, 2),
         19 => stats(memory, 3),
         20 => next_expiry(memory),
+        21 => refused(fresh::fresh(memory, 2, 300)),
         _ => refused(fresh::fresh(memory, 3, 300)),
     }
 }

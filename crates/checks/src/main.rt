@@ -1,10 +1,11 @@
 // The calls that need no room, on a fresh, a full and a foreign state; on unsound states, each condition in turn; on memory
-// of every length up to 3 rows, and of 1,025 rows. What it prints is held to `stdout`.
+// of every length up to 3 rows, and of 1,025 rows. A fresh that is done, on all of these states. What it prints is held to `stdout`.
 mod asking;
 mod lines;
 mod states;
 
 use asking::CALLS;
+use asking::FRESH_2;
 use states::BAD_STATES;
 ghost use mathlib.Core.Path.{_≡_};
 ghost use Prim.Native.Nat.{_≤_};
@@ -25,9 +26,10 @@ fn answer(kind: u64, call: u64) {
     lines::last(lines::sum(&memory));
 }
 
+// The calls, and fresh.
 fn answers(kind: u64) {
     let mut call = 0;
-    while call < CALLS {
+    while call <= FRESH_2 {
         answer(kind, call);
         call += 1;
     }
@@ -58,6 +60,17 @@ fn refusals(memory: &mut [u8], before: &[u8]) -> u64
     count
 }
 
+// 1 if fresh is done, and what it leaves is a sound state, else 0.
+fn renewed(memory: &mut [u8]) -> u64 {
+    let said = asking::ask(memory, FRESH_2);
+    if (said.refusal == 0) & soundness::is_sound(memory) {
+        1
+    } else {
+        0
+    }
+}
+
+// How many calls refuse it; whether fresh makes it sound, and a sum over the memory then.
 fn bad_state(number: u64) {
     let mut memory = io::buffer();
     let mut before = io::buffer();
@@ -67,7 +80,9 @@ fn bad_state(number: u64) {
     states::spoil(&mut before, number);
     lines::number(states::BAD);
     lines::number(number);
-    lines::last(refusals(&mut memory, &before));
+    lines::number(refusals(&mut memory, &before));
+    lines::number(renewed(&mut memory));
+    lines::last(lines::sum(&memory));
 }
 
 fn bad_states() {

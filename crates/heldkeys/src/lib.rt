@@ -10,6 +10,7 @@ use memory::row;
 use memory::rows::remove_row;
 use newkeys::reject;
 use newkeys::row_weight;
+use paths::path::path_is;
 use raw::numbers::wide;
 use room::victims::make_room;
 use stamps::row::BY_USE;
@@ -23,7 +24,6 @@ ghost use mathlib.Core.Path.{_≡_};
 ghost use mathlib.Core.Bool.{true, false, cond};
 ghost use Prim.Native.Nat.{_+_, _*_, _-_, _≤_, _<_, max};
 ghost use lib.ListN.{length};
-ghost use Rattle.coord.specs.Paths.{samePath};
 ghost use Rattle.rules.specs.Records.{byUse, probation};
 ghost use Rattle.rules.specs.Rows.{rowSize, rowAt, inMain};
 ghost use Rattle.rules.specs.Sound.{sound};
@@ -35,21 +35,12 @@ ghost use Rattle.rules.specs.Memory.{headSize, capacity, viewRows};
 ghost use Rattle.filing.specs.Filings.{Writable};
 ghost use Rattle.newkeys.specs.Placements.{Placing, Holds, promotedAs, promotion, growth};
 
-// Whether row i's path and this one are the same: no field differs.
-fn is_path(state: &[u8], n: usize, i: usize, path: Path) -> bool
-    requires { ⌜ (i < n) × (headSize + n * rowSize ≤ length (now state)) ⌝ }
-    ensures { λ r. ⌜ r ≡ samePath (rowAt i (viewRows n (now (state .entry)) .rows) .entry .path) path ⌝ }
-{
-    let held = paths::path::load_path(state, n, i);
-    held.same_as(path)
-}
-
 // Changed where the path differs from the new one, else Unchanged.
 fn held_outcome(state: &[u8], n: usize, i: usize, path: Path) -> HintOutcome
     requires { ⌜ (i < n) × (headSize + n * rowSize ≤ length (now state)) ⌝ }
     ensures { λ r. ⌜ r ≡ heldOutcome path (rowAt i (viewRows n (now (state .entry)) .rows)) ⌝ }
 {
-    if is_path(state, n, i, path) {
+    if path_is(state, n, i, path) {
         HintOutcome::Unchanged
     } else {
         HintOutcome::Changed
@@ -234,7 +225,7 @@ fn stays_verified(state: &[u8], n: usize, i: usize, path: Path, time: u64, state
     if !stated {
         return true;
     }
-    is_path(state, n, i, path)
+    path_is(state, n, i, path)
 }
 
 pub fn place_held(

@@ -1,4 +1,6 @@
-// The lent memory: a head and rows. Every contract is an equation on the view of the memory; no byte is mentioned above this crate.
+// The lent memory: a head and rows. Contracts are equations on the view of the memory, but for `copy_row`'s, which is on its bytes. The
+// crates above read and set the fields of a standing row by these functions; keys, paths and whole rows they read and write as bytes
+// too: `insertion`, `paths`, `search`, `soundness::key`, `filing::file::save_row`.
 pub mod head;
 pub mod row;
 pub mod rows;

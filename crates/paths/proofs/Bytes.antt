@@ -1,16 +1,19 @@
 -- Bytes of a cut: compared with an address, copied, and read as a path element.
 use mathlib.Core.Path.{_≡_, refl, sym, ap, _∙_}
-use mathlib.Core.Bool.{Bool, true, false}
+use mathlib.Core.Bool.{Bool, true, false, _&&_}
 use mathlib.Core.List.{List, [], _∷_, _++_, append-nil}
 use Prim.Native.Nat.{ℕ, zero, suc, _+_, _≤_, _<_}
 use native.Mathlib.Nat.{le-of-suc-le-suc, not-suc-le-zero}
 use native.Mathlib.Numerals.{add-one}
 use native.Mathlib.Omega.{arith}
+use lib.Dec.{eqb}
+use borrow.Author.Tests.{eqb-true, eqb-false}
 use lib.ListN.{length, take, drop, getD, set, drop-of-length-le}
 use lib.Seq.{getD-drop, getD-take, take-all}
 use Rattle.coord.specs.declared.node_addr.NodeAddr.{NodeAddr}
 use Rattle.coord.specs.declared.coord.CoordEntry.{CoordEntry}
 use Rattle.coord.specs.Addresses.{sameAddr, sameBytes}
+use Rattle.coord.specs.Paths.{sameEntry}
 use Rattle.coord.proofs.Laws.{same-stop, same-go, same-end}
 use Rattle.rules.specs.Memory.{cut, leNumber, coordEntryOf}
 use Rattle.rules.proofs.Addresses.{same-eq, same-true, same-false, same-ne}
@@ -23,14 +26,27 @@ cut-byte at w i l h = sym (getD-drop at l i 0) ∙ sym (getD-take w (drop at l) 
 -- ---- sixteen bytes against an address: a turn of the loop, and its end
 
 module _ (x l : List ℕ) (at i : ℕ) (hx : length x ≡ 16) (hl : at + 16 ≤ length l) where
-  pub addr-stop : i < 16 → (getD x i 0 ≡ getD l (at + i) 0 → ⊥) → sameBytes (drop i x) (drop i (cut at 16 l)) ≡ false
-  addr-stop h n = same-stop x (cut at 16 l) i (omega arith) (omega (arith, length-cut at 16 l hl)) (λ e. n (e ∙ sym (cut-byte at 16 i l h)))
-
-  pub addr-go : i < 16 → getD x i 0 ≡ getD l (at + i) 0 → sameBytes (drop i x) (drop i (cut at 16 l)) ≡ sameBytes (drop (i + 1) x) (drop (i + 1) (cut at 16 l))
-  addr-go h e = same-go x (cut at 16 l) i (omega arith) (omega (arith, length-cut at 16 l hl)) (e ∙ cut-byte at 16 i l h)
+  pub addr-turn : i < 16 → sameBytes (drop i x) (drop i (cut at 16 l)) ≡ (eqb (getD x i 0) (getD l (at + i) 0) && sameBytes (drop (i + 1) x) (drop (i + 1) (cut at 16 l)))
+  addr-turn h = go (eqb (getD x i 0) (getD l (at + i) 0)) refl
+    where
+      go : (b : Bool) → eqb (getD x i 0) (getD l (at + i) 0) ≡ b → sameBytes (drop i x) (drop i (cut at 16 l)) ≡ (b && sameBytes (drop (i + 1) x) (drop (i + 1) (cut at 16 l)))
+      go true e = same-go x (cut at 16 l) i (omega arith) (omega (arith, length-cut at 16 l hl)) (eqb-true _ _ e ∙ cut-byte at 16 i l h)
+      go false e = same-stop x (cut at 16 l) i (omega arith) (omega (arith, length-cut at 16 l hl)) (λ q. eqb-false _ _ e (q ∙ sym (cut-byte at 16 i l h)))
 
   pub addr-end : 16 ≤ i → sameBytes (drop i x) (drop i (cut at 16 l)) ≡ true
   addr-end h = same-end x (cut at 16 l) i (omega arith) (omega (arith, length-cut at 16 l hl))
+
+-- what was compared, with one byte more
+pub addr-more : (t a b c : Bool) → t ≡ (a && b) → b ≡ c → t ≡ (a && c)
+addr-more t a b c e f = e ∙ ap (λ (x : Bool). a && x) f
+
+pub and-in : (a b c : Bool) → (a && (b && c)) ≡ ((a && b) && c)
+and-in true b c = refl
+and-in false b c = refl
+
+pub and-true : (a : Bool) → (a && true) ≡ a
+and-true true = refl
+and-true false = refl
 
 pub same-sym : (a b : NodeAddr) → sameAddr a b ≡ sameAddr b a
 same-sym a b = go (sameAddr a b) refl
@@ -70,3 +86,11 @@ element-addr at l = ap (λ (x : CoordEntry). x .«node_addr») (element-bytes at
 pub element-made : (at : ℕ) (l : List ℕ) {a : NodeAddr} {s t : ℕ} → a ≡ record { 0 = cut at 16 l } → s ≡ leNumber (cut (at + 16) 8 l) → t ≡ leNumber (cut (at + 24) 8 l)
     → _≡_ {A = CoordEntry} (record { «node_addr» = a; sequence = s; timestamp = t }) (coordEntryOf (cut at 32 l))
 element-made at l p q r = rw (p, q, r) (sym (element-bytes at l))
+
+-- every field of an element against another's
+pub element-same : (at : ℕ) (l : List ℕ) (e : CoordEntry) {b : Bool} {s t : ℕ} → b ≡ sameAddr (e .«node_addr») (record { 0 = cut at 16 l }) → s ≡ leNumber (cut (at + 16) 8 l) → t ≡ leNumber (cut (at + 24) 8 l)
+    → (b && (eqb s (e .sequence) && eqb t (e .timestamp))) ≡ sameEntry (coordEntryOf (cut at 32 l)) e
+unfolding sameEntry
+element-same at l e {b} {s} {t} p q r =
+    ap (λ (x : Bool). x && (eqb s (e .sequence) && eqb t (e .timestamp))) (p ∙ same-sym (e .«node_addr») (record { 0 = cut at 16 l }))
+    ∙ ap (λ (x : CoordEntry). sameEntry x e) (element-made at l refl q r)

@@ -1,8 +1,8 @@
 -- The path of row i of n: its places in the memory, and its elements.
 use mathlib.Core.Path.{_≡_, refl, ap, _∙_}
-use mathlib.Core.Bool.{true, false, _||_}
+use mathlib.Core.Bool.{true, false, _&&_, _||_}
 use mathlib.Core.List.{List}
-use Prim.Native.Nat.{ℕ, zero, suc, _+_, _*_, _-_, _≤_, _<_}
+use Prim.Native.Nat.{ℕ, zero, suc, _+_, _*_, _-_, _≤_, _<_, min}
 use native.Mathlib.Nat.{le-of-suc-le-suc, not-suc-le-zero}
 use native.Mathlib.Omega.{arith}
 use lib.ListN.{length, take, drop, getD, length-take}
@@ -11,8 +11,8 @@ use Rattle.coord.specs.declared.node_addr.NodeAddr.{NodeAddr}
 use Rattle.coord.specs.declared.coord.CoordEntry.{CoordEntry}
 use Rattle.coord.specs.declared.coord.Path.{Path}
 use Rattle.coord.specs.Addresses.{sameAddr}
-use Rattle.coord.specs.Paths.{elements, among, rootOf}
-use Rattle.coord.proofs.Laws.{entryAt, among-turn, last-element}
+use Rattle.coord.specs.Paths.{elements, sameEntry, sameEntries, among, rootOf}
+use Rattle.coord.proofs.Laws.{entryAt, entries-turn, among-turn, last-element}
 use Rattle.rules.specs.Records.{Row}
 use Rattle.rules.specs.Rows.{rowAt}
 use Rattle.rules.specs.Memory.{cut, coordEntryOf, coordEntriesOf, pathOf, entryOf, rowOf, viewRows}
@@ -63,9 +63,19 @@ module _ (n i : ℕ) (l : List ℕ) (h : i < n) where
   place-addr : (k : ℕ) → k < 32 → entryAt (rowPath n i l) k .«node_addr» ≡ record { 0 = cut (40 + i * 1095 + 17 + k * 32) 16 l }
   place-addr k g = ap (λ (x : CoordEntry). x .«node_addr») (place-at k _ g) ∙ element-addr (40 + i * 1095 + 17 + k * 32) l
 
-  pub elements-length : rowPath n i l .len ≤ 32 → length (elements (rowPath n i l)) ≡ rowPath n i l .len
+  pub elements-count : length (elements (rowPath n i l)) ≡ min (rowPath n i l .len) 32
   unfolding elements
-  elements-length g = length-take (rowPath n i l .len) (rowPath n i l .entries) ∙ omega (arith, places-length)
+  elements-count = length-take (rowPath n i l .len) (rowPath n i l .entries) ∙ ap (min (rowPath n i l .len)) places-length
+
+  pub elements-length : rowPath n i l .len ≤ 32 → length (elements (rowPath n i l)) ≡ rowPath n i l .len
+  elements-length g = elements-count ∙ omega arith
+
+  -- a turn of the comparison with another path
+  pub path-turn : (q : Path) (k : ℕ) → k < 32 → k < length (elements (rowPath n i l)) → k < length (elements q)
+      → sameEntries (drop k (elements (rowPath n i l))) (drop k (elements q)) ≡ (sameEntry (coordEntryOf (cut (40 + i * 1095 + 17 + k * 32) 32 l)) (entryAt q k) && sameEntries (drop (k + 1) (elements (rowPath n i l))) (drop (k + 1) (elements q)))
+  path-turn q k g hp hq =
+      entries-turn (rowPath n i l) q k hp hq
+      ∙ ap (λ (x : CoordEntry). sameEntry x (entryAt q k) && sameEntries (drop (k + 1) (elements (rowPath n i l))) (drop (k + 1) (elements q))) (place-at k _ g)
 
   -- a turn of the search for an address
   search-turn : (a : NodeAddr) (k : ℕ) → rowPath n i l .len ≤ 32 → k < rowPath n i l .len

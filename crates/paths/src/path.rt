@@ -10,7 +10,7 @@ ghost use mathlib.Core.Path.{_≡_};
 ghost use Prim.Native.Nat.{_+_, _*_, _≤_, _<_};
 ghost use lib.ListN.{length};
 ghost use Rattle.coord.specs.Addresses.{sameAddr};
-ghost use Rattle.coord.specs.Paths.{pathPlaces, contains, rootOf};
+ghost use Rattle.coord.specs.Paths.{pathPlaces, elements, samePath, contains, rootOf};
 ghost use Rattle.rules.specs.Rows.{rowSize, rowAt};
 ghost use Rattle.rules.specs.Memory.{headSize, entryOffset, placesOffset, coordEntrySize, viewRows};
 
@@ -18,6 +18,36 @@ ghost use Rattle.rules.specs.Memory.{headSize, entryOffset, placesOffset, coord
 pub struct PathPlace {
     pub at: usize,
     pub bytes: usize,
+}
+
+// How many places hold an element. A length past the last place means all of them.
+fn held_elements(state: &[u8], n: usize, i: usize) -> usize
+    requires { ⌜ (i < n) × (headSize + n * rowSize ≤ length (now state)) ⌝ }
+    ensures { λ r. ⌜ (r ≡ length (elements (rowAt i (viewRows n (now (state .entry)) .rows) .entry .path))) × (r ≤ pathPlaces) ⌝ }
+{
+    let len = row::path_len(state, n, i) as usize;
+    if len < 32 { len } else { 32 }
+}
+
+// Whether row i's path and this one are the same, element by element, where it stands.
+pub fn path_is(state: &[u8], n: usize, i: usize, path: Path) -> bool
+    requires { ⌜ (i < n) × (headSize + n * rowSize ≤ length (now state)) ⌝ }
+    ensures { λ r. ⌜ r ≡ samePath (rowAt i (viewRows n (now (state .entry)) .rows) .entry .path) path ⌝ }
+{
+    let held = held_elements(state, n, i);
+    if held != path.count() {
+        return false;
+    }
+    let places = HEAD + i * ROW + 17;
+    let mut k = 0;
+    while k < held {
+        let e = path.entries[k];
+        if !addr::coord_entry_at(state, places + k * 32, e) {
+            return false;
+        }
+        k += 1;
+    }
+    true
 }
 
 // Whether an element up to the length has the address.

@@ -18,6 +18,7 @@ use Rattle.rules.proofs.SoundTest.{RowOk, sound-is}
 use Rattle.rules.proofs.Moves.{ready}
 use Rattle.rules.proofs.Walks.{Going, Led, back-core, choose-led, not-at, start-led}
 use Rattle.rules.proofs.Loops.{choose-done}
+use Rattle.sweep.proofs.Sweeping.{only-rows, rows-same}
 use Rattle.sweep.specs.Sweep.{PathFit, PathsFit, keptRows, sweepTest}
 use Rattle.stamps.specs.Walked.{walkFrom}
 use Rattle.room.specs.declared.victims.Chosen.{Chosen as ChosenAnswer}
@@ -36,14 +37,6 @@ keep-every : (q : ℕ) (rs : List Row) → Every (RowOk q) rs → keepRows (λ r
 unfolding keepRows
 keep-every q [] h = refl
 keep-every q (r ∷ rs) h = let n = not-at aside r (λ e. let z : ⊥ = omega (arith, h .0 .place) in z) in rw n (ap (λ (xs : List Row). r ∷ xs) (keep-every q rs (h .1)))
-
-only-rows : (rs : List Row) (s : State) → length rs ≡ length (s .rows) → s .storedWeight ≡ weighRows inMain rs → s .rowCount ≡ length (s .rows) → withRows rs s ≡ withOnlyRows rs s
-unfolding withRows withOnlyRows zeroRows
-only-rows rs s l w c = let z : length (s .rows) - length rs ≡ 0 = omega arith in rw (z, ← w, l, ← c)
-
-rows-same : (s : State) → withRows (s .rows) s ≡ s
-unfolding withRows
-rows-same s = refl
 
 pub room-there : (now w n R m count stored x : ℕ) (s : State) (b : Bool) → sound R s ≡ true → m ≡ s .maxEntries → count ≡ mainCount s → stored ≡ s .storedWeight → x ≡ min w (weightBound m) → b ≡ ltb count m && leb (stored + x) (weightBound m) → b ≡ true
     → roomOf (record { made = true; rows = n; examined = 0 }) s ≡ makeRoom now w s

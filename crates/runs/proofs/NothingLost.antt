@@ -12,7 +12,7 @@ use borrow.Author.Tests.{eqb-false, eqb-true, ltb-true}
 use Rattle.rules.specs.Cases.{maybe, Every}
 use Rattle.rules.specs.Commands.{Code, Decoded, Line, code, codeOf, codes, decode, line, lineText}
 use Rattle.rules.proofs.Addresses.{contradiction}
-use Rattle.rules.proofs.RowLists.{by-cond, cond-some}
+use Rattle.rules.proofs.RowLists.{cond-some}
 use Rattle.decoding.specs.Widths.{widthOf}
 use Rattle.decoding.specs.OnMemory.{Held, Obeyed, obey, obeyByte, refusedSix}
 use Rattle.runs.specs.declared.Stop.{Stop}
@@ -80,17 +80,22 @@ past b bs = drop (operands b bs) bs
 abbrev later : ℕ → Bool → ℕ → Held → ℕ → List ℕ → RunEnd
 later n last room h b bs = runPart n last (room - length (lineText (first h b bs))) (obeyByte h b bs .held) (past b bs)
 
--- no room; cut short while more may follow; a 6; any other command
-by-part : (P : RunEnd → Type 0) (n : ℕ) (last : Bool) (room : ℕ) (h : Held) (b : ℕ) (bs : List ℕ) → (room < 129 → P (stopped Full h)) → (not last && cutShort b bs ≡ true → P (stopped Cut h))
-    → (not last && cutShort b bs ≡ false → obeyByte h b bs .reply .refusal ≡ 6 → P (andThen (first h b bs) (1 + operands b bs) (stopped Six (obeyByte h b bs .held))))
-    → ((obeyByte h b bs .reply .refusal ≡ 6 → ⊥) → P (andThen (first h b bs) (1 + operands b bs) (later n last room h b bs)))
-    → P (runPart (suc n) last room h (b ∷ bs))
-unfolding runPart
-by-part P n last room h b bs full cut six on =
-    let r = obeyByte h b bs .reply .refusal in
-    by-cond P (ltb room lineRoom) (λ x. full (ltb-true room lineRoom x))
-    (λ x. by-cond P (not last && cutShort b bs) cut
-    (λ y. by-cond (λ (e : RunEnd). P (andThen (first h b bs) (1 + operands b bs) e)) (eqb r 6) (λ z. six y (eqb-true r 6 z)) (λ z. on (eqb-false r 6 z))))
+-- what a run meets at a command: no room; one cut short while more may follow; a 6; any other
+by-way : {Q : Type 0} (last : Bool) (room : ℕ) (h : Held) (b : ℕ) (bs : List ℕ) → let full = ltb room lineRoom in let waits = not last && cutShort b bs in let n = obeyByte h b bs .reply .refusal in
+    (full ≡ true → Q) → (full ≡ false → last ≡ false → cutShort b bs ≡ true → Q) → (full ≡ false → waits ≡ false → n ≡ 6 → Q) → (full ≡ false → waits ≡ false → eqb n 6 ≡ false → Q) → Q
+by-way {Q} last room h b bs f g s o = split (ltb room lineRoom) f (λ x. two last (cutShort b bs) (g x) (λ y. split (eqb n 6) (λ z. s x y (eqb-true n 6 z)) (o x y)))
+  where
+    n : ℕ
+    n = obeyByte h b bs .reply .refusal
+
+    split : (a : Bool) → (a ≡ true → Q) → (a ≡ false → Q) → Q
+    split true f g = f refl
+    split false f g = g refl
+
+    two : (l c : Bool) → (l ≡ false → c ≡ true → Q) → (not l && c ≡ false → Q) → Q
+    two true c f g = g refl
+    two false true f g = f refl refl
+    two false false f g = g refl
 
 past-shorter : (b : ℕ) (bs : List ℕ) → length (past b bs) ≤ length bs
 past-shorter b bs = rw (length-drop (operands b bs) bs) (omega arith)
@@ -134,8 +139,8 @@ kept zero last room h (b ∷ bs) more i f = absurd (let z : ⊥ = omega arith in
 kept (suc n) last room h [] more i f = refl
 kept (suc n) last room h (b ∷ bs) more i f =
     let ih = kept n last (room - length (lineText (first h b bs))) (obeyByte h b bs .held) (past b bs) more (omega (arith, past-shorter b bs)) f in
-    by-part (λ (e : RunEnd). Kept (e .stop) h (b ∷ bs) more e) n last room h b bs (λ x. refl) (λ y. refl) (λ y z. six-ends h b bs more (only-last last (cutShort b bs) more f y) z)
-    (λ z. kept-on (later n last room h b bs .stop) h b bs more (later n last room h b bs) z ih)
+    by-way last room h b bs (λ x. rw x) (λ x l c. rw (x, c, l)) (λ x y z. rw (x, y, z) (six-ends h b bs more (only-last last (cutShort b bs) more f y) z))
+    (λ x y z. rw (x, y, z) (kept-on (later n last room h b bs .stop) h b bs more (later n last room h b bs) (eqb-false _ 6 z) ih))
 
 -- ---- what a part has done is the stream of the bytes that it used
 
@@ -156,8 +161,8 @@ done-so-far zero last room h bs = λ x. refl
 done-so-far (suc n) last room h [] = λ x. refl
 done-so-far (suc n) last room h (b ∷ bs) =
     let ih = done-so-far n last (room - length (lineText (first h b bs))) (obeyByte h b bs .held) (past b bs) in
-    by-part (λ (e : RunEnd). (e .stop ≡ Six → ⊥) → toEnd h (take (e .used) (b ∷ bs)) ≡ over e) n last room h b bs (λ x s. refl) (λ y s. refl) (λ y z s. absurd (s refl))
-    (λ z s. ap (toEnd h) (front-used b (operands b bs) (later n last room h b bs .used) bs) ∙ own-first h b bs (take (later n last room h b bs .used) (past b bs)) z ∙ ap (behind (first h b bs ∷ [])) (ih s))
+    by-way last room h b bs (λ x. rw x (λ s. refl)) (λ x l c. rw (x, c, l) (λ s. refl)) (λ x y z. rw (x, y, z) (λ s. absurd (s refl)))
+    (λ x y z. rw (x, y, z) (λ s. ap (toEnd h) (front-used b (operands b bs) (later n last room h b bs .used) bs) ∙ own-first h b bs (take (later n last room h b bs .used) (past b bs)) (eqb-false _ 6 z) ∙ ap (behind (first h b bs ∷ [])) (ih s)))
 
 -- ---- the bytes used
 
@@ -176,7 +181,7 @@ used-there (suc n) last room h [] = omega arith
 used-there (suc n) last room h (b ∷ bs) =
     let ih = used-there n last (room - length (lineText (first h b bs))) (obeyByte h b bs .held) (past b bs) in
     let k = operands-there b bs in
-    by-part (λ (e : RunEnd). e .used ≤ suc (length bs)) n last room h b bs (λ x. omega arith) (λ y. omega arith) (λ y z. omega arith) (λ z. omega (arith, length-drop (operands b bs) bs))
+    by-way last room h b bs (λ x. rw x (omega arith)) (λ x l c. rw (x, c, l) (omega arith)) (λ x y z. rw (x, y, z) (omega arith)) (λ x y z. rw (x, y, z) (omega (arith, length-drop (operands b bs) bs)))
 
 ends-used : (n : ℕ) (last : Bool) (room : ℕ) (h : Held) (bs : List ℕ) → length bs ≤ n → runPart n last room h bs .stop ≡ End → runPart n last room h bs .used ≡ length bs
 unfolding runPart stopped andThen
@@ -185,7 +190,7 @@ ends-used zero last room h (b ∷ bs) i = absurd (let z : ⊥ = omega arith in z
 ends-used (suc n) last room h [] i = λ e. refl
 ends-used (suc n) last room h (b ∷ bs) i =
     let ih = ends-used n last (room - length (lineText (first h b bs))) (obeyByte h b bs .held) (past b bs) (omega (arith, past-shorter b bs)) in
-    by-part (λ (e : RunEnd). e .stop ≡ End → e .used ≡ suc (length bs)) n last room h b bs (λ x e. cc) (λ y e. cc) (λ y z e. cc) (λ z e. omega (arith, ih e, length-drop (operands b bs) bs, operands-there b bs))
+    by-way last room h b bs (λ x. rw x (λ e. cc)) (λ x l c. rw (x, c, l) (λ e. cc)) (λ x y z. rw (x, y, z) (λ e. cc)) (λ x y z. rw (x, y, z) (λ e. omega (arith, ih e, length-drop (operands b bs) bs, operands-there b bs)))
 
 -- ---- a command cut short
 
@@ -213,12 +218,8 @@ cut-left zero last room h bs = λ e. contradiction {b = true} refl (cc)
 cut-left (suc n) last room h [] = λ e. contradiction {b = true} refl (cc)
 cut-left (suc n) last room h (b ∷ bs) =
     let ih = cut-left n last (room - length (lineText (first h b bs))) (obeyByte h b bs .held) (past b bs) in
-    by-part (λ (e : RunEnd). e .stop ≡ Cut → (last ≡ false) × (suc (length bs) ≤ e .used + 33)) n last room h b bs (λ x e. contradiction {b = true} refl (cc)) (λ y e. to-come last (cutShort b bs) y (cut-short b bs))
-    (λ y z e. contradiction {b = true} refl (cc)) (λ z e. (ih e .0, omega (arith, ih e .1, length-drop (operands b bs) bs)))
-  where
-    to-come : (a c : Bool) → not a && c ≡ true → (c ≡ true → length bs < 33) → (a ≡ false) × (suc (length bs) ≤ 0 + 33)
-    to-come true c g k = contradiction g refl
-    to-come false c g k = (refl, omega (arith, k g))
+    by-way last room h b bs (λ x. rw x (λ e. contradiction {b = true} refl (cc))) (λ x l c. rw (x, c, l) (λ e. (refl, omega (arith, cut-short b bs c))))
+    (λ x y z. rw (x, y, z) (λ e. contradiction {b = true} refl (cc))) (λ x y z. rw (x, y, z) (λ e. (ih e .0, omega (arith, ih e .1, length-drop (operands b bs) bs))))
 
 -- ---- the theorems
 
@@ -279,7 +280,12 @@ nothing-lost-at-last room h bs =
 pub part-done : (last : Bool) (room : ℕ) (h : Held) (bs : List ℕ) → let e = runPart (length bs) last room h bs in (e .stop ≡ Six → ⊥) → toEnd h (take (e .used) bs) ≡ over e
 part-done last room h bs = done-so-far (length bs) last room h bs
 
+-- and where a 6 ended the part, the whole stream, whatever bytes stand behind the 6
+pub part-done-by-six : (last : Bool) (room : ℕ) (h : Held) (bs : List ℕ) → let e = runPart (length bs) last room h bs in e .stop ≡ Six → toEnd h bs ≡ over e
+part-done-by-six true room h bs = nothing-lost-at-last room h bs .six
+part-done-by-six false room h bs = λ s. sym (ap (toEnd h) (append-nil bs)) ∙ nothing-lost room h bs .six s []
+
 -- A RUN GETS ON: with room for a line, and a first command that is whole, unknown, or the last, it uses bytes
 pub gets-on : (last : Bool) (room : ℕ) (h : Held) (b : ℕ) (bs : List ℕ) → lineRoom ≤ room → not last && cutShort b bs ≡ false → 1 ≤ runPart (length (b ∷ bs)) last room h (b ∷ bs) .used
-unfolding stopped andThen
-gets-on last room h b bs r c = by-part (λ (e : RunEnd). 1 ≤ e .used) (length bs) last room h b bs (λ x. absurd (let z : ⊥ = omega arith in z)) (λ y. contradiction y c) (λ y z. omega arith) (λ z. omega arith)
+unfolding runPart stopped andThen
+gets-on last room h b bs r c = by-way last room h b bs (λ x. absurd (let z : ⊥ = omega (arith, ltb-true room lineRoom x) in z)) (λ x l y. let z : not last && cutShort b bs ≡ true = rw (l, y) in contradiction z c) (λ x y z. rw (x, y, z) (omega arith)) (λ x y z. rw (x, y, z) (omega arith))

@@ -36,7 +36,7 @@ use Rattle.runs.specs.declared.Stop.the-variants.{Six}
 use Rattle.runs.specs.Runs.{Run, runAll, runPart}
 use Rattle.runs.specs.Streams.{DemandSince, Since, asked, begun, pendingAfter, repliesShown, repliesTo, requestsFrom, requestsOf, serving, since, then, toEnd}
 use Rattle.runs.proofs.OneCommand.{obeyed-below-six, takes-operands}
-use Rattle.runs.proofs.NothingLost.{part-done}
+use Rattle.runs.proofs.NothingLost.{part-done, part-done-by-six}
 use Rattle.runs.proofs.OnStates.{HeldFits, decoded-fits, left-bytes, on-states, sessionOf}
 
 -- ---- its requests
@@ -215,13 +215,20 @@ third-demand-of-stream l m ttl p bs y hm ht f z done =
     let w = memory-after (length bs) h bs in
     record { memory = w; replies = replies-shown (length bs) h bs; demand = rw w (third-demand-of-requests l m ttl (requestsOf p bs) y hm ht (requests-fit (length bs) p bs f z) done) }
 
--- AND AT THE END OF EVERY PART OF A RUN: at the memory that is handed back for want of output or input
+-- AND AT THE END OF EVERY PART OF A RUN: at the memory that is handed back at the end of the input, or for want of output or input
 pub third-demand-of-part : (l : List ℕ) (m ttl : ℕ) (p : Path) (last : Bool) (room : ℕ) (bs : List ℕ) → Bytes l → Small 8 m → Small 8 ttl → PathFits p → Bytes bs → wasRefused (lent l (Fresh m ttl) .answer) ≡ false
     → let h = held (lent l (Fresh m ttl) .memory) p in let e = runPart (length bs) last room h bs in (e .stop ≡ Six → ⊥) → DemandSince (since (begun ttl) (serving h (take (e .used) bs) .served)) (e .held .memory)
 third-demand-of-part l m ttl p last room bs y hm ht f z done =
     let h = held (lent l (Fresh m ttl) .memory) p in
     let e = runPart (length bs) last room h bs in
     λ s. subst (λ (k : List ℕ). DemandSince (since (begun ttl) (serving h (take (e .used) bs) .served)) k) (ap (λ (r : Run). r .held .memory) (part-done last room h bs s)) (third-demand-of-stream l m ttl p (take (e .used) bs) y hm ht f (bytes-take (e .used) bs z) done .demand)
+
+-- and after a 6: the requests of the part are then those before the 6
+pub third-demand-after-six : (l : List ℕ) (m ttl : ℕ) (p : Path) (last : Bool) (room : ℕ) (bs : List ℕ) → Bytes l → Small 8 m → Small 8 ttl → PathFits p → Bytes bs → wasRefused (lent l (Fresh m ttl) .answer) ≡ false
+    → let h = held (lent l (Fresh m ttl) .memory) p in let e = runPart (length bs) last room h bs in e .stop ≡ Six → DemandSince (since (begun ttl) (serving h bs .served)) (e .held .memory)
+third-demand-after-six l m ttl p last room bs y hm ht f z done =
+    let h = held (lent l (Fresh m ttl) .memory) p in
+    λ s. subst (λ (k : List ℕ). DemandSince (since (begun ttl) (serving h bs .served)) k) (ap (λ (r : Run). r .held .memory) (part-done-by-six last room h bs s)) (third-demand-of-stream l m ttl p bs y hm ht f z done .demand)
 
 requests-join : (l : List ℕ) (xs ys : List Request) → requests l (xs ++ ys) .memory ≡ requests (requests l xs .memory) ys .memory
 unfolding requests

@@ -3,7 +3,7 @@ use mathlib.Core.Path.{_≡_, refl, sym, ap, _∙_, subst}
 use Prim.Native.Nat.{ℕ, zero, suc, _+_, _*_, _-_, _/_, _%_, _≤_, _<_, min}
 use native.Mathlib.Omega.{arith}
 use native.Mathlib.Numerals.{add-one}
-use native.Mathlib.Nat.{add-mul, mul-comm, mod-lt, div-add-mod', le-of-mul-le-mul-right, mul-add-div-right, div-le-of-le-mul}
+use native.Mathlib.Nat.{mul-comm, mul-assoc, mod-lt, div-add-mod', mul-add-div-right, div-le-of-le-mul}
 use mathlib.Core.List.{List}
 use lib.ListN.{length, drop, drop-of-length-le}
 use lib.Seq.{drop-cons}
@@ -16,60 +16,76 @@ use mathlib.Core.Option.{Option, none, some}
 use Rattle.memory.proofs.RowLaws.{view-length}
 use Rattle.memory.proofs.Totals.{total-next, total-end}
 
--- ---- the exact mean: quotients and remainders by the count, apart
+-- ---- the exact mean: high and low halves, summed apart
 
 -- the largest number of 64 bits
 abbrev largest : ℕ
 largest = 18446744073709551615
 
+-- 2^32
+abbrev half : ℕ
+half = 4294967296
+
 -- at most i times the largest; kept shut, since the product's numbers are too long for a search
 unfoldable pub AtMost : ℕ → ℕ → Type 0
 AtMost x i = x ≤ i * largest
 
--- i of n ages were summed; t is the sum of those left, of T in all
+-- i of n ages were summed, q halves and r; t is the sum of those left, of T in all
 pub record Mean (n i q r t T : ℕ) : Type 0 where
   pub some-rows : 0 < n
   pub within : i ≤ n
-  pub exact : q * n + r + t ≡ T
-  pub bounded : AtMost (q * n + r) i
-  pub small : r ≤ i * 1024
+  pub exact : q * half + r + t ≡ T
+  pub bounded : AtMost (q * half + r) i
+  pub high : q ≤ i * 4294967295
+  pub low : r ≤ i * 4294967295
 
 pub mean-start : (n T : ℕ) → 0 < n → Mean n 0 0 0 T T
 unfolding AtMost
-mean-start n T h = record { some-rows = h; within = omega arith; exact = omega arith; bounded = omega arith; small = omega arith }
+mean-start n T h = record { some-rows = h; within = omega arith; exact = omega arith; bounded = omega arith; high = omega arith; low = omega arith }
 
-summed : (n q r a : ℕ) → (q + a / n) * n + (r + a % n) ≡ q * n + r + a
-summed n q r a = omega (arith, add-mul q (a / n) n, div-add-mod' a n)
-
-pub mean-turn : (n i q r a t u T : ℕ) → n ≤ 1024 → i < n → a ≤ largest → t ≡ a + u → Mean n i q r t T → Mean n (i + 1) (q + a / n) (r + a % n) u T
+pub mean-turn : (n i q r a t u T : ℕ) → n ≤ 1024 → i < n → a ≤ largest → t ≡ a + u → Mean n i q r t T → Mean n (i + 1) (q + a / half) (r + a % half) u T
 unfolding AtMost
 mean-turn n i q r a t u T k h b e m =
-    let s = summed n q r a in
-    let l = mod-lt a (m .some-rows) in
-    record { some-rows = m .some-rows; within = omega arith; exact = omega (arith, m .exact); bounded = omega (arith, m .bounded); small = omega (arith, m .small) }
+    record { some-rows = m .some-rows; within = omega arith; exact = omega (arith, m .exact); bounded = omega (arith, m .bounded); high = omega (arith, m .high); low = omega (arith, m .low) }
+
+-- the sum as a multiple of the count and what is over
+over : (n q r : ℕ) → q * half + r ≡ q / n * half * n + (q % n * half + r)
+over n q r =
+    let d = div-add-mod' q n in
+    let s : q / n * half * n ≡ q / n * n * half = mul-assoc (q / n) half n ∙ ap (λ (x : ℕ). q / n * x) (mul-comm half n) ∙ sym (mul-assoc (q / n) n half) in
+    omega (arith, d, s)
 
 -- no sum passes 64 bits
-pub quotients-fit : (n i q r t T : ℕ) → Mean n i q r t T → q ≤ largest
-unfolding AtMost
-quotients-fit n i q r t T m =
-    let w = m .within in
-    let b = m .bounded in
-    le-of-mul-le-mul-right {m = q} {n = largest} {k = n} (omega (arith, mul-comm largest n)) (m .some-rows)
+high-of : (a : ℕ) → a ≤ largest → a / half ≤ 4294967295
+high-of a h = omega arith
 
-pub mean-fits : (n q r t T : ℕ) → Mean n n q r t T → q + r / n ≤ largest
-unfolding AtMost
-mean-fits n q r t T m = subst (λ (x : ℕ). x ≤ largest) (mul-add-div-right (m .some-rows) q r) (div-le-of-le-mul n (m .bounded))
+plus-fits : (i q x : ℕ) → i ≤ 1024 → q ≤ i * 4294967295 → x ≤ 4294967295 → q + x < 18446744073709551616
+plus-fits i q x h g k = omega arith
 
-pub mean-end : (n q r T : ℕ) → Mean n n q r 0 T → q + r / n ≡ mean T n
+pub sum-fits : (n i q r t T a : ℕ) → n ≤ 1024 → a ≤ largest → Mean n i q r t T → q + a / half < 18446744073709551616
+sum-fits n i q r t T a h k m = plus-fits i q (a / half) (omega (arith, m .within)) (m .high) (high-of a k)
+
+pub high-fits : (n i q r t T : ℕ) → i ≡ n → Mean n i q r t T → q / n ≤ 4294967295
+high-fits n i q r t T e m = div-le-of-le-mul n (omega (arith, m .high, e, mul-comm n 4294967295))
+
+pub mean-fits : (n q r t T : ℕ) → Mean n n q r t T → q / n * half + (q % n * half + r) / n ≤ largest
+unfolding AtMost
+mean-fits n q r t T m =
+    let o = over n q r in
+    subst (λ (x : ℕ). x ≤ largest) (mul-add-div-right (m .some-rows) (q / n * half) (q % n * half + r)) (div-le-of-le-mul n (omega (arith, m .bounded, o)))
+
+pub mean-end : (n q r T : ℕ) → Mean n n q r 0 T → q / n * half + (q % n * half + r) / n ≡ mean T n
 unfolding mean
 mean-end zero q r T m = absurd (let z : ⊥ = omega (arith, m .some-rows) in z)
-mean-end (suc n) q r T m = sym (mul-add-div-right (m .some-rows) q r) ∙ ap (λ (x : ℕ). x / suc n) (omega (arith, m .exact))
+mean-end (suc n) q r T m =
+    let o = over (suc n) q r in
+    sym (mul-add-div-right (m .some-rows) (q / suc n * half) (q % suc n * half + r)) ∙ ap (λ (x : ℕ). x / suc n) (omega (arith, m .exact, o))
 
 -- ---- the ages of n rows
 
 pub age-turn : (l : List ℕ) (n i q r a time : ℕ) → n ≤ 1024 → i < n → time < 18446744073709551616 → a ≡ time - rowAt i (viewRows n l .rows) .entry .createdAt
     → Mean n i q r (total (λ x. time - x .entry .createdAt) (drop i (viewRows n l .rows))) (total (λ x. time - x .entry .createdAt) (viewRows n l .rows))
-    → Mean n (i + 1) (q + a / n) (r + a % n) (total (λ x. time - x .entry .createdAt) (drop (i + 1) (viewRows n l .rows))) (total (λ x. time - x .entry .createdAt) (viewRows n l .rows))
+    → Mean n (i + 1) (q + a / half) (r + a % half) (total (λ x. time - x .entry .createdAt) (drop (i + 1) (viewRows n l .rows))) (total (λ x. time - x .entry .createdAt) (viewRows n l .rows))
 age-turn l n i q r a time k h b e m =
     let f : Row → ℕ = λ x. time - x .entry .createdAt in
     let rs = viewRows n l .rows in
@@ -78,7 +94,7 @@ age-turn l n i q r a time k h b e m =
 
 pub ages-end : (l : List ℕ) (n i q r time : ℕ) → i ≡ n
     → Mean n i q r (total (λ x. time - x .entry .createdAt) (drop i (viewRows n l .rows))) (total (λ x. time - x .entry .createdAt) (viewRows n l .rows))
-    → q + r / n ≡ mean (totalAge time (viewRows n l .rows)) n
+    → q / n * half + (q % n * half + r) / n ≡ mean (totalAge time (viewRows n l .rows)) n
 unfolding totalAge
 ages-end l n i q r time e m =
     let f : Row → ℕ = λ x. time - x .entry .createdAt in

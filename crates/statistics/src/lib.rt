@@ -37,7 +37,10 @@ fn age(state: &[u8], n: usize, i: usize, time: u64) -> u64
     if created < time { time - created } else { 0 }
 }
 
-// The exact total can pass 2^64, so quotients and remainders by the count are summed apart.
+// Two to the 32nd.
+const HALF: u64 = 0x1_0000_0000;
+
+// The exact total can pass 2^64, so the high and the low halves of the ages are summed apart, and divided at the end.
 fn mean_age(state: &[u8], n: usize, time: u64) -> u64
     requires { ⌜ (n ≤ 1024) × (headSize + n * rowSize ≤ length (now state)) ⌝ }
     ensures { λ r. ⌜ r ≡ mean (totalAge time (viewRows n (now (state .entry)) .rows)) n ⌝ }
@@ -46,16 +49,17 @@ fn mean_age(state: &[u8], n: usize, time: u64) -> u64
         return 0;
     }
     let count = n as u64;
-    let mut quotients: u64 = 0;
-    let mut remainders: u64 = 0;
+    let mut high: u64 = 0;
+    let mut low: u64 = 0;
     let mut i = 0;
     while i < n {
         let a = age(state, n, i, time);
-        quotients += a / count;
-        remainders += a % count;
+        high += a / HALF;
+        low += a % HALF;
         i += 1;
     }
-    quotients + remainders / count
+    let rest = high % count * HALF + low;
+    high / count * HALF + rest / count
 }
 
 // Statistics of n rows.

@@ -1,18 +1,19 @@
 -- Sweeps and clear.
 use mathlib.Core.Path.{_≡_, refl, sym, ap, _∙_, subst}
-use Prim.Native.Nat.{ℕ, suc, _+_, _*_, _≤_, _<_}
+use Prim.Native.Nat.{ℕ, suc, _+_, _*_, _-_, _≤_, _<_}
+use native.Mathlib.Numerals.{add-one}
 use native.Mathlib.Omega.{arith}
 use mathlib.Core.List.{List, [], _∷_, _++_, append-nil}
 use mathlib.Core.Bool.{Bool, true, false, cond, not}
 use lib.ListN.{length, take, length-append}
-use lib.Seq.{sets}
+use lib.Seq.{sets, take-all, take-suc}
 use lib.Dec.{ltb, eqb}
 use borrow.Author.Tests.{lt-ltb, le-ltb, ltb-true, ltb-false, ne-eqb}
 use Rattle.coord.specs.declared.node_addr.NodeAddr.{NodeAddr}
 use Rattle.coord.specs.Addresses.{sameAddr}
 use Rattle.coord.specs.Paths.{contains, rootOf}
-use Rattle.rules.specs.Records.{Row}
-use Rattle.rules.specs.Rows.{rowAt, atPlace, keepRows, total, countRows, inMain, weighRows, withOnlyRows}
+use Rattle.rules.specs.Records.{Row, State}
+use Rattle.rules.specs.Rows.{rowAt, blankRow, atPlace, keepRows, total, countRows, inMain, weighRows, mainWeight, withRows, withOnlyRows, zeroRows}
 use Rattle.rules.specs.Entries.{expired}
 use Rattle.rules.specs.Memory.{cut, viewRows}
 use Rattle.rules.proofs.RowLists.{every-at}
@@ -148,3 +149,40 @@ swept kind time a n j w l m x h c o u v =
     let ks : List Row = keptRows kind time a (viewRows n l .rows) in
     let g : w ≡ weighRows inMain ks = u ∙ ap (weighRows inMain) (o .rows) in
     v ∙ ap (λ (y : ℕ). shrunk n j y m) g ∙ only-shrunk n j ks l m h (sym c) o
+
+-- ---- where no row matches
+
+-- i of the rows were passed, and all of them stay
+abbrev pub AllStay : ℕ → ℕ → NodeAddr → ℕ → List Row → Type 0
+AllStay kind time a i rs = keptRows kind time a (take i rs) ≡ take i rs
+
+pub stay-start : (kind time : ℕ) (a : NodeAddr) (rs : List Row) → AllStay kind time a 0 rs
+unfolding keptRows keepRows
+stay-start kind time a rs = refl
+
+pub stay-turn : (kind time : ℕ) (a : NodeAddr) (i : ℕ) (rs : List Row) → i < length rs → sweepTest kind time a (rowAt i rs) ≡ false → AllStay kind time a i rs → AllStay kind time a (i + 1) rs
+stay-turn kind time a i rs h e s =
+    let q : take (i + 1) rs ≡ take i rs ++ (rowAt i rs ∷ []) = ap (λ (k : ℕ). take k rs) (add-one i) ∙ take-suc rs i blankRow h in
+    kept-next kind time a i rs false h e ∙ ap (λ (xs : List Row). xs ++ (rowAt i rs ∷ [])) s ∙ sym q
+
+pub stay-end : (kind time : ℕ) (a : NodeAddr) (n i : ℕ) (l : List ℕ) → n ≤ i → AllStay kind time a i (viewRows n l .rows) → keptRows kind time a (viewRows n l .rows) ≡ viewRows n l .rows
+stay-end kind time a n i l h s =
+    let q : take i (viewRows n l .rows) ≡ viewRows n l .rows = take-all i (viewRows n l .rows) (omega (arith, view-length n l)) in
+    subst (λ (xs : List Row). keptRows kind time a xs ≡ xs) q s
+
+pub of-kind : (k kind time : ℕ) (a : NodeAddr) (rs : List Row) → kind ≡ k → keptRows k time a rs ≡ rs → keptRows kind time a rs ≡ rs
+of-kind k kind time a rs e h = rw e h
+
+pub only-rows : (rs : List Row) (s : State) → length rs ≡ length (s .rows) → s .storedWeight ≡ weighRows inMain rs → s .rowCount ≡ length (s .rows) → withRows rs s ≡ withOnlyRows rs s
+unfolding withRows withOnlyRows zeroRows
+only-rows rs s l w c = let z : length (s .rows) - length rs ≡ 0 = omega arith in rw (z, ← w, l, ← c)
+
+pub rows-same : (s : State) → withRows (s .rows) s ≡ s
+unfolding withRows
+rows-same s = refl
+
+pub unswept : (kind time : ℕ) (a : NodeAddr) (n : ℕ) (l : List ℕ) → viewRows n l .rowCount ≡ n → viewRows n l .storedWeight ≡ mainWeight (viewRows n l) → keptRows kind time a (viewRows n l .rows) ≡ viewRows n l .rows
+    → (n ≤ n) × (n ≡ length (keptRows kind time a (viewRows n l .rows))) × (viewRows n l ≡ withOnlyRows (keptRows kind time a (viewRows n l .rows)) (viewRows n l))
+unswept kind time a n l c w e =
+    let v = view-length n l in
+    rw e (omega arith, sym v, sym (sym (only-rows (viewRows n l .rows) (viewRows n l) refl w (c ∙ sym v)) ∙ rows-same (viewRows n l)))

@@ -1,10 +1,11 @@
 // One sweep: the rows that match leave, and the others are kept together in their order.
 use coord::node_addr::NodeAddr;
 ghost use mathlib.Core.Path.{_≡_};
-ghost use mathlib.Core.Bool.{cond};
-ghost use Prim.Native.Nat.{_+_, _*_, _-_, _≤_, _<_};
+ghost use mathlib.Core.Bool.{cond, false};
+ghost use Prim.Native.Nat.{ℕ, _+_, _*_, _-_, _≤_, _<_};
 ghost use lib.ListN.{length};
-ghost use Rattle.rules.specs.Rows.{rowSize, rowAt, inMain, weighRows, withOnlyRows};
+ghost use Rattle.coord.specs.declared.node_addr.NodeAddr.{NodeAddr as Address};
+ghost use Rattle.rules.specs.Rows.{rowSize, rowAt, inMain, weighRows, mainWeight, withOnlyRows};
 ghost use Rattle.rules.specs.Memory.{headSize, viewRows};
 ghost use Rattle.memory.specs.Edits.{OnlyRows};
 ghost use Rattle.sweep.specs.Sweep.{sweepTest, keptRows, keptDown, PathFit, PathsFit};
@@ -108,6 +109,68 @@ fn weight_of(state: &[u8], n: usize) -> u64
     sum
 }
 
+// Whether a row is expired. It stands apart from the others, so that its loop stays small.
+fn any_expired(state: &[u8], n: usize, time: u64) -> bool
+    requires { ⌜ headSize + n * rowSize ≤ length (now state) ⌝ }
+    ensures { λ r. ⌜ (r ≡ false → (a : Address) → keptRows 0 time a (viewRows n (now (state .entry)) .rows) ≡ viewRows n (now (state .entry)) .rows) ⌝ }
+{
+    let mut i = 0;
+    while i < n {
+        if entries::is_expired(state, n, i, time) {
+            return true;
+        }
+        i += 1;
+    }
+    false
+}
+
+// Whether a path has another root; apart for the same reason.
+fn any_other_root(state: &[u8], n: usize, addr: NodeAddr) -> bool
+    requires { ⌜ (headSize + n * rowSize ≤ length (now state)) × PathsFit (viewRows n (now state) .rows) ⌝ }
+    ensures { λ r. ⌜ (r ≡ false → (t : ℕ) → keptRows 2 t addr (viewRows n (now (state .entry)) .rows) ≡ viewRows n (now (state .entry)) .rows) ⌝ }
+{
+    let mut i = 0;
+    while i < n {
+        if !paths::path::root_is(state, n, i, addr) {
+            return true;
+        }
+        i += 1;
+    }
+    false
+}
+
+// Whether a path contains the address.
+fn any_via_node(state: &[u8], n: usize, addr: NodeAddr) -> bool
+    requires { ⌜ (headSize + n * rowSize ≤ length (now state)) × PathsFit (viewRows n (now state) .rows) ⌝ }
+    ensures { λ r. ⌜ (r ≡ false → (t : ℕ) → keptRows 1 t addr (viewRows n (now (state .entry)) .rows) ≡ viewRows n (now (state .entry)) .rows) ⌝ }
+{
+    let mut i = 0;
+    while i < n {
+        if paths::path::path_contains(state, n, i, addr) {
+            return true;
+        }
+        i += 1;
+    }
+    false
+}
+
+// Whether a row may match; of rows set aside it is not asked.
+fn any_matches(state: &[u8], n: usize, kind: u8, time: u64, addr: NodeAddr) -> bool
+    requires { ⌜ (headSize + n * rowSize ≤ length (now state)) × PathsFit (viewRows n (now state) .rows) ⌝ }
+    ensures { λ r. ⌜ (r ≡ false → keptRows kind time addr (viewRows n (now (state .entry)) .rows) ≡ viewRows n (now (state .entry)) .rows) ⌝ }
+{
+    if kind == EXPIRED {
+        return any_expired(state, n, time);
+    }
+    if kind == VIA_NODE {
+        return any_via_node(state, n, addr);
+    }
+    if kind == OTHER_ROOT {
+        return any_other_root(state, n, addr);
+    }
+    true
+}
+
 // One sweep over n rows; how many stay.
 pub fn sweep_rows(state: &mut [u8], n: usize, kind: u8, time: u64, addr: NodeAddr) -> usize
     requires { ⌜ (n ≤ 1024) × (headSize + n * rowSize ≤ length (now state)) × PathsFit (viewRows n (now state) .rows) ⌝ }
@@ -117,4 +180,15 @@ pub fn sweep_rows(state: &mut [u8], n: usize, kind: u8, time: u64, addr: NodeAdd
     let stored = weight_of(state, kept);
     memory::rows::shrink(state, n, kept, stored);
     kept
+}
+
+// The same on a state that counts its rows and stores their weight: where no row matches, nothing is written.
+pub fn sweep_counted(state: &mut [u8], n: usize, kind: u8, time: u64, addr: NodeAddr) -> usize
+    requires { ⌜ (n ≤ 1024) × (headSize + n * rowSize ≤ length (now state)) × PathsFit (viewRows n (now state) .rows) × (viewRows n (now state) .rowCount ≡ n) × (viewRows n (now state) .storedWeight ≡ mainWeight (viewRows n (now state))) ⌝ }
+    ensures { λ r. ⌜ (r ≤ n) × (r ≡ length (keptRows kind time addr (viewRows n (now (state .entry)) .rows))) × (viewRows r (now (state .exit)) ≡ withOnlyRows (keptRows kind time addr (viewRows n (now (state .entry)) .rows)) (viewRows n (now (state .entry)))) ⌝ }
+{
+    if any_matches(state, n, kind, time, addr) {
+        return sweep_rows(state, n, kind, time, addr);
+    }
+    n
 }

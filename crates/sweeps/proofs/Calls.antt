@@ -9,7 +9,7 @@ use lib.ListN.{length}
 use Rattle.coord.specs.Addresses.{sameAddr}
 use Rattle.coord.specs.Paths.{contains, rootOf}
 use Rattle.rules.specs.Entries.{expired}
-use Rattle.rules.specs.Rows.{keepRows}
+use Rattle.rules.specs.Rows.{keepRows, mainWeight}
 use Rattle.memory.proofs.RowLaws.{view-length}
 use Rattle.coord.specs.declared.node_addr.NodeAddr.{NodeAddr}
 use Rattle.types.specs.declared.answers.SweepAnswer.{SweepAnswer}
@@ -37,8 +37,8 @@ fit-rows : (q : ℕ) (rs : List Row) → Every (RowOk q) rs → Every PathFit rs
 fit-rows q [] h = tt
 fit-rows q (r ∷ rs) h = (record { long = h .0 .long; short = h .0 .short }, fit-rows q rs (h .1))
 
-pub sweepable : (l : List ℕ) (n : ℕ) → sound (capacity l) (view l) ≡ true → n ≡ viewRows 0 l .rowCount → (n ≤ 1024) × (40 + n * 1095 ≤ length l) × PathsFit (viewRows n l .rows)
-sweepable l n h e = let s = sound-memory l n h e in (s .few, s .long, fit-rows (viewRows n l .seq) (viewRows n l .rows) (s .sound .each))
+pub sweepable : (l : List ℕ) (n : ℕ) → sound (capacity l) (view l) ≡ true → n ≡ viewRows 0 l .rowCount → (n ≤ 1024) × (40 + n * 1095 ≤ length l) × PathsFit (viewRows n l .rows) × (viewRows n l .rowCount ≡ n) × (viewRows n l .storedWeight ≡ mainWeight (viewRows n l))
+sweepable l n h e = let s = sound-memory l n h e in (s .few, s .long, fit-rows (viewRows n l .seq) (viewRows n l .rows) (s .sound .each), s .sound .counted ∙ s .rows, s .sound .storedWeight)
 
 sweeps-answer : (p : Entry → Bool) (s : State) → sweeps p s .answer ≡ RowsRemoved (matching p s)
 unfolding sweeps gives

@@ -26,7 +26,7 @@ pub fn purge_expired_unchecked(state: &mut [u8], time: u64) -> SweepAnswer
 {
     let n = memory::head::row_count(state) as usize;
     let none = NodeAddr([0u8; 16]);
-    let kept = sweep::sweep_rows(state, n, sweep::EXPIRED, time, none);
+    let kept = sweep::sweep_counted(state, n, sweep::EXPIRED, time, none);
     SweepAnswer::Removed((n - kept) as u64)
 }
 
@@ -35,7 +35,7 @@ pub fn invalidate_via_node_unchecked(state: &mut [u8], addr: NodeAddr) -> SweepA
     ensures { λ r. ⌜ (sweepSaid r ≡ call (now (state .entry)) (InvalidateViaNode addr) .answer) × (now (state .exit) ≡ call (now (state .entry)) (InvalidateViaNode addr) .memory) ⌝ }
 {
     let n = memory::head::row_count(state) as usize;
-    let kept = sweep::sweep_rows(state, n, sweep::VIA_NODE, 0, addr);
+    let kept = sweep::sweep_counted(state, n, sweep::VIA_NODE, 0, addr);
     SweepAnswer::Removed((n - kept) as u64)
 }
 
@@ -44,7 +44,7 @@ pub fn invalidate_other_roots_unchecked(state: &mut [u8], addr: NodeAddr) -> Swe
     ensures { λ r. ⌜ (sweepSaid r ≡ call (now (state .entry)) (InvalidateOtherRoots addr) .answer) × (now (state .exit) ≡ call (now (state .entry)) (InvalidateOtherRoots addr) .memory) ⌝ }
 {
     let n = memory::head::row_count(state) as usize;
-    let kept = sweep::sweep_rows(state, n, sweep::OTHER_ROOT, 0, addr);
+    let kept = sweep::sweep_counted(state, n, sweep::OTHER_ROOT, 0, addr);
     SweepAnswer::Removed((n - kept) as u64)
 }
 

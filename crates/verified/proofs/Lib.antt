@@ -1,3 +1,5 @@
 pub mod NoPlace
 pub mod Inserting
+pub mod Marks
+pub mod InPlace
 pub mod Calling

@@ -7,12 +7,19 @@ use Rattle.types.specs.declared.entry.PathMtu.{PathMtu}
 use Rattle.types.specs.declared.entry.PathMtu.the-variants.{Unknown, Known}
 use Rattle.search.specs.declared.answers.Search.{Search}
 use Rattle.search.specs.declared.answers.Search.the-variants.{At, Absent}
+use Rattle.rules.specs.Records.{Entry}
+use Rattle.rules.specs.Entries.{setMtu}
 use Rattle.rules.specs.Calls.{Call, InsertVerified, InsertVerifiedWithPathMtu}
 
 -- the MTU that is set, if one is
 abbrev pub mtuOf : PathMtu → Option ℕ
 mtuOf Unknown = none
 mtuOf (Known m) = some m
+
+-- an entry with the MTU that is set, if one is
+abbrev pub givenMtu : PathMtu → Entry → Entry
+givenMtu Unknown e = e
+givenMtu (Known m) e = setMtu m e
 
 -- the call that gives it
 abbrev pub verifiedCall : NodeAddr → Path → ℕ → PathMtu → Call

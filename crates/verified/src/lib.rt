@@ -1,4 +1,5 @@
 // insert_verified, and its form with a path MTU. Each stands twice: unchecked, on a memory known to be sound, and public.
+mod in_place;
 mod places;
 mod writes;
 

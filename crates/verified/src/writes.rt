@@ -1,4 +1,6 @@
-// A verified insert, done: the key's row out, room sought, and the row filed in main either way.
+// A verified insert, done.
+use crate::in_place::has_room_without;
+use crate::in_place::verify_in_place;
 use coord::coord::Path;
 use coord::node_addr::NodeAddr;
 use filing::entry::NewEntry;
@@ -75,6 +77,32 @@ fn take_out(state: &mut [u8], n: usize, at: Search) -> usize
     }
 }
 
+// The key's row out, room sought, and the row filed in main either way.
+fn file_anew(
+    state: &mut [u8],
+    n: usize,
+    at: Search,
+    key: NodeAddr,
+    path: Path,
+    time: u64,
+    mtu: PathMtu,
+) -> VerifiedInsert
+    requires { ⌜ (sound (capacity (now state)) (viewRows n (now state)) ≡ true) × Writable path × (viewRows n (now state) .seq ≤ lastSeq) × (noPlaceFor (capacity (now state)) (viewRows n (now state)) (record { key = key; path = path; time = time }) ≡ false) × (at ≡ searched key (viewRows n (now state) .rows)) ⌝ }
+    ensures { λ r. ⌜ (r ≡ record { weight = pathWeight path; examined = insertVerified key path time (mtuOf mtu) (viewRows n (now (state .entry))) .examined }) × (viewRows (length (insertVerified key path time (mtuOf mtu) (viewRows n (now (state .entry))) .state .rows)) (now (state .exit)) ≡ insertVerified key path time (mtuOf mtu) (viewRows n (now (state .entry))) .state) ⌝ }
+{
+    let e = verified_entry_of(state, n, at, path, time, mtu);
+    let rows = take_out(state, n, at);
+    let weight = path.weight();
+    let units = weight as u8;
+    let room = make_room(state, rows, weight, time);
+    file_new(state, room.rows, key, e, units, BY_USE);
+    VerifiedInsert {
+        weight: weight,
+        examined: room.examined,
+    }
+}
+
+// Where the key's row would go back to where it stands, it doesn't leave.
 pub fn file_verified(
     state: &mut [u8],
     n: usize,
@@ -87,14 +115,18 @@ pub fn file_verified(
     ensures { λ r. ⌜ (r ≡ record { weight = pathWeight path; examined = insertVerified key path time (mtuOf mtu) (viewRows n (now (state .entry))) .examined }) × (viewRows (length (insertVerified key path time (mtuOf mtu) (viewRows n (now (state .entry))) .state .rows)) (now (state .exit)) ≡ insertVerified key path time (mtuOf mtu) (viewRows n (now (state .entry))) .state) ⌝ }
 {
     let at = search(state, n, key);
-    let e = verified_entry_of(state, n, at, path, time, mtu);
-    let rows = take_out(state, n, at);
-    let weight = path.weight();
-    let units = weight as u8;
-    let room = make_room(state, rows, weight, time);
-    file_new(state, room.rows, key, e, units, BY_USE);
-    VerifiedInsert {
-        weight: weight,
-        examined: room.examined,
+    match at {
+        Search::At(i) => {
+            let weight = path.weight();
+            if has_room_without(state, n, i, weight) {
+                verify_in_place(state, n, i, path, time, mtu, weight as u8);
+                return VerifiedInsert {
+                    weight: weight,
+                    examined: 0,
+                };
+            }
+            file_anew(state, n, at, key, path, time, mtu)
+        }
+        Search::Absent(_) => file_anew(state, n, at, key, path, time, mtu),
     }
 }

@@ -4,10 +4,10 @@ use Rattle.checks.proofs.answers.Statement.{statement}
 use Rattle.checks.proofs.answers.Tie as tie
 
 abbrev Inv-loop : tie.InvT-loop
-Inv-loop kind call₀ call = call ≤ 21
+Inv-loop kind call₀ call = call ≤ 22
 
 abbrev μ-loop : tie.MeasureT-loop
-μ-loop kind call₀ call = 21 - call
+μ-loop kind call₀ call = 22 - call
 
 loop-holds : tie.Need-loop-holds Inv-loop μ-loop
 loop-holds c = search needs

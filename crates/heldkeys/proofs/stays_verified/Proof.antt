@@ -19,14 +19,14 @@ returns-2 c =
     let s = c .before .before .before .before .args in
     unstated (s .path) (s .time) (s .stated) (rowAt (s .i) (viewRows (s .n) (s .state .now) .rows)) _ (c .before .before .is-verified .ensures) (not-false _ (c .before .if1 .left)) (not-true _ (c .if2 .taken))
 
-is-path-requires : tie.Need-is-path-requires
-is-path-requires c κs = search needs
+path-is-requires : tie.Need-path-is-requires
+path-is-requires c κs = search needs
 
 returns-3 : tie.Need-returns-3
 returns-3 c =
     let s = c .before .before .before .before .before .args in
-    stated-same (s .path) (s .time) (s .stated) (rowAt (s .i) (viewRows (s .n) (s .state .now) .rows)) _ _ (c .before .before .before .is-verified .ensures) (not-false _ (c .before .before .if1 .left)) (not-false _ (c .before .if2 .left)) (c .is-path .ensures)
+    stated-same (s .path) (s .time) (s .stated) (rowAt (s .i) (viewRows (s .n) (s .state .now) .rows)) _ _ (c .before .before .before .is-verified .ensures) (not-false _ (c .before .before .if1 .left)) (not-false _ (c .before .if2 .left)) (c .path-is .ensures)
 
 pub stays-verified-spec : {M : Type 1} → statement M
 stays-verified-spec =
-    tie.close (tie.spec is-verified-requires returns returns-2 is-path-requires returns-3)
+    tie.close (tie.spec is-verified-requires returns returns-2 path-is-requires returns-3)

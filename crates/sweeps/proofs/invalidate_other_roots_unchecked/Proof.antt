@@ -13,8 +13,8 @@ use Rattle.sweeps.proofs.invalidate_other_roots_unchecked.Tie as tie
 row-count-requires : tie.Need-row-count-requires
 row-count-requires c κs = head-there (c .before .before .args .state .now) (c .before .before .pre)
 
-sweep-rows-requires : tie.Need-sweep-rows-requires
-sweep-rows-requires c κs = sweepable (c .before .before .before .before .args .state .now) (c .before .row-count .result) (c .before .before .before .before .pre) (c .before .row-count .ensures)
+sweep-counted-requires : tie.Need-sweep-counted-requires
+sweep-counted-requires c κs = sweepable (c .before .before .before .before .args .state .now) (c .before .row-count .result) (c .before .before .before .before .pre) (c .before .row-count .ensures)
 
 sub-t10 : tie.Need-sub-t10
 sub-t10 c = search needs
@@ -27,9 +27,9 @@ returns c =
     let s = c .before .before .before .before .before .before .before in
     let l = s .args .state .now in
     let n = c .before .before .before .before .row-count .result in
-    let m = c .before .before .sweep-rows .last .0 in
-    sweep-done (InvalidateOtherRoots (s .args .addr)) (λ e. not (sameAddr (rootOf (e .path)) (s .args .addr))) 2 0 (s .args .addr) l n (c .before .before .sweep-rows .result) m (s .pre) (c .before .before .before .before .row-count .ensures) (all-bytes m (λ i. c .slice-known2 .given i .fits)) (c .before .before .sweep-rows .kept .0) (roots-allowed l (s .args .addr) (s .pre)) (roots-is (s .args .addr) (viewRows n l)) (roots-keeps 0 (s .args .addr) (viewRows n l .rows)) (c .before .before .sweep-rows .ensures)
+    let m = c .before .before .sweep-counted .last .0 in
+    sweep-done (InvalidateOtherRoots (s .args .addr)) (λ e. not (sameAddr (rootOf (e .path)) (s .args .addr))) 2 0 (s .args .addr) l n (c .before .before .sweep-counted .result) m (s .pre) (c .before .before .before .before .row-count .ensures) (all-bytes m (λ i. c .slice-known2 .given i .fits)) (c .before .before .sweep-counted .kept .0) (roots-allowed l (s .args .addr) (s .pre)) (roots-is (s .args .addr) (viewRows n l)) (roots-keeps 0 (s .args .addr) (viewRows n l .rows)) (c .before .before .sweep-counted .ensures)
 
 pub invalidate-other-roots-unchecked-spec : {M : Type 1} → statement M
 invalidate-other-roots-unchecked-spec =
-    tie.close (tie.spec row-count-requires sweep-rows-requires sub-t10 same-length returns)
+    tie.close (tie.spec row-count-requires sweep-counted-requires sub-t10 same-length returns)

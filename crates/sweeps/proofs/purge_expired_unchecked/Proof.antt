@@ -11,8 +11,8 @@ use Rattle.sweeps.proofs.purge_expired_unchecked.Tie as tie
 row-count-requires : tie.Need-row-count-requires
 row-count-requires c κs = head-there (c .before .before .args .state .now) (c .before .before .pre)
 
-sweep-rows-requires : tie.Need-sweep-rows-requires
-sweep-rows-requires c κs = sweepable (c .before .before .before .before .args .state .now) (c .before .row-count .result) (c .before .before .before .before .pre) (c .before .row-count .ensures)
+sweep-counted-requires : tie.Need-sweep-counted-requires
+sweep-counted-requires c κs = sweepable (c .before .before .before .before .args .state .now) (c .before .row-count .result) (c .before .before .before .before .pre) (c .before .row-count .ensures)
 
 sub-t12 : tie.Need-sub-t12
 sub-t12 c = search needs
@@ -25,9 +25,9 @@ returns c =
     let s = c .before .before .before .before .before .before .before in
     let l = s .args .state .now in
     let n = c .before .before .before .before .row-count .result in
-    let m = c .before .before .sweep-rows .last .0 in
-    sweep-done (PurgeExpired (s .args .time)) (expired (s .args .time)) 0 (s .args .time) _ l n (c .before .before .sweep-rows .result) m (s .pre) (c .before .before .before .before .row-count .ensures) (all-bytes m (λ i. c .slice-known2 .given i .fits)) (c .before .before .sweep-rows .kept .0) (purge-allowed l (s .args .time) (s .pre)) (purge-is (s .args .time) (viewRows n l)) (purge-keeps (s .args .time) _ (viewRows n l .rows)) (c .before .before .sweep-rows .ensures)
+    let m = c .before .before .sweep-counted .last .0 in
+    sweep-done (PurgeExpired (s .args .time)) (expired (s .args .time)) 0 (s .args .time) _ l n (c .before .before .sweep-counted .result) m (s .pre) (c .before .before .before .before .row-count .ensures) (all-bytes m (λ i. c .slice-known2 .given i .fits)) (c .before .before .sweep-counted .kept .0) (purge-allowed l (s .args .time) (s .pre)) (purge-is (s .args .time) (viewRows n l)) (purge-keeps (s .args .time) _ (viewRows n l .rows)) (c .before .before .sweep-counted .ensures)
 
 pub purge-expired-unchecked-spec : {M : Type 1} → statement M
 purge-expired-unchecked-spec =
-    tie.close (tie.spec row-count-requires sweep-rows-requires sub-t12 same-length returns)
+    tie.close (tie.spec row-count-requires sweep-counted-requires sub-t12 same-length returns)

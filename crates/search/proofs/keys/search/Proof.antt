@@ -1,6 +1,6 @@
--- Each turn halves the rows of which it is not known whether they stand before the key or behind it.
+-- Each turn compares one row of those of which it is not known whether they stand before the key or behind it.
 use mathlib.Core.Path.{sym, _∙_}
-use Prim.Native.Nat.{ℕ, _+_, _-_, _/_, _≤_}
+use Prim.Native.Nat.{_-_, _≤_}
 use native.Mathlib.Omega.{arith}
 use borrow.Author.Needs.{needs}
 use Rattle.rules.specs.Memory.{viewRows}
@@ -10,22 +10,33 @@ use Rattle.search.proofs.keys.search.Statement.{statement}
 use Rattle.search.proofs.keys.search.Tie as tie
 
 abbrev Inv-loop : tie.InvT-loop
-Inv-loop state n key lo₀ hi₀ lo hi = (hi ≤ n) × Halved key (viewRows n state .rows) lo hi
+Inv-loop state n key high guess₀ trust₀ lo₀ hi₀ guess trust lo hi = (hi ≤ n) × Halved key (viewRows n state .rows) lo hi
 
 abbrev μ-loop : tie.MeasureT-loop
-μ-loop state n key lo₀ hi₀ lo hi = hi - lo
+μ-loop state n key high guess₀ trust₀ lo₀ hi₀ guess trust lo hi = hi - lo
+
+slice-aggregate-be-u64 : tie.Need-slice-aggregate-be-u64 Inv-loop μ-loop
+slice-aggregate-be-u64 c = search needs
+
+be-u64-requires : tie.Need-be-u64-requires Inv-loop μ-loop
+be-u64-requires c κs = omega (arith, slice-aggregate-be-u64 c)
+
+rows-in-requires : tie.Need-rows-in-requires Inv-loop μ-loop
+rows-in-requires c κs = search needs
 
 loop-holds : tie.Need-loop-holds Inv-loop μ-loop
-loop-holds c = let s = c .before in (omega arith, halved-start _ _ (s .args .n) (rows-length (s .args .n) (s .args .state .now)))
+loop-holds c =
+    let s = c .before .before .before .before .before in
+    (omega arith, halved-start _ _ (s .args .n) (rows-length (s .args .n) (s .args .state .now)))
 
-sub-mid : tie.Need-sub-mid Inv-loop μ-loop
-sub-mid c = search needs
-
-add-mid : tie.Need-add-mid Inv-loop μ-loop
-add-mid c = search needs
+probe-requires : tie.Need-probe-requires Inv-loop μ-loop
+probe-requires c κs = search needs
 
 key-order-requires : tie.Need-key-order-requires Inv-loop μ-loop
 key-order-requires c κs = search needs
+
+guess-from-requires : tie.Need-guess-from-requires Inv-loop μ-loop
+guess-from-requires c κs = search needs
 
 enum-told : tie.Need-enum-told Inv-loop μ-loop
 enum-told c = search needs
@@ -38,20 +49,22 @@ loop-less c = search needs
 
 loop-again : tie.Need-loop-again Inv-loop μ-loop
 loop-again c =
-    let k = c .before .before in
-    let p = k .before .before in
-    let m : ℕ = p .loop .lo + (p .loop .hi - p .loop .lo) / 2 in
-    (p .loop .inv .0, halved-less (p .loop .inv .1) (p .before .before .pre .0) m (omega arith) (omega arith) (sym (k .key-order .ensures) ∙ c .enum-told .given .1))
+    let k = c .before .before .before in
+    let m = k .before in
+    let p = m .before .before in
+    let s = p .before .before .before .before .before .before in
+    (p .loop .inv .0, halved-less (p .loop .inv .1) (s .pre .0) (m .probe .result) (m .probe .ensures .0) (m .probe .ensures .1) (sym (k .key-order .ensures) ∙ c .enum-told .given .1))
 
 enum-told-2 : tie.Need-enum-told-2 Inv-loop μ-loop
 enum-told-2 c = search needs
 
 returns : tie.Need-returns Inv-loop μ-loop
 returns c =
-    let k = c .before .before in
-    let p = k .before .before in
-    let m : ℕ = p .loop .lo + (p .loop .hi - p .loop .lo) / 2 in
-    halved-equal (p .loop .inv .1) (p .before .before .pre .0) m (omega arith) (omega arith) (sym (k .key-order .ensures) ∙ c .enum-told2 .given .1)
+    let k = c .before .before .before in
+    let m = k .before in
+    let p = m .before .before in
+    let s = p .before .before .before .before .before .before in
+    halved-equal (p .loop .inv .1) (s .pre .0) (m .probe .result) (m .probe .ensures .0) (m .probe .ensures .1) (sym (k .key-order .ensures) ∙ c .enum-told2 .given .1)
 
 enum-told-3 : tie.Need-enum-told-3 Inv-loop μ-loop
 enum-told-3 c = search needs
@@ -61,10 +74,11 @@ loop-less-2 c = search needs
 
 loop-again-2 : tie.Need-loop-again-2 Inv-loop μ-loop
 loop-again-2 c =
-    let k = c .before .before in
-    let p = k .before .before in
-    let m : ℕ = p .loop .lo + (p .loop .hi - p .loop .lo) / 2 in
-    (omega arith, halved-greater (p .loop .inv .1) (p .before .before .pre .0) m (omega arith) (omega arith) (sym (k .key-order .ensures) ∙ c .enum-told3 .given .1))
+    let k = c .before .before .before in
+    let m = k .before in
+    let p = m .before .before in
+    let s = p .before .before .before .before .before .before in
+    (omega arith, halved-greater (p .loop .inv .1) (s .pre .0) (m .probe .result) (m .probe .ensures .0) (m .probe .ensures .1) (sym (k .key-order .ensures) ∙ c .enum-told3 .given .1))
 
 returns-2 : tie.Need-returns-2 Inv-loop μ-loop
 returns-2 c = halved-end (c .before .loop .inv .1) (c .loop-test .left)
@@ -75,10 +89,13 @@ search-spec =
     (tie.spec
     Inv-loop
     μ-loop
+    slice-aggregate-be-u64
+    be-u64-requires
+    rows-in-requires
     loop-holds
-    sub-mid
-    add-mid
+    probe-requires
     key-order-requires
+    guess-from-requires
     enum-told
     add-lo
     loop-less

@@ -1,92 +1,114 @@
-use mathlib.Core.Path.{ap}
+use mathlib.Core.Path.{_≡_, sym, _∙_}
 use native.Mathlib.Omega.{arith}
-use Rattle.coord.specs.declared.coord.Path.{Path}
+use Rattle.search.specs.declared.answers.Search.the-variants.{At}
+use Rattle.search.specs.ByKey.{searched}
+use Rattle.rules.specs.Memory.{capacity, viewRows}
 use Rattle.rules.proofs.Others.{weight-ok}
-use Rattle.room.proofs.Files.{laid-out}
-use Rattle.filing.specs.Filings.{entryFrom}
+use Rattle.room.proofs.Files.{shown}
 use Rattle.verified.specs.Forms.{mtuOf}
-use Rattle.verified.proofs.NoPlace.{rows-searchable}
-use Rattle.verified.proofs.Inserting.{found-within, RoomSought, room-sought, room-asked, row-asked, insert-said, insert-left}
+use Rattle.verified.proofs.NoPlace.{rows-searchable, row-inside}
+use Rattle.verified.proofs.InPlace.{room-told, kept-said, kept-left}
 use borrow.Author.Needs.{needs}
 use Rattle.verified.proofs.writes.file_verified.Statement.{statement}
 use Rattle.verified.proofs.writes.file_verified.Tie as tie
-
--- room was sought, with the key's row out
-sought : (c : tie.After-make-room) → (let a = c .before .before .before .before .before .before .before .before .before .before .before .before .args in RoomSought (a .key) (a .path) (a .time) (a .n) (a .state .now) (c .make-room .last .0) (c .make-room .result))
-sought c =
-    let w = c .before .before in
-    let o = w .before .before .before in
-    let f = o .before .before .before .before in
-    let a = f .before .before .before .args in
-    room-sought (a .key) (a .path) (a .time) (a .n) (o .take-out .result) (w .weight .result) (a .state .now) (o .take-out .last .0) (c .make-room .last .0) (c .make-room .result) (o .take-out .kept .0) (o .take-out .ensures (a .key) (f .search .ensures)) (w .weight .ensures) (c .make-room .kept .0) (c .make-room .ensures .0)
 
 search-requires : tie.Need-search-requires
 search-requires c κs =
     let s = c .before .before in
     rows-searchable (s .args .n) (s .args .state .now) (s .pre .0)
 
-verified-entry-of-requires : tie.Need-verified-entry-of-requires
-verified-entry-of-requires c κs =
-    let f = c .before in
-    let s = f .before .before .before in
-    (laid-out (s .args .n) (s .args .state .now) (s .pre .0), found-within (s .args .n) (s .args .state .now) (s .args .key) (f .search .result) (f .search .ensures))
-
-take-out-requires : tie.Need-take-out-requires
-take-out-requires c κs =
-    let f = c .before .before .before in
-    let s = f .before .before .before in
-    (s .pre .0, found-within (s .args .n) (s .args .state .now) (s .args .key) (f .search .result) (f .search .ensures))
+enum-known-at : tie.Need-enum-known-at
+enum-known-at c = search needs
 
 weight-requires : tie.Need-weight-requires
 weight-requires c κs = search needs
 
-cast-units : tie.Need-cast-units
-cast-units c =
-    let s = c .before .before .before .before .before .before .before .before .before .before in
-    record { fits = omega (arith, c .weight .ensures, weight-ok (s .args .path) (record { long = s .pre .1 .long; short = s .pre .1 .short })) }
+has-room-without-requires : tie.Need-has-room-without-requires
+has-room-without-requires c κs =
+    let f = c .before .before .before .before .before in
+    let s = f .before .before .before in
+    (s .pre .0, row-inside (s .args .n) (s .args .state .now) (s .args .key) _ (f .search .result) (f .search .ensures) (c .before .before .before .at .given .1))
 
-make-room-requires : tie.Need-make-room-requires
-make-room-requires c κs =
-    let o = c .before .before .before .before in
-    let f = o .before .before .before .before in
+cast-verify-in-place : tie.Need-cast-verify-in-place
+cast-verify-in-place c =
+    let w = c .before .before .before .before in
+    let s = w .before .before .before .before .before .before .before in
+    record { fits = omega (arith, w .weight .ensures, weight-ok (s .args .path) (record { long = s .pre .1 .long; short = s .pre .1 .short })) }
+
+verify-in-place-requires : tie.Need-verify-in-place-requires
+verify-in-place-requires c κs =
+    let r = c .before .before in
+    let w = r .before .before in
+    let t = w .before .before in
+    let f = t .before .before in
     let s = f .before .before .before in
     let a = s .args in
-    room-asked (a .key) (a .path) (a .time) (a .n) (a .state .now) (s .pre .0) (o .take-out .last .0) (o .take-out .result) (o .take-out .kept .0) (o .take-out .ensures (a .key) (f .search .ensures)) (s .pre .2)
-
-file-new-requires : tie.Need-file-new-requires
-file-new-requires c κs =
-    let r = c .before .before .before in
-    let e = r .before .before .before .before .before .before .before in
-    let s = e .before .before .before .before .before in
-    let a = s .args in
-    let x = row-asked (a .key) (a .path) (a .time) (a .n) (a .state .now) (s .pre .0) (r .make-room .last .0) (r .make-room .result) (sought r) (s .pre .2) (s .pre .3) in
-    (x .0 .sound, x .1, x .0 .gone, x .2, omega (arith, ap (λ (p : Path). p .len) (e .verified-entry-of .ensures .1), s .pre .1 .short))
+    let i = t .at .given .0 .0 in
+    let h = room-told i (w .weight .result) (a .path) (viewRows (a .n) (a .state .now)) (r .has-room-without .result) (w .weight .ensures) (r .has-room-without .ensures) (c .before .if1 .taken) .0 in
+    (s .pre .0, row-inside (a .n) (a .state .now) (a .key) i (f .search .result) (f .search .ensures) (t .at .given .1), h, omega (arith, s .pre .2), s .pre .1 .short)
 
 same-length : tie.Need-same-length
 same-length c = search needs
 
 returns : tie.Need-returns
 returns c =
-    let n = c .before .before in
-    let r = n .before .before .before .before in
+    let v = c .before .before in
+    let r = v .before .before .before in
     let w = r .before .before in
-    let e = w .before .before .before .before .before in
-    let f = e .before .before in
+    let t = w .before .before in
+    let f = t .before .before in
     let s = f .before .before .before in
     let a = s .args in
+    let n = a .n in
     let l = a .state .now in
-    (insert-said (a .key) (a .path) (a .time) (a .n) (w .weight .result) (mtuOf (a .mtu)) l (r .make-room .last .0) (r .make-room .result) (sought r) (w .weight .ensures), insert-left (a .key) (a .path) (a .time) (a .n) (w .weight .result) (mtuOf (a .mtu)) l (r .make-room .last .0) (n .file-new .last .0) (r .make-room .result) (entryFrom (e .verified-entry-of .result)) (sought r) (w .weight .ensures) (e .verified-entry-of .ensures .0 (a .key) (f .search .ensures)) (n .file-new .ensures))
+    let i = t .at .given .0 .0 in
+    let x = viewRows n l in
+    let d = shown n l (s .pre .0) in
+    let o : searched (a .key) (x .rows) ≡ At i = sym (f .search .ensures) ∙ t .at .given .1 in
+    let h = room-told i (w .weight .result) (a .path) x (r .has-room-without .result) (w .weight .ensures) (r .has-room-without .ensures) (v .before .before .if1 .taken) .1 in
+    (kept-said (capacity l) (a .key) (a .path) (a .time) i x d o h (w .weight .result) (mtuOf (a .mtu)) (w .weight .ensures), kept-left (capacity l) (a .key) (a .path) (a .time) i x d o h n (w .weight .result) (mtuOf (a .mtu)) (v .verify-in-place .last .0) (w .weight .ensures) (v .verify-in-place .ensures (a .key) o))
+
+file-anew-requires : tie.Need-file-anew-requires
+file-anew-requires c κs =
+    let t = c .before .before .before .before .before .before in
+    let f = t .before .before in
+    let s = f .before .before .before in
+    (s .pre .0, s .pre .1, s .pre .2, s .pre .3, sym (t .at .given .1) ∙ f .search .ensures)
+
+enum-told : tie.Need-enum-told
+enum-told c = search needs
+
+file-anew-requires-2 : tie.Need-file-anew-requires-2
+file-anew-requires-2 c κs = search needs
+
+same-length-2 : tie.Need-same-length-2
+same-length-2 c = search needs
+
+returns-2 : tie.Need-returns-2
+returns-2 c = search needs
+
+same-length-3 : tie.Need-same-length-3
+same-length-3 c = search needs
+
+returns-3 : tie.Need-returns-3
+returns-3 c = search needs
 
 pub file-verified-spec : {M : Type 1} → statement M
 file-verified-spec =
     tie.close
     (tie.spec
     search-requires
-    verified-entry-of-requires
-    take-out-requires
+    enum-known-at
     weight-requires
-    cast-units
-    make-room-requires
-    file-new-requires
+    has-room-without-requires
+    cast-verify-in-place
+    verify-in-place-requires
     same-length
-    returns)
+    returns
+    file-anew-requires
+    enum-told
+    file-anew-requires-2
+    same-length-2
+    returns-2
+    same-length-3
+    returns-3)

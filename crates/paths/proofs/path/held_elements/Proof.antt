@@ -1,0 +1,26 @@
+use native.Mathlib.Omega.{arith}
+use Rattle.paths.proofs.Places.{elements-count}
+use borrow.Author.Needs.{needs}
+use Rattle.paths.proofs.path.held_elements.Statement.{statement}
+use Rattle.paths.proofs.path.held_elements.Tie as tie
+
+path-len-requires : tie.Need-path-len-requires
+path-len-requires c κs = search needs
+
+cast-len : tie.Need-cast-len
+cast-len c = search needs
+
+returns : tie.Need-returns
+returns c =
+    let s = c .before .before .before in
+    let e = elements-count (s .args .n) (s .args .i) (s .args .state .now) (s .pre .0) in
+    (omega (arith, e, c .before .path-len .ensures), omega arith)
+
+returns-2 : tie.Need-returns-2
+returns-2 c =
+    let s = c .before .before .before in
+    let e = elements-count (s .args .n) (s .args .i) (s .args .state .now) (s .pre .0) in
+    (omega (arith, e, c .before .path-len .ensures), omega arith)
+
+pub held-elements-spec : {M : Type 1} → statement M
+held-elements-spec = tie.close (tie.spec path-len-requires cast-len returns returns-2)

@@ -1,0 +1,59 @@
+use mathlib.Core.Path.{refl, subst}
+use mathlib.Core.Bool.{true}
+use mathlib.Core.List.{List}
+use Rattle.rules.proofs.Addresses.{contradiction}
+use Rattle.sweep.proofs.Sweeping.{of-kind}
+use borrow.Author.Needs.{needs}
+use Rattle.sweep.proofs.any_matches.Statement.{statement}
+use Rattle.sweep.proofs.any_matches.Tie as tie
+use Rattle.sweep.proofs.any_matches.Reads as reads
+use Rattle.sweep.proofs.any_matches.Lts as lts
+use Rattle.sweep.proofs.any_expired.Reads as any-expired-reads
+use Rattle.sweep.proofs.any_other_root.Reads as any-other-root-reads
+use Rattle.sweep.proofs.any_via_node.Reads as any-via-node-reads
+
+-- src/lib.rt:163:9
+any-expired-requires : tie.Need-any-expired-requires
+any-expired-requires c κs = search needs
+
+-- src/lib.rt:163:9
+returns : tie.Need-returns
+returns c =
+    let s = c .before .before .before .args in
+    λ e. of-kind 0 (s .kind) (s .time) (s .addr) _ (c .before .if1 .taken) (c .any-expired .ensures e (s .addr))
+
+-- src/lib.rt:166:9
+any-via-node-requires : tie.Need-any-via-node-requires
+any-via-node-requires c κs = search needs
+
+-- src/lib.rt:166:9
+returns-2 : tie.Need-returns-2
+returns-2 c =
+    let s = c .before .before .before .before .args in
+    λ e. of-kind 1 (s .kind) (s .time) (s .addr) _ (c .before .if2 .taken) (c .any-via-node .ensures e (s .time))
+
+-- src/lib.rt:169:9
+any-other-root-requires : tie.Need-any-other-root-requires
+any-other-root-requires c κs = search needs
+
+-- src/lib.rt:169:9
+returns-3 : tie.Need-returns-3
+returns-3 c =
+    let s = c .before .before .before .before .before .args in
+    λ e. of-kind 2 (s .kind) (s .time) (s .addr) _ (c .before .if3 .taken) (c .any-other-root .ensures e (s .time))
+
+-- src/lib.rt:158:1
+returns-4 : tie.Need-returns-4
+returns-4 c = λ e. contradiction {b = true} refl e
+
+pub any-matches-spec : {M : Type 1} → statement M
+any-matches-spec =
+    tie.close
+    (tie.spec
+    any-expired-requires
+    returns
+    any-via-node-requires
+    returns-2
+    any-other-root-requires
+    returns-3
+    returns-4)

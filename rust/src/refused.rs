@@ -1,0 +1,87 @@
+//! Why a call was not done.
+
+use std::error::Error;
+use std::fmt;
+
+/// A call that was not done, by the number that every form of this cache gives it. The cache is then as it was before the call.
+///
+/// A hint that the cache decides not to store is no refusal: it is answered
+/// [`HintOutcome::Rejected`](crate::HintOutcome::Rejected).
+///
+/// ```
+/// use coordcache::{CoordCache, Refused};
+///
+/// let refused = CoordCache::<()>::with_rows(24, 24, 300_000).unwrap_err();
+/// assert_eq!(refused, Refused::RowCount);
+/// assert_eq!(refused.number(), 5);
+/// ```
+#[derive(Clone, Copy, Debug, PartialEq, Eq, Hash)]
+#[non_exhaustive]
+#[repr(u8)]
+pub enum Refused {
+    /// 1: the memory is not a sound cache. A [`CoordCache`](crate::CoordCache) owns its memory, so none of its calls gives this.
+    NotSound = 1,
+    /// 2: the path has over [`MAX_PATH`](crate::MAX_PATH) elements. (An empty one cannot be made here.)
+    PathLength = 2,
+    /// 3: the sequence numbers that order the entries are used up; one that wrapped round would make a new entry the oldest.
+    SequenceUsedUp = 3,
+    /// 4: a verified insert found every main row taken, and could evict none of them, since too many are verified themselves.
+    NoMainRow = 4,
+    /// 5: too few rows for this `max_entries`, or over [`MAX_ROWS`](crate::MAX_ROWS).
+    RowCount = 5,
+    /// 6: an unknown kind of funding. [`Funding`](crate::Funding) has only known ones, so no call of this crate gives this.
+    FundingKind = 6,
+}
+
+impl Refused {
+    /// The number, as in `include/coordcache.h` and `docs/COMMANDS.md`.
+    ///
+    /// ```
+    /// assert_eq!(coordcache::Refused::NoMainRow.number(), 4);
+    /// ```
+    #[inline]
+    pub const fn number(self) -> u8 {
+        self as u8
+    }
+
+    /// What the library returned: 0 if done.
+    #[inline]
+    pub(crate) fn check(number: u8) -> Result<(), Refused> {
+        Err(match number {
+            0 => return Ok(()),
+            1 => Refused::NotSound,
+            2 => Refused::PathLength,
+            3 => Refused::SequenceUsedUp,
+            4 => Refused::NoMainRow,
+            5 => Refused::RowCount,
+            6 => Refused::FundingKind,
+            _ => unreachable!("the library refused by {number}, a number that its header does not have"),
+        })
+    }
+}
+
+impl fmt::Display for Refused {
+    fn fmt(&self, f: &mut fmt::Formatter<'_>) -> fmt::Result {
+        let (means, what_to_do) = match self {
+            Refused::NotSound => ("the memory is not a sound cache", "make a new cache"),
+            Refused::PathLength => {
+                ("the path has over 32 elements, or none", "route by it without storing it: a row has 32 places")
+            }
+            Refused::SequenceUsedUp => {
+                ("the sequence numbers are used up", "make a new cache: this one takes no more inserts, and no demote")
+            }
+            Refused::NoMainRow => (
+                "all main rows are taken, and so many entries are still verified that none may leave",
+                "remove an entry, try again when verifications have lapsed, or make the cache with more rows",
+            ),
+            Refused::RowCount => (
+                "the rows do not suit max_entries",
+                "take max_entries + max(max_entries / 32, 1) rows or more, and at most 1,024; so max_entries is at most 993",
+            ),
+            Refused::FundingKind => ("the kind of funding is unknown", "use kind 0 (uncharged) or 1 (up to an amount)"),
+        };
+        write!(f, "refused by {}: {means}; {what_to_do}", self.number())
+    }
+}
+
+impl Error for Refused {}
