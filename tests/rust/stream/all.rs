@@ -46,16 +46,20 @@ impl All<'_> {
             let mut tally = Tally::default();
             let mut index = 0;
             let due = (self.commands * taste.share).div_ceil(shares);
-            while tally.commands < due {
+            while tally.commands + tally.skipped_commands < due {
                 let stream = make::stream(taste, self.seed, index, self.rows);
+                index += 1;
+                if stream.left_out() {
+                    tally.skip(&stream);
+                    continue;
+                }
                 self.now_at(&stream);
                 let compared = compare(&stream, &mut tally);
                 compared.map_err(|difference| self.differs(&stream, difference, all.commands + tally.commands))?;
-                index += 1;
                 progress.at(all.commands + tally.commands, taste.name);
             }
             table += &line(taste.name, index, "streams", &tally);
-            streams += index;
+            streams += index - tally.skipped_streams;
             all.add(&tally);
         }
         let random = all.commands;
@@ -68,6 +72,9 @@ impl All<'_> {
             all.add(&tally);
         }
         progress.end();
+        if all.commands == 0 && all.skipped_streams > 0 {
+            return Err(End::NotTried("all streams of this profile are left out; --help says why".to_string()));
+        }
         print!("{table}");
         if self.tally {
             print!("{}", all.print());
@@ -77,7 +84,11 @@ impl All<'_> {
             "{} commands compared, of them {random} in {streams} streams of seed {seed} and {sequences} in sequences;",
             all.commands
         );
-        println!("{} were refused; streams and longest sequences were run whole too; 0 differences", all.refused);
+        let skipped = match all.skipped_streams {
+            0 => String::new(),
+            n => format!("; {n} streams of {} commands skipped", all.skipped_commands),
+        };
+        println!("{} were refused; streams and longest sequences were run whole too; 0 differences{skipped}", all.refused);
         Ok(())
     }
 
@@ -122,6 +133,9 @@ impl All<'_> {
 }
 
 fn line(name: &str, made: u64, what: &str, tally: &Tally) -> String {
+    if tally.skipped_streams > 0 {
+        return format!("{name:<16}{made:>8} {what:<10}{:>10} commands, skipped\n", tally.skipped_commands);
+    }
     format!(
         "{name:<16}{made:>8} {what:<10}{:>10} commands, {:>5} of them refused; 0 differences\n",
         tally.commands, tally.refused

@@ -1,10 +1,10 @@
-//! The proved command stream beside the original: after every command, and whole.
+//! The proved side beside the original: after every command, and whole.
 use super::decode;
 use super::encode;
 use super::lines::{Reply, shown};
 use super::original::{Original, caught};
 use super::packed;
-use super::proved::{Counts, Proved, Stop, output};
+use super::proved::{Counts, Proved, Side, Stop, output};
 use super::streams::Stream;
 use super::tally::Tally;
 use crate::driver::dice::Dice;
@@ -27,28 +27,14 @@ pub struct Pair {
 }
 
 impl Pair {
-    /// Both at the stream's start: the proved side by the command 00, on memory that is no state.
+    /// Both at the stream's start.
     pub fn start(stream: &Stream) -> Result<Pair, Unlike> {
-        let mut proved = Proved::new(stream.rows);
-        let before = proved.state().to_vec();
-        let original = Original::new(stream.rows, stream.max, stream.ttl, 0);
-        let memory = packed::after_fresh(&original, before);
-        let mut text = output(LINE);
-        let report = proved.run(&stream.fresh(), true, &mut text).map_err(|why| vec![why])?;
-        let mut pair = Pair { original, memory, counts: Counts { done: 1, refused: 0 }, proved };
-        let mut said = pair.unlike(&pair.proved);
-        if text[..report.written] != Reply::new(0, Ok([0; 5])).line() {
-            said.insert(0, format!("the line of the first fresh: found {}", shown(&text[..report.written])));
-        }
-        if !said.is_empty() {
-            return Err(said);
-        }
-        if stream.seq > 0 {
-            pair.original = Original::new(stream.rows, stream.max, stream.ttl, stream.seq);
-            packed::write(&pair.original, &mut pair.memory);
-            pair.proved.set_seq(stream.seq);
-        }
-        Ok(pair)
+        let original = Original::new(stream.rows, stream.max, stream.ttl, stream.seq);
+        let memory = packed::after_fresh(&original, Proved::before(stream.rows));
+        let proved = Proved::start(stream).map_err(|why| vec![why])?;
+        let pair = Pair { original, memory, counts: Counts::STARTED, proved };
+        let said = pair.unlike(&pair.proved);
+        if said.is_empty() { Ok(pair) } else { Err(said) }
     }
 
     /// One command on both sides, as a run of its own.
@@ -64,7 +50,7 @@ impl Pair {
         });
         let reply = made.map_err(|why| vec![format!("the original stopped, or is not as 01 and this driver have it: {why}")])?;
         let line = reply.line();
-        count(&mut self.counts, reply.refusal);
+        self.counts.count(reply.refusal);
         let mut text = output(LINE);
         let report = self.proved.run(command, true, &mut text).map_err(|why| vec![why])?;
         let mut said = self.unlike(&self.proved);
@@ -83,36 +69,29 @@ impl Pair {
         if said.is_empty() { Ok(reply) } else { Err(said) }
     }
 
-    /// Memory, pending path and counts where they differ.
+    /// Memory, pending path, counts and what was handed back last, where they differ.
     fn unlike(&self, proved: &Proved) -> Unlike {
         let mut said = Vec::new();
         let pending = packed::pending(self.original.pending());
-        if *proved.pending() != pending {
-            said.extend(packed::pending_unlike(&pending, proved.pending()));
+        if proved.pending() != pending {
+            said.extend(packed::pending_unlike(&pending, &proved.pending()));
         }
         if proved.state() != self.memory {
             said.extend(packed::unlike(&self.memory, proved.state(), self.original.rows));
         }
-        if proved.counts != self.counts {
-            said.push(format!("tally: expected {:?}, found {:?}", self.counts, proved.counts));
+        if proved.counts() != self.counts {
+            said.push(format!("tally: expected {:?}, found {:?}", self.counts, proved.counts()));
         }
+        said.extend(self.original.handed().unlike(proved.handed()));
         said
     }
 
     /// The stream whole on other memory, each run in one piece or in chunks of input and output: its lines together are
     /// `lines`, and it ends as this pair stands.
     pub fn whole(&self, stream: &Stream, lines: &[u8], mut dice: Option<&mut Dice>) -> Result<(), Unlike> {
-        let started = |proved: &mut Proved| -> Result<(), String> {
-            proved.run(&stream.fresh(), true, &mut output(LINE))?;
-            if stream.seq > 0 {
-                proved.set_seq(stream.seq);
-            }
-            Ok(())
-        };
-        let mut proved = Proved::new(stream.rows);
+        let mut proved = Proved::start(stream).map_err(|why| vec![why])?;
         let mut text = Vec::new();
         let mut run_all = || -> Result<(), String> {
-            started(&mut proved)?;
             for run in stream.runs() {
                 let mut bytes = run.bytes;
                 if run.six && !run.cut {
@@ -139,14 +118,6 @@ impl Pair {
         }
         said.insert(0, format!("run whole, {}:", if dice.is_none() { "in one piece" } else { "in chunks" }));
         Err(said)
-    }
-}
-
-fn count(counts: &mut Counts, refusal: u8) {
-    if refusal == 0 {
-        counts.done += 1;
-    } else {
-        counts.refused += 1;
     }
 }
 
@@ -196,19 +167,17 @@ fn chunks(proved: &mut Proved, bytes: &[u8], text: &mut Vec<u8>, dice: &mut Dice
 
 /// Whether lines or the end differ where each run is made in one piece: what a search can afford to ask of a long stream.
 pub fn ends_unlike(stream: &Stream) -> bool {
-    let proved = Proved::new(stream.rows);
-    let mut original = Original::new(stream.rows, stream.max, stream.ttl, stream.seq);
-    let mut memory = packed::after_fresh(&original, proved.state().to_vec());
-    let (mut lines, mut counts) = (Vec::new(), Counts { done: 1, refused: 0 });
+    let Ok(mut pair) = Pair::start(stream) else { return true };
+    let mut lines = Vec::new();
     let made = caught(|| {
         for command in &stream.commands {
-            let (reply, _) = original.command(command);
+            let (reply, _) = pair.original.command(command);
             reply.write(&mut lines);
-            count(&mut counts, reply.refusal);
+            pair.counts.count(reply.refusal);
         }
-        packed::write(&original, &mut memory);
+        packed::write(&pair.original, &mut pair.memory);
     });
-    made.is_err() || Pair { original, memory, counts, proved }.whole(stream, &lines, None).is_err()
+    made.is_err() || pair.whole(stream, &lines, None).is_err()
 }
 
 /// A stream's difference: the commands that were alike before it, and what is unlike.

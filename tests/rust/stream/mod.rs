@@ -1,4 +1,5 @@
-//! The driver of tests/stream-against-rust: the proved command stream beside the original, at scale.
+//! The driver of tests/stream-against-rust: the proved command stream beside the original, at scale; with `--cfg through_crate`
+//! the crate of rust/ in its place.
 //!
 //!     driver compare COMMANDS SEED LETTERS PROFILE|- ROWS|- CURRENT TALLY|-
 //!     driver bytes ROWS MAX TTL SEQ HEX|@FILE
@@ -8,10 +9,15 @@
 //! `-` is for what is not asked for; CURRENT is a file that holds the stream being tried, for a library that dies on it.
 //! Exit status: 0 no difference, 1 a difference, 2 not tried.
 mod all;
+#[cfg(through_crate)]
+mod by_crate;
 mod compare;
 mod decode;
 mod differences;
 mod encode;
+mod handed;
+#[cfg(not(through_crate))]
+mod library;
 mod lines;
 mod make;
 mod original;
@@ -30,6 +36,7 @@ mod words;
 
 use all::All;
 use compare::compare;
+use proved::{Proved, Side};
 use std::process::ExitCode;
 use streams::Stream;
 use tally::Tally;
@@ -97,6 +104,9 @@ fn number(word: &str) -> Result<u64, End> {
 /// One stream, shown whole.
 fn bytes(stream: &Stream) -> Result<(), End> {
     stream.startable().map_err(End::NotTried)?;
+    if stream.left_out() {
+        return Err(End::NotTried(format!("{} cannot be given another seq than 0", Proved::NAME)));
+    }
     match compare(stream, &mut Tally::default()) {
         Ok(()) => {
             print!("{}", show::commands(stream, stream.commands.len()));

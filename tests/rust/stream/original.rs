@@ -1,9 +1,11 @@
 //! The original under the command stream: what 01 has a run answer and leave, by the original's own calls.
 use super::decode::{self, Command};
 use super::differences;
+use super::handed::Handed;
 use super::lines::Reply;
+use super::proved::{Proved, Side};
 use crate::cache::{CoordCache, HintOutcome, Placed, Segment};
-use crate::driver::calls::{Addr, Entropy, Inside, Row};
+use crate::driver::calls::{Addr, Entropy, Entry, Inside, Row, elements};
 use crate::identity::NodeAddr;
 use crate::proto::stp::{CoordEntry, TreeCoordinate};
 use std::cell::{Cell, RefCell};
@@ -17,6 +19,8 @@ pub struct Original {
     pub rows: u64,
     cache: Cache,
     pending: Vec<CoordEntry>,
+    /// by the last command; kept only where the proved side has the same, since the benchmark counts the original's time
+    handed: Handed,
 }
 
 /// The places of a path.
@@ -27,7 +31,7 @@ impl Original {
     pub fn new(rows: u64, max: u64, ttl: u64, seq: u64) -> Self {
         let mut cache = Cache::new(max as usize, ttl);
         cache.set_seq(seq);
-        Original { rows, cache, pending: Vec::with_capacity(PLACES) }
+        Original { rows, cache, pending: Vec::with_capacity(PLACES), handed: Handed::Nothing }
     }
 
     pub fn cache(&self) -> &Cache {
@@ -38,6 +42,10 @@ impl Original {
         &self.pending
     }
 
+    pub fn handed(&self) -> &Handed {
+        &self.handed
+    }
+
     pub fn row(&self, key: &Addr) -> Option<Row> {
         self.cache.row(&NodeAddr::from_bytes(*key))
     }
@@ -45,6 +53,7 @@ impl Original {
     /// Makes the command at the front of these bytes, which are the last of their run, and tells how many it has.
     pub fn command(&mut self, bytes: &[u8]) -> (Reply, usize) {
         let code = bytes[0];
+        self.handed = Handed::Nothing;
         let Some((command, size)) = decode::command(bytes) else {
             if decode::empties_pending(code) {
                 self.pending.clear();
@@ -94,9 +103,15 @@ impl Original {
             Command::InsertVerifiedWithPathMtu { key, time, mtu } => {
                 self.verify(addr(key), time, |c, path| c.insert_verified_with_path_mtu(addr(key), path, time, mtu))
             }
-            Command::Get { key, time } => Ok(found(self.cache.get(&addr(key), time))),
-            Command::GetAndTouch { key, time } => Ok(found(self.cache.get_and_touch(&addr(key), time))),
-            Command::Remove { key } => Ok(first(self.cache.remove(&addr(key)).is_some().into())),
+            Command::Get { key, time } => Ok(found(self.cache.get(&addr(key), time), &mut self.handed)),
+            Command::GetAndTouch { key, time } => Ok(found(self.cache.get_and_touch(&addr(key), time), &mut self.handed)),
+            Command::Remove { key } => {
+                let removed = self.cache.remove(&addr(key));
+                if let Some(removed) = removed.as_ref().filter(|_| Proved::HANDS_BACK) {
+                    self.handed = Handed::Entry(Entry::of(removed));
+                }
+                Ok(first(removed.is_some().into()))
+            }
             Command::Demote { key } => {
                 refused(differences::stamps_refused(&self.cache))?;
                 Ok(first(self.cache.demote(&addr(key)).into()))
@@ -162,12 +177,16 @@ fn refused(number: Option<u8>) -> Result<(), u8> {
 }
 
 /// What is answered by one number.
-fn first(n: u64) -> [u64; 5] {
+pub fn first(n: u64) -> [u64; 5] {
     [n, 0, 0, 0, 0]
 }
 
-fn found(path: Option<&TreeCoordinate>) -> [u64; 5] {
-    path.map_or([0; 5], |path| [1, path.entries().len() as u64, 0, 0, 0])
+fn found(path: Option<&TreeCoordinate>, handed: &mut Handed) -> [u64; 5] {
+    let Some(path) = path else { return [0; 5] };
+    if Proved::HANDS_BACK {
+        *handed = Handed::Path(elements(path));
+    }
+    [1, path.entries().len() as u64, 0, 0, 0]
 }
 
 thread_local! {

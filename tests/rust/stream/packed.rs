@@ -37,10 +37,14 @@ const ROW_FIELDS: [Field; 14] = [
     ("weight", 1094, 1),
 ];
 
-/// The bytes of memory with so many whole rows, and a few behind them where the number is odd: these are never written.
+/// The bytes of memory with so many rows.
+pub fn whole(rows: u64) -> usize {
+    HEAD + rows as usize * ROW
+}
+
+/// The same, and a few behind them where the number is odd: these are never written.
 pub fn size(rows: u64) -> usize {
-    let rows = rows as usize;
-    HEAD + rows * ROW + if rows % 2 == 1 { (rows * 131 + 7) % ROW } else { 0 }
+    whole(rows) + if rows % 2 == 1 { (rows as usize * 131 + 7) % ROW } else { 0 }
 }
 
 /// What stands in the memory before fresh: no byte of it may be taken for a state's.
@@ -102,8 +106,7 @@ pub fn write(original: &Original, memory: &mut [u8]) {
 
 /// The memory of so many rows as fresh leaves it, where it held this before.
 pub fn after_fresh(original: &Original, mut memory: Vec<u8>) -> Vec<u8> {
-    let whole = HEAD + original.rows as usize * ROW;
-    memory[..whole].fill(0);
+    memory[..whole(original.rows)].fill(0);
     write(original, &mut memory);
     memory
 }
@@ -125,6 +128,9 @@ const SHOWN: usize = 12;
 
 /// The fields in which a memory is not the one that was expected.
 pub fn unlike(expected: &[u8], found: &[u8], rows: u64) -> Vec<String> {
+    if expected.len() != found.len() {
+        return vec![format!("memory: expected {} bytes, found {}", expected.len(), found.len())];
+    }
     let mut said = Vec::new();
     let mut say = |name: String, at: usize, n: usize| {
         let (e, f) = (&expected[at..at + n], &found[at..at + n]);
@@ -150,7 +156,7 @@ pub fn unlike(expected: &[u8], found: &[u8], rows: u64) -> Vec<String> {
             }
         }
     }
-    let whole = HEAD + rows as usize * ROW;
+    let whole = whole(rows);
     say("past the last whole row".to_string(), whole, expected.len() - whole);
     let more = said.len().saturating_sub(SHOWN);
     said.truncate(SHOWN);

@@ -1,40 +1,41 @@
-//! The proved command stream: the static library of the crate `streamlib`, behind one call.
-use super::packed::{self, PENDING};
+//! The proved side of a comparison: what it must have, and which of the two it is.
+use super::handed::Handed;
+use super::packed::PENDING;
+use super::streams::Stream;
 
-#[cfg(linked)]
-unsafe extern "C" {
-    fn stream_run(
-        state: *mut u8,
-        state_len: usize,
-        pending: *mut u8,
-        pending_len: usize,
-        input: *const u8,
-        input_len: usize,
-        last: u8,
-        output: *mut u8,
-        output_len: usize,
-        report: *mut u64,
-        report_len: usize,
-    );
-}
+/// The side that this driver is compiled for.
+#[cfg(not(through_crate))]
+pub type Proved = super::library::Library;
+#[cfg(through_crate)]
+pub type Proved = super::by_crate::ByCrate;
 
-/// What only the original is asked for (`--record`) is compiled without the library.
-#[cfg(not(linked))]
-#[allow(clippy::too_many_arguments)]
-unsafe fn stream_run(
-    _: *mut u8,
-    _: usize,
-    _: *mut u8,
-    _: usize,
-    _: *const u8,
-    _: usize,
-    _: u8,
-    _: *mut u8,
-    _: usize,
-    _: *mut u64,
-    _: usize,
-) {
-    unreachable!("the proved library is not linked")
+/// Runs commands on a memory of its own.
+pub trait Side: Clone {
+    /// what a difference calls it
+    const NAME: &'static str;
+    /// the script's option for it, and a space
+    const OPTION: &'static str;
+    /// whether a stream can start at a seq, which no command sets
+    const SETS_SEQ: bool;
+    /// whether it hands back paths and entries, which lines do not show
+    const HANDS_BACK: bool;
+
+    /// What stands in memory of so many rows before the first fresh.
+    fn before(rows: u64) -> Vec<u8>;
+
+    /// At the stream's start: fresh at its limits, with an empty pending path.
+    fn start(stream: &Stream) -> Result<Self, String>;
+
+    fn state(&self) -> &[u8];
+    fn pending(&self) -> [u8; PENDING];
+    fn counts(&self) -> Counts;
+
+    /// What the last command handed back beside its line.
+    fn handed(&self) -> &Handed;
+
+    /// Runs the commands of `input`; `last` where no more will come. The output is `output.len()` bytes less a guard: make
+    /// it by `output`.
+    fn run(&mut self, input: &[u8], last: bool, output: &mut [u8]) -> Result<Report, String>;
 }
 
 /// Why a run stopped.
@@ -56,6 +57,19 @@ pub struct Counts {
     pub refused: u64,
 }
 
+impl Counts {
+    /// As the first fresh leaves them.
+    pub const STARTED: Counts = Counts { done: 1, refused: 0 };
+
+    pub fn count(&mut self, refusal: u8) {
+        if refusal == 0 {
+            self.done += 1;
+        } else {
+            self.refused += 1;
+        }
+    }
+}
+
 #[derive(Debug)]
 pub struct Report {
     pub used: usize,
@@ -64,80 +78,8 @@ pub struct Report {
 }
 
 /// Bytes behind each lent part, which must stay as they are.
-const GUARD: usize = 64;
-const GUARDED: u8 = 0xc3;
-
-#[derive(Clone)]
-pub struct Proved {
-    size: usize,
-    state: Vec<u8>,
-    pending: [u8; PENDING + GUARD],
-    pub counts: Counts,
-}
-
-impl Proved {
-    /// Memory of so many rows in which something else stands, and an empty pending path.
-    pub fn new(rows: u64) -> Self {
-        let size = packed::size(rows);
-        let mut state = packed::dirt(size);
-        state.resize(size + GUARD, GUARDED);
-        let mut pending = [GUARDED; PENDING + GUARD];
-        pending[..PENDING].fill(0);
-        Proved { size, state, pending, counts: Counts::default() }
-    }
-
-    pub fn state(&self) -> &[u8] {
-        &self.state[..self.size]
-    }
-
-    pub fn pending(&self) -> &[u8; PENDING] {
-        self.pending.first_chunk().expect("it is longer")
-    }
-
-    /// Sets the head's seq, which no command does.
-    pub fn set_seq(&mut self, seq: u64) {
-        self.state[16..24].copy_from_slice(&seq.to_le_bytes());
-    }
-
-    /// Runs the commands of `input`; `last` where no more will come. The output is `output.len()` bytes less a guard: make
-    /// it by `output`.
-    pub fn run(&mut self, input: &[u8], last: bool, output: &mut [u8]) -> Result<Report, String> {
-        let room = output.len() - GUARD;
-        let mut report = [u64::MAX, u64::MAX, u64::MAX, self.counts.done, self.counts.refused, u64::from(GUARDED)];
-        // SAFETY: each pointer comes with the length of what it points to, and nothing else points there
-        unsafe {
-            stream_run(
-                self.state.as_mut_ptr(),
-                self.size,
-                self.pending.as_mut_ptr(),
-                PENDING,
-                input.as_ptr(),
-                input.len(),
-                last.into(),
-                output.as_mut_ptr(),
-                room,
-                report.as_mut_ptr(),
-                5,
-            );
-        }
-        let guards = [&self.state[self.size..], &self.pending[PENDING..], &output[room..]];
-        if guards.iter().any(|guard| guard.iter().any(|b| *b != GUARDED)) || report[5] != u64::from(GUARDED) {
-            return Err("bytes behind the lent parts were written".to_string());
-        }
-        self.counts = Counts { done: report[3], refused: report[4] };
-        let stop = match report[2] {
-            0 => Stop::End,
-            1 => Stop::Cut,
-            2 => Stop::Full,
-            3 => Stop::Six,
-            n => return Err(format!("the run stopped with {n}, which is no reason")),
-        };
-        if report[0] > input.len() as u64 || report[1] > room as u64 {
-            return Err(format!("of {} bytes {} used, to {room} bytes {} written", input.len(), report[0], report[1]));
-        }
-        Ok(Report { used: report[0] as usize, written: report[1] as usize, stop })
-    }
-}
+pub const GUARD: usize = 64;
+pub const GUARDED: u8 = 0xc3;
 
 /// An output of so many bytes, with a guard behind it.
 pub fn output(room: usize) -> Vec<u8> {

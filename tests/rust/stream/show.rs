@@ -4,6 +4,7 @@ use super::decode;
 use super::lines::shown;
 use super::original::{Original, caught};
 use super::packed::hex;
+use super::proved::{Proved, Side};
 use super::streams::Stream;
 
 /// A command's code and operands, hex, with numbers of up to eight bytes in decimal.
@@ -58,7 +59,7 @@ pub fn difference(stream: &Stream, difference: &Difference) -> String {
         text += "\n";
     }
     let whole = if difference.at < stream.commands.len() { "the last command" } else { "the stream" };
-    text += &format!("{whole}, expected as the Rust has it, found as the proved library has it:\n");
+    text += &format!("{whole}, expected as the Rust has it, found as {} has it:\n", Proved::NAME);
     for line in &difference.unlike {
         text += &format!("       {line}\n");
     }

@@ -3,7 +3,7 @@ use super::compare::LINE;
 use super::make;
 use super::original::Original;
 use super::profiles::{GATEWAY, Keys, Taste};
-use super::proved::{Proved, Stop, output};
+use super::proved::{Proved, Side, Stop, output};
 use super::streams::Stream;
 use crate::driver::calls::probation_bound;
 use std::hint::black_box;
@@ -16,8 +16,7 @@ const ROUNDS: usize = 5;
 
 /// The whole run through the proved library; `take` gets each output.
 fn proved(stream: &Stream, bytes: &[u8], mut take: impl FnMut(&[u8])) -> Result<f64, String> {
-    let mut proved = Proved::new(stream.rows);
-    proved.run(&stream.fresh(), true, &mut output(LINE))?;
+    let mut proved = Proved::start(stream)?;
     let mut out = output(CHUNK);
     let mut from = 0;
     let start = Instant::now();

@@ -3,6 +3,7 @@ use super::decode;
 use super::differences;
 use super::encode;
 use super::packed::hex;
+use super::proved::{Proved, Side};
 
 #[derive(Clone)]
 pub struct Stream {
@@ -55,6 +56,11 @@ impl Stream {
         Ok(())
     }
 
+    /// Whether the proved side cannot be brought to its start.
+    pub fn left_out(&self) -> bool {
+        self.seq > 0 && !Proved::SETS_SEQ
+    }
+
     /// Runs as hex, with a comma between them.
     pub fn hex(&self) -> String {
         self.runs().iter().map(|run| hex(&run.bytes)).collect::<Vec<_>>().join(",")
@@ -76,6 +82,6 @@ impl Stream {
     /// The options that run it again, with its bytes as they are named.
     pub fn options(&self, bytes: &str) -> String {
         let seq = if self.seq == 0 { String::new() } else { format!(" --seq {}", self.seq) };
-        format!("--rows {} --max {} --ttl {}{seq} --bytes {bytes}", self.rows, self.max, self.ttl)
+        format!("{}--rows {} --max {} --ttl {}{seq} --bytes {bytes}", Proved::OPTION, self.rows, self.max, self.ttl)
     }
 }

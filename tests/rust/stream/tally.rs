@@ -1,11 +1,14 @@
 //! How often each kind of reply came: that no profile passes by what it is for.
 use super::lines::Reply;
+use super::streams::Stream;
 use std::collections::BTreeMap;
 
 #[derive(Default)]
 pub struct Tally {
     pub commands: u64,
     pub refused: u64,
+    pub skipped_streams: u64,
+    pub skipped_commands: u64,
     replies: BTreeMap<Kind, u64>,
 }
 
@@ -31,9 +34,16 @@ impl Tally {
         *self.replies.entry((code, reply.refusal, numbers)).or_insert(0) += 1;
     }
 
+    pub fn skip(&mut self, stream: &Stream) {
+        self.skipped_streams += 1;
+        self.skipped_commands += stream.commands.len() as u64;
+    }
+
     pub fn add(&mut self, other: &Tally) {
         self.commands += other.commands;
         self.refused += other.refused;
+        self.skipped_streams += other.skipped_streams;
+        self.skipped_commands += other.skipped_commands;
         for (kind, n) in &other.replies {
             *self.replies.entry(*kind).or_insert(0) += n;
         }
