@@ -3,11 +3,12 @@
  * The state is memory that the caller lends: 40 bytes of head and rows of 1,095 bytes (docs/PACKING.md), any alignment. Every
  * function takes it as a pointer and its length in bytes. Make it by coord_cache_fresh.
  *
- * Every function returns the number of its refusal, or 0 if done:
+ * Every call returns the number of its refusal, or 0 if done:
  *   1  the state is not sound                           any call but fresh
  *   2  a path of 0 elements, or of over 32              inserts
  *   3  the sequence numbers are used up                 inserts, demote
- *   4  no main row is left, and no room can be made     verified inserts
+ *   4  the key is not in main, no main row is left,     verified inserts
+ *      and no room can be made
  *   5  too few rows for max, or over 1,024 of them      fresh
  *   6  a funding kind over 1                            insert_funded, insert_stated
  * A refused call leaves the state as it was. Where several hold, 6 comes first, then 5, 1, 2, 3, 4.
@@ -15,8 +16,8 @@
  * `values` gets five numbers; those that a call does not use, and all five of a refused call, are 0.
  *
  * A function whose name ends in _unchecked does the same without asking whether the state is sound, and never returns 1. Call it only
- * on a state that is known to be sound: one that fresh made and that only these functions have written since. On any other state its
- * behaviour is undefined. Calls on one state must not run at the same time, but for calls that take it as const.
+ * on a state that is known to be sound: one that fresh made and that only these functions have written since. One for which
+ * coord_cache_is_sound gave 1 is as good. On any other state its behaviour is undefined. Calls on one state must not run at the same time, but for calls that take it as const.
  *
  * Addresses are 16 bytes. A path is its elements, node first and root last, 32 bytes each: address 16, sequence 8, timestamp 8,
  * little-endian; path_len counts bytes, and those behind the last whole element are not read. Times are milliseconds.
@@ -43,8 +44,9 @@ extern "C" {
 /* 1 if the state is sound, else 0. */
 uint8_t coord_cache_is_sound(const uint8_t *state, size_t len);
 
-/* An empty cache of these limits; the only call that a memory in any condition is good for. Done, it has written every byte of the head
- * and of all rows that fit whole; bytes behind the last whole row are never written, by no call. */
+/* An empty cache of these limits; the only call that a memory in any condition is good for (the others refuse one that is not sound):
+ * it reads none of it, so that the memory may be uninitialised. Done, it has written every byte of the head and of all rows that fit
+ * whole; bytes behind the last whole row are never written, by no call. */
 uint8_t coord_cache_fresh(uint8_t *state, size_t len, uint64_t max, uint64_t ttl);
 
 /* Hints. values: outcome (inserted 0, changed 1, unchanged 2, rejected 3), added weight, segment (main 0, probation 1),

@@ -14,8 +14,8 @@ use crate::sys::State;
 /// A coordinate cache: for each node, the path to the root of its tree.
 ///
 /// Hints come from packets that anyone may have written. They pay for the room that they take, and none displaces an entry that a
-/// lookup verified in the last [`VERIFIED_TTL_MS`](crate::VERIFIED_TTL_MS), but for what the node says of itself
-/// ([`insert_stated`](Self::insert_stated)). Where room is needed, the entry that was not used for longest leaves. Expired entries
+/// lookup verified in the last [`VERIFIED_TTL_MS`](crate::VERIFIED_TTL_MS) and that has not expired, but for what the node says of
+/// itself ([`insert_stated`](Self::insert_stated)). Where room is needed, the entry that was not used for longest leaves. Expired entries
 /// are no longer found, but stand until something removes them.
 ///
 /// Times are milliseconds, from any start; the cache has no clock of its own and takes each call's time as it is. Sums of times
@@ -80,8 +80,8 @@ impl<E> CoordCache<E> {
 
     /// Writes a hint that its writer is not charged for.
     ///
-    /// It does not touch an entry that is verified, and finds no room where all others are: it is then answered
-    /// [`Rejected`](crate::HintOutcome::Rejected). What a peer must pay for goes by [`insert_funded`](Self::insert_funded).
+    /// It does not touch an unexpired entry that is verified, and a new key finds no room where the verified entries leave none: it is
+    /// then answered [`Rejected`](crate::HintOutcome::Rejected). What a peer must pay for goes by [`insert_funded`](Self::insert_funded).
     ///
     /// This and every other insert refuses a path of over 32 elements by 2.
     ///
@@ -123,9 +123,10 @@ impl<E> CoordCache<E> {
 
     /// Writes a hint that its writer pays for: charge it the [`added_weight`](Placed::added_weight) of the answer.
     ///
-    /// A new key costs its weight, a deeper path of a held one the difference to the most it has weighed, anything else nothing: so
-    /// no one can make an honest correction dear by a shallow forgery before it. A new key that is not paid goes to probation, and
-    /// is found there all the same; a later write that pays brings it to main. A deeper path that is not paid is rejected.
+    /// In main a new key costs its weight, and a held one what its path weighs above its row, which a shallower path does not lower:
+    /// so no one can make an honest correction dear by a shallow forgery before it. A new key that is not paid goes to probation, and
+    /// is found there all the same; a later write that pays its whole weight brings it to main. In main a path that weighs more and is
+    /// not paid is rejected; in probation it is stored.
     ///
     /// ```
     /// # use coordcache::{CoordCache, Funding, NodeAddr, Segment, TreeCoordinate};
@@ -151,8 +152,9 @@ impl<E> CoordCache<E> {
     /// Writes what a node says of itself, in a message that is known to be its own.
     ///
     /// A path that begins with `addr` replaces even a verified entry, if it differs: the node has moved since the lookup. The entry
-    /// is a hint from then on. A deeper path of a held key is stored even where main has no room. A path that begins with another
-    /// address is no such statement, and is written as by [`insert_funded`](Self::insert_funded).
+    /// is a hint from then on. A path that weighs more than its row in main must be paid as by [`insert_funded`](Self::insert_funded),
+    /// and is then stored even where main has no room. A path that begins with another address is no such statement, and is written as
+    /// by `insert_funded`.
     ///
     /// ```
     /// # use coordcache::{CoordCache, Funding, HintOutcome, NodeAddr, TreeCoordinate};
@@ -177,10 +179,10 @@ impl<E> CoordCache<E> {
 
     /// Writes the answer of a lookup whose proof was checked.
     ///
-    /// It replaces whatever the key has, which is how a forged entry is put right. For [`VERIFIED_TTL_MS`](crate::VERIFIED_TTL_MS)
-    /// no hint displaces it but the node's own ([`insert_stated`](Self::insert_stated)). If there is no room it is stored past
-    /// `max_entries`, while there are rows; it is refused by 4 where all rows but probation's are taken, and too many of them are
-    /// verified to make room.
+    /// It replaces whatever the key has, which is how a forged entry is put right. For [`VERIFIED_TTL_MS`](crate::VERIFIED_TTL_MS),
+    /// while it has not expired, no hint displaces it but the node's own ([`insert_stated`](Self::insert_stated)). If there is no room
+    /// it is stored past `max_entries`, while there are rows; a key that is not in main is refused by 4 where all rows but probation's
+    /// are taken, and too many of them are verified to make room.
     ///
     /// ```
     /// # use coordcache::{CoordCache, HintOutcome, NodeAddr, TreeCoordinate};

@@ -5,7 +5,7 @@ use crate::packing::{self, ELEMENT};
 use crate::path::Path;
 use crate::sys::Row;
 
-/// How long a verified entry yields to no hint, in milliseconds.
+/// How long a verified entry yields to no hint, in milliseconds, unless it expires before.
 ///
 /// It counts from the verified insert, and use does not prolong it as it does the expiry: else a route in use could never again be
 /// corrected by a hint.
@@ -77,12 +77,12 @@ impl CacheEntry {
         self.source
     }
 
-    /// Whether the entry yields to no hint at this time.
+    /// Whether the entry, while unexpired, yields to no hint at this time.
     pub fn is_verified(&self, current_time_ms: u64) -> bool {
         self.source == CoordSource::Verified && current_time_ms <= self.verified_until
     }
 
-    /// The last millisecond in which a verified entry yields to no hint; 0 for a hint.
+    /// The last millisecond in which a verified entry, while unexpired, yields to no hint; 0 for a hint.
     pub fn verified_until(&self) -> u64 {
         self.verified_until
     }

@@ -33,7 +33,7 @@
 //! - Lookups hand out a [`Path`], which has the names of a [`TreeCoordinate`]; [`to_coordinate`](Path::to_coordinate) is a copy.
 //! - [`demote`](CoordCache::demote) returns a `Result`, since it may need a sequence number.
 //!
-//! `docs/DIFFERENCES.md` lists all differences with their reasons.
+//! `docs/DIFFERENCES.md` has the differences in what the calls do, with their reasons, and what this crate leaves out.
 //!
 //! # What it is linked with
 //!

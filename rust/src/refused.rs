@@ -23,9 +23,10 @@ pub enum Refused {
     NotSound = 1,
     /// 2: the path has over [`MAX_PATH`](crate::MAX_PATH) elements. (An empty one cannot be made here.)
     PathLength = 2,
-    /// 3: the sequence numbers that order the entries are used up; one that wrapped round would make a new entry the oldest.
+    /// 3: the sequence numbers that order entries of one millisecond are used up; none may wrap round.
     SequenceUsedUp = 3,
-    /// 4: a verified insert found every main row taken, and could evict none of them, since too many are verified themselves.
+    /// 4: a verified insert of a key that is not in main found every main row taken, and room could not be made, since too many of
+    /// them are verified themselves.
     NoMainRow = 4,
     /// 5: too few rows for this `max_entries`, or over [`MAX_ROWS`](crate::MAX_ROWS).
     RowCount = 5,

@@ -9,7 +9,7 @@
 #include "coordcache.h"
 
 enum { ROWS = 4, SIZE = COORD_CACHE_HEAD + ROWS * COORD_CACHE_ROW, ELEMENTS = 2, PATH = ELEMENTS * COORD_CACHE_ELEMENT };
-enum { PLACES_AT = 17, SOURCE_AT = 1068, VERIFIED = 0 }; /* docs/PACKING.md */
+enum { SOURCE_AT = 1068, VERIFIED = 0 }; /* docs/PACKING.md */
 
 static const uint64_t now = UINT64_C(1700000000000);
 
@@ -32,7 +32,10 @@ static bool verified_stays(const uint8_t *state, const struct route *r) {
     uint64_t values[5], at;
     if (coord_cache_get(state, SIZE, r->key, now, values, &at) != 0) return false;
     if (values[0] != 1 || values[1] != ELEMENTS || memcmp(state + at, r->path, PATH) != 0) return false;
-    return state[at - PLACES_AT + SOURCE_AT] == VERIFIED;
+    uint8_t copy[SIZE], row[COORD_CACHE_ROW];
+    memcpy(copy, state, SIZE);
+    if (coord_cache_remove(copy, SIZE, r->key, values, row) != 0 || values[0] != 1) return false;
+    return row[SOURCE_AT] == VERIFIED;
 }
 
 int main(void) {

@@ -3,7 +3,7 @@ use crate::node_addr::NodeAddr;
 ghost use mathlib.Core.Path.{_≡_};
 ghost use Prim.Native.Nat.{_≤_};
 ghost use lib.ListN.{length};
-ghost use Rattle.coord.specs.Paths.{emptyPath, elements, sameEntry, samePath, startsAt, pathWeight, appended};
+ghost use Rattle.coord.specs.Paths.{emptyPath, elements, startsAt, pathWeight, appended};
 
 // A node on a path, with the sequence number and the timestamp of its declaration.
 pub struct CoordEntry {
@@ -22,22 +22,6 @@ pub struct Path {
 pub struct Appended {
     pub refusal: u8,
     pub path: Path,
-}
-
-impl CoordEntry {
-    // Every field counts.
-    pub fn same_as(self, other: CoordEntry) -> bool
-        ensures { λ r. ⌜ r ≡ sameEntry self other ⌝ }
-    {
-        let x = self.node_addr;
-        let y = other.node_addr;
-        if x.same_as(y) {
-            if self.sequence == other.sequence {
-                return self.timestamp == other.timestamp;
-            }
-        }
-        false
-    }
 }
 
 impl Path {
@@ -63,26 +47,6 @@ impl Path {
         ensures { λ r. ⌜ r ≤ 32 ⌝ }
     {
         if self.len < 32 { self.len } else { 32 }
-    }
-
-    // Element by element; places past the length are not read.
-    pub fn same_as(self, other: Path) -> bool
-        ensures { λ r. ⌜ r ≡ samePath self other ⌝ }
-    {
-        let n = self.count();
-        if n != other.count() {
-            return false;
-        }
-        let mut i = 0;
-        while i < n {
-            let x = self.entries[i];
-            let y = other.entries[i];
-            if !x.same_as(y) {
-                return false;
-            }
-            i += 1;
-        }
-        true
     }
 
     pub fn starts_at(self, key: NodeAddr) -> bool

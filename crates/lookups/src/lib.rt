@@ -1,4 +1,4 @@
-// get and get_and_touch, and touch, which does the work of the latter.
+// get and get_and_touch; touch, which is the latter without the part; and where the part stands.
 use coord::node_addr::NodeAddr;
 use paths::path::PathPlace;
 use search::answers::Search;
@@ -41,7 +41,7 @@ fn touch_at(state: &mut [u8], n: usize, i: usize, time: u64) -> TouchAnswer
     TouchAnswer::Found(len)
 }
 
-// The work of get_and_touch: reply and memory. The part is then read from the memory by `get`.
+// get_and_touch without the part: reply and memory.
 pub fn touch_unchecked(state: &mut [u8], key: NodeAddr, time: u64) -> TouchAnswer
     requires { ⌜ sound (capacity (now state)) (view (now state)) ≡ true ⌝ }
     ensures { λ r. ⌜ (touchReply r ≡ reply (call (now (state .entry)) (GetAndTouch key time) .answer)) × (r ≡ touchAnswer (call (now (state .entry)) (GetAndTouch key time) .answer)) × (now (state .exit) ≡ call (now (state .entry)) (GetAndTouch key time) .memory) ⌝ }

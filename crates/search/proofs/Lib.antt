@@ -1,5 +1,4 @@
 pub mod OrderLaws
-pub mod BigEndianLaws
 pub mod KeyBytes
 pub mod Halves
 pub mod SearchLaws

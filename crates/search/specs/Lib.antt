@@ -1,2 +1,1 @@
-pub mod BigEndian
 pub mod ByKey
