@@ -1,66 +1,49 @@
--- The loops over the bytes of two addresses, and the bytes of a row's key.
-use mathlib.Core.Path.{_≡_, refl, sym, ap, _∙_}
+-- The two numbers of an address decide its order, and the bytes of a row's key.
+use mathlib.Core.Path.{_≡_, sym, ap, _∙_}
 use mathlib.Core.List.{List}
 use Prim.Native.Nat.{ℕ, _+_, _*_, _≤_, _<_}
 use native.Mathlib.Omega.{arith}
-use lib.ListN.{length, drop, getD, length-drop}
-use lib.Seq.{length-take-le, getD-take, getD-drop}
-use borrow.Author.Tests.{lt-ltb, le-ltb}
-use Rattle.coord.specs.Addresses.{sameAddr, addrBefore}
-use Rattle.coord.proofs.Laws.{same-stop, same-go, same-end, before-stop, before-go, before-end}
+use lib.ListN.{length, drop}
+use Rattle.coord.specs.declared.node_addr.NodeAddr.{NodeAddr}
+use Rattle.coord.specs.Addresses.{addrBefore}
 use Rattle.rules.specs.Records.{Row}
 use Rattle.rules.specs.Rows.{rowAt}
 use Rattle.rules.specs.Memory.{cut, rowOf, viewRows}
+use Rattle.rules.proofs.Addresses.{same-eq}
 use Rattle.rules.proofs.Foreign.{rows-of-length}
 use Rattle.raw.proofs.StoreLaws.{cut-cut}
 use Rattle.memory.proofs.Fields.{row-at}
+use Rattle.search.specs.BigEndian.{NumberOf}
 use Rattle.search.specs.ByKey.{orderOf}
-use Rattle.search.specs.declared.answers.Order.{Order}
 use Rattle.search.specs.declared.answers.Order.the-variants.{Less, Equal, Greater}
+use Rattle.search.proofs.OrderLaws.{before-less, same-equal, behind-greater}
+use Rattle.search.proofs.BigEndianLaws.{held-halves, given-halves, first-less, second-less, both-same}
 
--- ---- a loop that has compared the first i of sixteen bytes
+-- ---- an address in memory against another, a and b the numbers of their first eight bytes
 
-abbrev pub bytesOrder : List ℕ → List ℕ → Order
-bytesOrder x y = orderOf (record { 0 = x }) (record { 0 = y })
+module _ (at : ℕ) (l : List ℕ) (k : NodeAddr) (fits : at + 16 ≤ length l) (size : 16 ≡ length (k .0)) {a b : ℕ} (u : NumberOf (cut at 8 l) a) (v : NumberOf (cut 0 8 (k .0)) b) where
+  pub high-less : a < b → Less ≡ orderOf (record { 0 = cut at 16 l }) k
+  unfolding addrBefore
+  high-less h = sym (before-less _ _ (first-less (held-halves at l fits) (given-halves (k .0) (sym size)) u v h))
 
-pub record Compared (x y : List ℕ) (i : ℕ) : Type 0 where
-  pub within : i ≤ 16
-  pub left : length x ≡ 16
-  pub right : length y ≡ 16
-  pub rest : bytesOrder x y ≡ bytesOrder (drop i x) (drop i y)
+  pub high-greater : b < a → Greater ≡ orderOf (record { 0 = cut at 16 l }) k
+  unfolding addrBefore
+  high-greater h = sym (behind-greater _ _ (first-less (given-halves (k .0) (sym size)) (held-halves at l fits) v u h))
 
-pub compared-start : (x y : List ℕ) → length x ≡ 16 → length y ≡ 16 → Compared x y 0
-compared-start x y lx ly = record { within = omega arith; left = lx; right = ly; rest = refl }
+  -- these are equal, and c and d the numbers of the last eight bytes
+  module _ (p : b ≤ a) (q : a ≤ b) {c d : ℕ} (s : NumberOf (cut (at + 8) 8 l) c) (t : NumberOf (cut 8 8 (k .0)) d) where
+    pub low-less : c < d → Less ≡ orderOf (record { 0 = cut at 16 l }) k
+    unfolding addrBefore
+    low-less h = sym (before-less _ _ (second-less (held-halves at l fits) (given-halves (k .0) (sym size)) u v (omega arith) s t h))
 
--- u and v are the bytes at i
-module _ {x y : List ℕ} {i u v : ℕ} (d : Compared x y i) (h : i < 16) (p : getD x i 0 ≡ u) (q : getD y i 0 ≡ v) where
-  pub compared-less : u < v → Less ≡ bytesOrder x y
-  unfolding orderOf sameAddr addrBefore
-  compared-less l = sym (d .rest ∙ rw (before-stop x y i (omega arith) (omega arith) (omega arith), p, q, lt-ltb u v l))
+    pub low-greater : d < c → Greater ≡ orderOf (record { 0 = cut at 16 l }) k
+    unfolding addrBefore
+    low-greater h = sym (behind-greater _ _ (second-less (given-halves (k .0) (sym size)) (held-halves at l fits) v u (omega arith) t s h))
 
-  pub compared-greater : v < u → Greater ≡ bytesOrder x y
-  unfolding orderOf sameAddr addrBefore
-  compared-greater l =
-      let n : getD x i 0 ≡ getD y i 0 → ⊥ = omega arith in
-      sym (d .rest ∙ rw (before-stop x y i (omega arith) (omega arith) n, same-stop x y i (omega arith) (omega arith) n, p, q, le-ltb u v (omega arith)))
-
-  pub compared-next : v ≤ u → u ≤ v → Compared x y (i + 1)
-  unfolding orderOf sameAddr addrBefore
-  compared-next a b =
-      let e : getD x i 0 ≡ getD y i 0 = omega arith in
-      record { within = omega arith; left = d .left; right = d .right; rest = d .rest ∙ rw (before-go x y i (omega arith) (omega arith) e, same-go x y i (omega arith) (omega arith) e) }
-
-pub compared-end : {x y : List ℕ} {i : ℕ} → Compared x y i → 16 ≤ i → Equal ≡ bytesOrder x y
-unfolding orderOf sameAddr addrBefore
-compared-end {x} {y} {i} d h = sym (d .rest ∙ rw (before-end x y i (omega arith) (omega arith), same-end x y i (omega arith) (omega arith)))
-
--- ---- sixteen bytes of the memory
-
-pub cut-length : (at : ℕ) (l : List ℕ) → at + 16 ≤ length l → length (cut at 16 l) ≡ 16
-cut-length at l h = length-take-le 16 (drop at l) (rw length-drop (omega arith))
-
-pub cut-byte : (at : ℕ) (l : List ℕ) (i : ℕ) → i < 16 → getD (cut at 16 l) i 0 ≡ getD l (at + i) 0
-cut-byte at l i h = rw (getD-take, getD-drop)
+    pub low-equal : d ≤ c → c ≤ d → Equal ≡ orderOf (record { 0 = cut at 16 l }) k
+    low-equal g h =
+        let e = both-same (held-halves at l fits) (given-halves (k .0) (sym size)) u v (omega arith) s t (omega arith) in
+        sym (same-equal _ _ (same-eq _ _ (ap (λ (x : List ℕ). record { 0 = x }) e)))
 
 -- ---- the rows of the view
 

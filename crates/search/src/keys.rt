@@ -12,41 +12,13 @@ ghost use lib.ListN.{length};
 ghost use Rattle.rules.specs.Rows.{rowSize, rowAt};
 ghost use Rattle.rules.specs.Sound.{ascends};
 ghost use Rattle.rules.specs.Memory.{headSize, addressSize, cut, viewRows};
+ghost use Rattle.search.specs.BigEndian.{NumberOf};
 ghost use Rattle.search.specs.ByKey.{orderOf, searched};
 
-// The address at `at` against an address. The first byte that differs decides.
-fn order_to(state: &[u8], at: usize, key: NodeAddr) -> Order
-    requires { ⌜ at + addressSize ≤ length (now state) ⌝ }
-    ensures { λ r. ⌜ r ≡ orderOf (record { 0 = cut at addressSize (now (state .entry)) }) key ⌝ }
-{
-    let bytes = key.0;
-    let mut i = 0;
-    while i < 16 {
-        let held = state[at + i];
-        let given = bytes[i];
-        if held < given {
-            return Order::Less;
-        }
-        if given < held {
-            return Order::Greater;
-        }
-        i += 1;
-    }
-    Order::Equal
-}
-
-// The key of row i of n against an address.
-fn key_order(state: &[u8], n: usize, i: usize, key: NodeAddr) -> Order
-    requires { ⌜ (i < n) × (headSize + n * rowSize ≤ length (now state)) ⌝ }
-    ensures { λ r. ⌜ r ≡ orderOf (rowAt i (viewRows n (now (state .entry)) .rows) .key) key ⌝ }
-{
-    order_to(state, HEAD + i * ROW, key)
-}
-
-// Eight bytes as a number, the first highest: what guesses are made from. Summed by fours, it compiles to one load and a reversal of
-// its bytes.
+// Eight bytes as a number, the first highest. Summed by fours, it compiles to one load and a reversal of its bytes.
 fn be_u64(s: &[u8], at: usize) -> u64
     requires { ⌜ at + 8 ≤ length (now s) ⌝ }
+    ensures { λ r. ⌜ NumberOf (cut at 8 (now (s .entry))) r ⌝ }
 {
     (wide(s[at]) * 0x100_0000
         + wide(s[at + 1]) * 0x1_0000
@@ -57,6 +29,39 @@ fn be_u64(s: &[u8], at: usize) -> u64
             + wide(s[at + 5]) * 0x1_0000
             + wide(s[at + 6]) * 0x100
             + wide(s[at + 7]))
+}
+
+// The address at `at` against an address: sixteen bytes against sixteen, as two numbers each, whose order is proved to be the bytes'.
+fn order_to(state: &[u8], at: usize, key: NodeAddr) -> Order
+    requires { ⌜ at + addressSize ≤ length (now state) ⌝ }
+    ensures { λ r. ⌜ r ≡ orderOf (record { 0 = cut at addressSize (now (state .entry)) }) key ⌝ }
+{
+    let bytes = key.0;
+    let high = be_u64(state, at);
+    let key_high = be_u64(&bytes, 0);
+    if high < key_high {
+        return Order::Less;
+    }
+    if key_high < high {
+        return Order::Greater;
+    }
+    let low = be_u64(state, at + 8);
+    let key_low = be_u64(&bytes, 8);
+    if low < key_low {
+        return Order::Less;
+    }
+    if key_low < low {
+        return Order::Greater;
+    }
+    Order::Equal
+}
+
+// The key of row i of n against an address.
+fn key_order(state: &[u8], n: usize, i: usize, key: NodeAddr) -> Order
+    requires { ⌜ (i < n) × (headSize + n * rowSize ≤ length (now state)) ⌝ }
+    ensures { λ r. ⌜ r ≡ orderOf (rowAt i (viewRows n (now (state .entry)) .rows) .key) key ⌝ }
+{
+    order_to(state, HEAD + i * ROW, key)
 }
 
 // How many of n rows stand between two keys so far apart, were keys spread evenly, as hashes are.
@@ -93,21 +98,6 @@ fn probe(lo: usize, hi: usize, guess: usize, trust: usize) -> usize
     if guess < hi { guess } else { hi - 1 }
 }
 
-// The next guess; none is made once `trust` is used up.
-fn next_guess(state: &[u8], n: usize, i: usize, key_high: u64, trust: usize) -> usize
-    requires { ⌜ (i < n) × (headSize + n * rowSize ≤ length (now state)) ⌝ }
-{
-    if trust == 0 {
-        return 0;
-    }
-    guess_from(state, n, i, key_high)
-}
-
-// How many guesses are worth it, as a power of two: none among few rows, where halving ends sooner.
-fn trust_in(n: usize) -> usize {
-    if n < 512 { 0 } else { 64 }
-}
-
 // The row of a key: rows below `lo` stand before it, rows from `hi` on behind it. Where seven guesses don't end it, as with keys
 // that are no hashes, halving does.
 pub fn search(state: &[u8], n: usize, key: NodeAddr) -> Search
@@ -117,14 +107,15 @@ pub fn search(state: &[u8], n: usize, key: NodeAddr) -> Search
     let bytes = key.0;
     let key_high = be_u64(&bytes, 0);
     let mut guess = rows_in(n, key_high);
-    let mut trust = trust_in(n);
+    // Halved each turn: 0 after seven.
+    let mut trust = 64;
     let mut lo = 0;
     let mut hi = n;
     while lo < hi {
         let mid = probe(lo, hi, guess, trust);
         let order = key_order(state, n, mid, key);
+        guess = guess_from(state, n, mid, key_high);
         trust = trust / 2;
-        guess = next_guess(state, n, mid, key_high, trust);
         match order {
             Order::Less => {
                 lo = mid + 1;

@@ -1,71 +1,80 @@
--- What is left to compare decides as the whole does.
-use Prim.Native.Nat.{_-_}
-use mathlib.Core.Path.{refl}
+-- The first eight bytes decide, and where they are the same the last eight do.
 use native.Mathlib.Omega.{arith}
 use borrow.Author.Needs.{needs}
-use Rattle.rules.specs.Memory.{cut}
-use Rattle.search.proofs.KeyBytes.{Compared, compared-start, compared-less, compared-greater, compared-next, compared-end, cut-length, cut-byte}
+use Rattle.search.proofs.KeyBytes.{high-less, high-greater, low-less, low-greater, low-equal}
 use Rattle.search.proofs.keys.order_to.Statement.{statement}
 use Rattle.search.proofs.keys.order_to.Tie as tie
 
-abbrev Inv-loop : tie.InvT-loop
-Inv-loop state at bytes i₀ i = Compared (cut at 16 state) bytes i
+be-u64-requires : tie.Need-be-u64-requires
+be-u64-requires c κs = search needs
 
-abbrev μ-loop : tie.MeasureT-loop
-μ-loop state at bytes i₀ i = 16 - i
+slice-aggregate-be-u64 : tie.Need-slice-aggregate-be-u64
+slice-aggregate-be-u64 c = search needs
 
-loop-holds : tie.Need-loop-holds Inv-loop μ-loop
-loop-holds c = compared-start _ _ (cut-length _ _ (c .before .pre)) (search needs)
+be-u64-requires-2 : tie.Need-be-u64-requires-2
+be-u64-requires-2 c κs = omega (arith, slice-aggregate-be-u64 c)
 
-add-held : tie.Need-add-held Inv-loop μ-loop
-add-held c = search needs
-
-shared-slice-read-held : tie.Need-shared-slice-read-held Inv-loop μ-loop
-shared-slice-read-held c = search needs
-
-array-read-given : tie.Need-array-read-given Inv-loop μ-loop
-array-read-given c = search needs
-
-returns : tie.Need-returns Inv-loop μ-loop
+returns : tie.Need-returns
 returns c =
-    let p = c .before .before .before in
-    let s = p .before .before .args in
-    compared-less (p .loop .inv) (omega arith) (cut-byte (s .at) (s .state .now) _ (omega arith)) refl (c .if1 .taken)
+    let d = c .before in
+    let s = d .before .before .before .before .before in
+    high-less (s .args .at) (s .args .state .now) (s .args .key) (s .pre) (slice-aggregate-be-u64 (d .before)) (d .before .before .be-u64 .ensures) (d .be-u642 .ensures) (c .if1 .taken)
 
-returns-2 : tie.Need-returns-2 Inv-loop μ-loop
+returns-2 : tie.Need-returns-2
 returns-2 c =
-    let p = c .before .before .before .before in
-    let s = p .before .before .args in
-    compared-greater (p .loop .inv) (omega arith) (cut-byte (s .at) (s .state .now) _ (omega arith)) refl (c .if2 .taken)
+    let d = c .before .before in
+    let s = d .before .before .before .before .before in
+    high-greater (s .args .at) (s .args .state .now) (s .args .key) (s .pre) (slice-aggregate-be-u64 (d .before)) (d .before .before .be-u64 .ensures) (d .be-u642 .ensures) (c .if2 .taken)
 
-add-i : tie.Need-add-i Inv-loop μ-loop
-add-i c = search needs
+add-be-u64 : tie.Need-add-be-u64
+add-be-u64 c = search needs
 
-loop-less : tie.Need-loop-less Inv-loop μ-loop
-loop-less c = search needs
+be-u64-requires-3 : tie.Need-be-u64-requires-3
+be-u64-requires-3 c κs = search needs
 
-loop-again : tie.Need-loop-again Inv-loop μ-loop
-loop-again c =
-    let p = c .before .before .before .before in
-    let s = p .before .before .args in
-    compared-next (p .loop .inv) (omega arith) (cut-byte (s .at) (s .state .now) _ (omega arith)) refl (c .before .if1 .left) (c .if2 .left)
+slice-aggregate-be-u64-2 : tie.Need-slice-aggregate-be-u64-2
+slice-aggregate-be-u64-2 c = search needs
 
-returns-3 : tie.Need-returns-3 Inv-loop μ-loop
-returns-3 c = compared-end (c .before .loop .inv) (omega arith)
+be-u64-requires-4 : tie.Need-be-u64-requires-4
+be-u64-requires-4 c κs = omega (arith, slice-aggregate-be-u64-2 c)
+
+returns-3 : tie.Need-returns-3
+returns-3 c =
+    let e = c .before in
+    let t = e .before .before .before in
+    let d = t .before .before in
+    let s = d .before .before .before .before .before in
+    low-less (s .args .at) (s .args .state .now) (s .args .key) (s .pre) (slice-aggregate-be-u64 (d .before)) (d .before .before .be-u64 .ensures) (d .be-u642 .ensures) (t .before .if1 .left) (t .if2 .left) (e .before .before .be-u643 .ensures) (e .be-u644 .ensures) (c .if3 .taken)
+
+returns-4 : tie.Need-returns-4
+returns-4 c =
+    let e = c .before .before in
+    let t = e .before .before .before in
+    let d = t .before .before in
+    let s = d .before .before .before .before .before in
+    low-greater (s .args .at) (s .args .state .now) (s .args .key) (s .pre) (slice-aggregate-be-u64 (d .before)) (d .before .before .be-u64 .ensures) (d .be-u642 .ensures) (t .before .if1 .left) (t .if2 .left) (e .before .before .be-u643 .ensures) (e .be-u644 .ensures) (c .if4 .taken)
+
+returns-5 : tie.Need-returns-5
+returns-5 c =
+    let e = c .before .before in
+    let t = e .before .before .before in
+    let d = t .before .before in
+    let s = d .before .before .before .before .before in
+    low-equal (s .args .at) (s .args .state .now) (s .args .key) (s .pre) (slice-aggregate-be-u64 (d .before)) (d .before .before .be-u64 .ensures) (d .be-u642 .ensures) (t .before .if1 .left) (t .if2 .left) (e .before .before .be-u643 .ensures) (e .be-u644 .ensures) (c .before .if3 .left) (c .if4 .left)
 
 pub order-to-spec : {M : Type 1} → statement M
 order-to-spec =
     tie.close
     (tie.spec
-    Inv-loop
-    μ-loop
-    loop-holds
-    add-held
-    shared-slice-read-held
-    array-read-given
+    be-u64-requires
+    slice-aggregate-be-u64
+    be-u64-requires-2
     returns
     returns-2
-    add-i
-    loop-less
-    loop-again
-    returns-3)
+    add-be-u64
+    be-u64-requires-3
+    slice-aggregate-be-u64-2
+    be-u64-requires-4
+    returns-3
+    returns-4
+    returns-5)

@@ -24,12 +24,9 @@ be-u64-requires c κs = omega (arith, slice-aggregate-be-u64 c)
 rows-in-requires : tie.Need-rows-in-requires Inv-loop μ-loop
 rows-in-requires c κs = search needs
 
-trust-in-requires : tie.Need-trust-in-requires Inv-loop μ-loop
-trust-in-requires c κs = search needs
-
 loop-holds : tie.Need-loop-holds Inv-loop μ-loop
 loop-holds c =
-    let s = c .before .before .before .before .before .before in
+    let s = c .before .before .before .before .before in
     (omega arith, halved-start _ _ (s .args .n) (rows-length (s .args .n) (s .args .state .now)))
 
 probe-requires : tie.Need-probe-requires Inv-loop μ-loop
@@ -38,8 +35,8 @@ probe-requires c κs = search needs
 key-order-requires : tie.Need-key-order-requires Inv-loop μ-loop
 key-order-requires c κs = search needs
 
-next-guess-requires : tie.Need-next-guess-requires Inv-loop μ-loop
-next-guess-requires c κs = search needs
+guess-from-requires : tie.Need-guess-from-requires Inv-loop μ-loop
+guess-from-requires c κs = search needs
 
 enum-told : tie.Need-enum-told Inv-loop μ-loop
 enum-told c = search needs
@@ -55,7 +52,7 @@ loop-again c =
     let k = c .before .before .before in
     let m = k .before in
     let p = m .before .before in
-    let s = p .before .before .before .before .before .before .before in
+    let s = p .before .before .before .before .before .before in
     (p .loop .inv .0, halved-less (p .loop .inv .1) (s .pre .0) (m .probe .result) (m .probe .ensures .0) (m .probe .ensures .1) (sym (k .key-order .ensures) ∙ c .enum-told .given .1))
 
 enum-told-2 : tie.Need-enum-told-2 Inv-loop μ-loop
@@ -66,7 +63,7 @@ returns c =
     let k = c .before .before .before in
     let m = k .before in
     let p = m .before .before in
-    let s = p .before .before .before .before .before .before .before in
+    let s = p .before .before .before .before .before .before in
     halved-equal (p .loop .inv .1) (s .pre .0) (m .probe .result) (m .probe .ensures .0) (m .probe .ensures .1) (sym (k .key-order .ensures) ∙ c .enum-told2 .given .1)
 
 enum-told-3 : tie.Need-enum-told-3 Inv-loop μ-loop
@@ -80,7 +77,7 @@ loop-again-2 c =
     let k = c .before .before .before in
     let m = k .before in
     let p = m .before .before in
-    let s = p .before .before .before .before .before .before .before in
+    let s = p .before .before .before .before .before .before in
     (omega arith, halved-greater (p .loop .inv .1) (s .pre .0) (m .probe .result) (m .probe .ensures .0) (m .probe .ensures .1) (sym (k .key-order .ensures) ∙ c .enum-told3 .given .1))
 
 returns-2 : tie.Need-returns-2 Inv-loop μ-loop
@@ -95,11 +92,10 @@ search-spec =
     slice-aggregate-be-u64
     be-u64-requires
     rows-in-requires
-    trust-in-requires
     loop-holds
     probe-requires
     key-order-requires
-    next-guess-requires
+    guess-from-requires
     enum-told
     add-lo
     loop-less
