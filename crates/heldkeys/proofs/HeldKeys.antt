@@ -3,7 +3,7 @@ use mathlib.Core.Path.{_≡_, refl, sym, ap, _∙_, subst}
 use Prim.Native.Nat.{ℕ, _+_, _*_, _-_, _≤_, _<_, max}
 use native.Mathlib.Omega.{arith}
 use mathlib.Core.List.{List}
-use mathlib.Core.Option.{none, some}
+use mathlib.Core.Option.{none}
 use mathlib.Core.Bool.{Bool, true, false, cond, _&&_, _||_, not}
 use lib.ListN.{length}
 use lib.Dec.{leb}
@@ -20,29 +20,25 @@ use Rattle.types.specs.declared.placed.Placed.{Placed}
 use Rattle.types.specs.Values.{covers}
 use Rattle.rules.specs.Records.{Entry, Row, State, mainBound, probationBound}
 use Rattle.rules.specs.Rows.{rowAt, find, inMain, inProbation, atPlace, mainCount, probationCount, mainWeight, withOnlyRows, withRows}
-use Rattle.rules.specs.Sound.{sound, ascends}
-use Rattle.rules.specs.Entries.{expired, verified, update}
+use Rattle.rules.specs.Sound.{sound}
+use Rattle.rules.specs.Entries.{verified, update}
 use Rattle.rules.specs.Room.{refile, refiled, stamp, raised, fileNew, takeOut, makeRoom}
-use Rattle.rules.specs.Placement.{placeResult, rejected, heldOutcome, staysVerified, placeNew, placeProbation, placeMain, placeHeld, placeHint}
+use Rattle.rules.specs.Placement.{placeResult, rejected, heldOutcome, staysVerified, placeProbation, placeMain, placeHeld}
 use Rattle.rules.specs.Memory.{cut, rowOf, capacity, viewRows}
-use Rattle.rules.proofs.SoundTest.{RowOk, ascends-test}
-use Rattle.rules.proofs.RowLists.{cores, every-at, find-at, rising-unique, total-without, length-change}
+use Rattle.rules.proofs.SoundTest.{RowOk}
+use Rattle.rules.proofs.RowLists.{cores, every-at, rising-unique, total-without, length-change}
 use Rattle.rules.proofs.LentMemory.{capacity-same}
 use Rattle.rules.proofs.Walks.{Roomed, room-roomed}
 use Rattle.rules.proofs.Moves.{ready, takeOut-sound}
 use Rattle.rules.proofs.Others.{takeOut-gone, takeOut-seq, takeOut-max, takeOut-main}
 use Rattle.memory.proofs.RowLaws.{view-length}
 use Rattle.memory.proofs.Fields.{row-at}
-use Rattle.search.specs.declared.answers.Search.{Search}
-use Rattle.search.specs.declared.answers.Search.the-variants.{At, Absent}
-use Rattle.search.specs.ByKey.{searched}
-use Rattle.search.proofs.SearchLaws.{at-found, absent-none}
 use Rattle.room.specs.declared.answers.Room.{Room as RoomAnswer}
 use Rattle.room.specs.Rooms.{roomOf, Without}
 use Rattle.room.proofs.Files.{shown, laid-out, free-in-main, free-in-probation, reached-without, filed}
 use Rattle.filing.specs.declared.entry.NewEntry.{NewEntry}
 use Rattle.filing.specs.Filings.{entryFrom, Writable}
-use Rattle.newkeys.specs.Placements.{Placing, Holds, FreeInMain, rejectedAs, promotedAs, promotion, growth, foundHint}
+use Rattle.newkeys.specs.Placements.{Placing, Holds, FreeInMain, rejectedAs, promotedAs, promotion, growth}
 use Rattle.newkeys.proofs.AfterRoom.{Sought, still-without, seq-after, room-state}
 use Rattle.newkeys.proofs.NewKeys.{left-as-is}
 
@@ -60,13 +56,9 @@ refile-asks n i l p h j w q = (j, laid-out n l h, omega arith, w .short)
 
 -- ---- the outcome
 
-pub outcome-same : (p : Path) (r : Row) (b : Bool) → b ≡ samePath (r .entry .path) p → b ≡ true → Unchanged ≡ heldOutcome p r
+pub outcome-is : (p : Path) (r : Row) (b : Bool) (o : HintOutcome) → b ≡ samePath (r .entry .path) p → o ≡ cond b Unchanged Changed → o ≡ heldOutcome p r
 unfolding heldOutcome
-outcome-same p r b e h = rw (← e, h)
-
-pub outcome-other : (p : Path) (r : Row) (b : Bool) → b ≡ samePath (r .entry .path) p → b ≡ false → Changed ≡ heldOutcome p r
-unfolding heldOutcome
-outcome-other p r b e h = rw (← e, h)
+outcome-is p r b o e h = h ∙ rw e
 
 -- ---- refiled where it stands
 
@@ -248,50 +240,22 @@ pub main-not : (r : Row) (x : ℕ) → x ≡ r .place → 2 ≤ x → inMain r �
 unfolding inMain
 main-not r x e h = le-ltb (r .place) 2 (omega (arith, e))
 
-module _ (p : Path) (time : ℕ) (stated : Bool) (r : Row) where
-  pub not-verified : (b : Bool) → b ≡ verified time (r .entry) → b ≡ false → false ≡ staysVerified p time stated r
+-- 3: v, whether the row is verified, and c, whether its path is the new one
+stays-as : (v stated c : Bool) → (v && not stated ≡ true → v && not (stated && not c) ≡ true) × (v && c ≡ true → v && not (stated && not c) ≡ true) × (v && not stated ≡ false → v && c ≡ false → v && not (stated && not c) ≡ false)
+stays-as false stated c = (λ h. h, λ h. h, λ h g. refl)
+stays-as true false c = (λ h. refl, λ h. refl, λ h g. h)
+stays-as true true true = (λ h. refl, λ h. refl, λ h g. g)
+stays-as true true false = (λ h. h, λ h. h, λ h g. refl)
+
+module _ (p : Path) (time : ℕ) (stated : Bool) (r : Row) (v c : Bool) (ev : v ≡ verified time (r .entry)) where
+  pub stays-unstated : v && not stated ≡ true → true ≡ staysVerified p time stated r
   unfolding staysVerified
-  not-verified b e h = rw (← e, h)
+  stays-unstated h = rw (← ev) (sym (stays-as v stated (samePath (r .entry .path) p) .0 h))
 
-  pub unstated : (b : Bool) → b ≡ verified time (r .entry) → b ≡ true → stated ≡ false → true ≡ staysVerified p time stated r
+  pub stays-same : c ≡ samePath (r .entry .path) p → v && c ≡ true → true ≡ staysVerified p time stated r
   unfolding staysVerified
-  unstated b e h s = rw (← e, h, s)
+  stays-same ec h = rw (← ev, ← ec) (sym (stays-as v stated c .1 h))
 
-  pub stated-same : (b c : Bool) → b ≡ verified time (r .entry) → b ≡ true → stated ≡ true → c ≡ samePath (r .entry .path) p → c ≡ staysVerified p time stated r
+  pub goes-on : c ≡ samePath (r .entry .path) p → v && not stated ≡ false → v && c ≡ false → false ≡ staysVerified p time stated r
   unfolding staysVerified
-  stated-same b c e h s g = rw (← e, h, s, ← g) (twice c)
-    where
-      twice : (c : Bool) → c ≡ true && not (true && not c)
-      twice true = refl
-      twice false = refl
-
--- 1
-module _ (k : NodeAddr) (p : Path) (time ttl : ℕ) (f : Funding) (stated : Bool) where
-  pub found-expired : (n i : ℕ) (l m y : List ℕ) (b : Bool) (d : Placed) → b ≡ expired time (rowAt i (viewRows n l .rows) .entry) → b ≡ true → viewRows (n - 1) m ≡ takeOut i (viewRows n l)
-      → Placing (placeNew k p time ttl f (viewRows (n - 1) m)) d y → Placing (foundHint k p time ttl f stated i (viewRows n l)) d y
-  unfolding foundHint
-  found-expired n i l m y b d e h v r = rw (← e, h) (subst (λ (s : State). Placing (placeNew k p time ttl f s) d y) v r)
-
-  pub found-held : (i : ℕ) (s : State) (y : List ℕ) (b : Bool) (d : Placed) → b ≡ expired time (rowAt i (s .rows) .entry) → b ≡ false → Placing (placeHeld k p time ttl f stated i s) d y → Placing (foundHint k p time ttl f stated i s) d y
-  unfolding foundHint
-  found-held i s y b d e h r = rw (← e, h) r
-
-  pub hint-found : (i : ℕ) (s : State) (y : List ℕ) (d : Placed) → find k (s .rows) ≡ some i → Placing (foundHint k p time ttl f stated i s) d y → Placing (placeHint k p time ttl f stated s) d y
-  unfolding placeHint foundHint
-  hint-found i s y d e r = rw e r
-
-  pub hint-new : (s : State) (y : List ℕ) (d : Placed) → find k (s .rows) ≡ none → Placing (placeNew k p time ttl f s) d y → Placing (placeHint k p time ttl f stated s) d y
-  unfolding placeHint
-  hint-new s y d e r = rw e r
-
--- what the search tells
-pub search-asks : (n : ℕ) (l : List ℕ) → sound (capacity l) (viewRows n l) ≡ true → (ascends (viewRows n l .rows) ≡ true) × (40 + n * 1095 ≤ length l)
-search-asks n l h = (ascends-test (viewRows n l .rows) (shown n l h .rising), laid-out n l h)
-
-pub holds-found : (k : NodeAddr) (n i : ℕ) (l : List ℕ) (r : Search) → sound (capacity l) (viewRows n l) ≡ true → r ≡ searched k (viewRows n l .rows) → r ≡ At i → Holds k n i l
-holds-found k n i l r h e g =
-    let a = find-at k (viewRows n l .rows) i (at-found k (viewRows n l .rows) i (sym e ∙ g)) in
-    record { sound = h; inside = rw (← (view-length n l)) (a .inside); key = a .key }
-
-pub without-missing : (k : NodeAddr) (n i : ℕ) (l : List ℕ) (r : Search) → sound (capacity l) (viewRows n l) ≡ true → r ≡ searched k (viewRows n l .rows) → r ≡ Absent i → Without k n l
-without-missing k n i l r h e g = record { sound = h; gone = absent-none k (viewRows n l .rows) i (sym e ∙ g) }
+  goes-on ec h g = rw (← ev, ← ec) (sym (stays-as v stated c .2 h g))

@@ -22,25 +22,24 @@ use types::placed::Placed;
 use types::placed::Segment;
 ghost use mathlib.Core.Path.{_≡_};
 ghost use mathlib.Core.Bool.{true, false, cond};
-ghost use Prim.Native.Nat.{_+_, _*_, _-_, _≤_, _<_, max};
-ghost use lib.ListN.{length};
+ghost use Prim.Native.Nat.{_-_, _≤_, _<_, max};
+ghost use Rattle.types.specs.declared.placed.HintOutcome.the-variants.{Changed, Unchanged};
 ghost use Rattle.rules.specs.Records.{byUse, probation};
-ghost use Rattle.rules.specs.Rows.{rowSize, rowAt, inMain};
+ghost use Rattle.rules.specs.Rows.{rowAt, inMain};
 ghost use Rattle.rules.specs.Sound.{sound};
 ghost use Rattle.rules.specs.Entries.{update};
 ghost use Rattle.rules.specs.Room.{refile};
-ghost use Rattle.rules.specs.Placement.{placeResult, heldOutcome, staysVerified, placeProbation, placeMain, placeHeld};
+ghost use Rattle.rules.specs.Placement.{placeResult, heldOutcome, placeProbation, placeMain, placeHeld};
 ghost use Rattle.rules.specs.Refusals.{lastSeq};
-ghost use Rattle.rules.specs.Memory.{headSize, capacity, viewRows};
+ghost use Rattle.rules.specs.Memory.{capacity, viewRows};
 ghost use Rattle.filing.specs.Filings.{Writable};
 ghost use Rattle.newkeys.specs.Placements.{Placing, Holds, promotedAs, promotion, growth};
 
-// Changed where the path differs from the new one, else Unchanged.
-fn held_outcome(state: &[u8], n: usize, i: usize, path: Path) -> HintOutcome
-    requires { ⌜ (i < n) × (headSize + n * rowSize ≤ length (now state)) ⌝ }
-    ensures { λ r. ⌜ r ≡ heldOutcome path (rowAt i (viewRows n (now (state .entry)) .rows)) ⌝ }
+// Unchanged where the paths are the same, else Changed.
+fn outcome_of(same: bool) -> HintOutcome
+    ensures { λ r. ⌜ r ≡ cond same Unchanged Changed ⌝ }
 {
-    if path_is(state, n, i, path) {
+    if same {
         HintOutcome::Unchanged
     } else {
         HintOutcome::Changed
@@ -57,11 +56,11 @@ fn refile_held(
     ttl: u64,
     weight: u8,
     segment: Segment,
+    outcome: HintOutcome,
 ) -> Placed
-    requires { ⌜ (sound (capacity (now state)) (viewRows n (now state)) ≡ true) × (i < n) × Writable path × (viewRows n (now state) .seq ≤ lastSeq) ⌝ }
+    requires { ⌜ (sound (capacity (now state)) (viewRows n (now state)) ≡ true) × (i < n) × Writable path × (viewRows n (now state) .seq ≤ lastSeq) × (outcome ≡ heldOutcome path (rowAt i (viewRows n (now state) .rows))) ⌝ }
     ensures { λ r. ⌜ Placing (placeResult (heldOutcome path (rowAt i (viewRows n (now (state .entry)) .rows))) 0 segment false 0 (refile (update path time ttl (rowAt i (viewRows n (now (state .entry)) .rows) .entry)) weight i (viewRows n (now (state .entry))))) r (now (state .exit)) ⌝ }
 {
-    let outcome = held_outcome(state, n, i, path);
     update_and_refile(state, n, i, path, time, ttl, weight);
     Placed {
         outcome: outcome,
@@ -111,11 +110,11 @@ fn promote(
     time: u64,
     ttl: u64,
     weight: u8,
+    outcome: HintOutcome,
 ) -> Placed
-    requires { ⌜ Holds key n i (now state) × Writable path × (viewRows n (now state) .seq ≤ lastSeq) × (inMain (rowAt i (viewRows n (now state) .rows)) ≡ false) ⌝ }
+    requires { ⌜ Holds key n i (now state) × Writable path × (viewRows n (now state) .seq ≤ lastSeq) × (inMain (rowAt i (viewRows n (now state) .rows)) ≡ false) × (outcome ≡ heldOutcome path (rowAt i (viewRows n (now state) .rows))) ⌝ }
     ensures { λ r. ⌜ Placing (promotion key path time ttl weight i (viewRows n (now (state .entry)))) r (now (state .exit)) ⌝ }
 {
-    let outcome = held_outcome(state, n, i, path);
     let e = updated_entry(state, n, i, path, time, ttl);
     remove_row(state, n, i);
     let room = make_room(state, n - 1, wide(weight), time);
@@ -139,15 +138,16 @@ fn place_probation(
     time: u64,
     ttl: u64,
     funding: Funding,
+    outcome: HintOutcome,
 ) -> Placed
-    requires { ⌜ Holds key n i (now state) × Writable path × (viewRows n (now state) .seq ≤ lastSeq) × (inMain (rowAt i (viewRows n (now state) .rows)) ≡ false) ⌝ }
+    requires { ⌜ Holds key n i (now state) × Writable path × (viewRows n (now state) .seq ≤ lastSeq) × (inMain (rowAt i (viewRows n (now state) .rows)) ≡ false) × (outcome ≡ heldOutcome path (rowAt i (viewRows n (now state) .rows))) ⌝ }
     ensures { λ r. ⌜ Placing (placeProbation key path time ttl funding i (viewRows n (now (state .entry)))) r (now (state .exit)) ⌝ }
 {
     let w = larger(row_weight(path), row::weight(state, n, i));
     if !funding.covers(wide(w)) {
-        return refile_held(state, n, i, path, time, ttl, w, Segment::Probation);
+        return refile_held(state, n, i, path, time, ttl, w, Segment::Probation, outcome);
     }
-    promote(state, n, i, key, path, time, ttl, w)
+    promote(state, n, i, key, path, time, ttl, w, outcome)
 }
 
 // Growth to `units`, the new weight: row out, room sought for it; without room an unstated one goes back unchanged but newly stamped.
@@ -163,11 +163,11 @@ fn grow(
     weight: u8,
     units: u64,
     added: u64,
+    outcome: HintOutcome,
 ) -> Placed
-    requires { ⌜ Holds key n i (now state) × Writable path × (viewRows n (now state) .seq ≤ lastSeq) × (inMain (rowAt i (viewRows n (now state) .rows)) ≡ true) × (units ≡ weight) × (added ≡ weight - rowAt i (viewRows n (now state) .rows) .weight) ⌝ }
+    requires { ⌜ Holds key n i (now state) × Writable path × (viewRows n (now state) .seq ≤ lastSeq) × (inMain (rowAt i (viewRows n (now state) .rows)) ≡ true) × (units ≡ weight) × (added ≡ weight - rowAt i (viewRows n (now state) .rows) .weight) × (outcome ≡ heldOutcome path (rowAt i (viewRows n (now state) .rows))) ⌝ }
     ensures { λ r. ⌜ Placing (growth key path time ttl stated weight i (viewRows n (now (state .entry)))) r (now (state .exit)) ⌝ }
 {
-    let outcome = held_outcome(state, n, i, path);
     let e = updated_entry(state, n, i, path, time, ttl);
     let saved = save_row(state, n, i);
     remove_row(state, n, i);
@@ -197,37 +197,38 @@ fn place_main(
     ttl: u64,
     funding: Funding,
     stated: bool,
+    outcome: HintOutcome,
 ) -> Placed
-    requires { ⌜ Holds key n i (now state) × Writable path × (viewRows n (now state) .seq ≤ lastSeq) × (inMain (rowAt i (viewRows n (now state) .rows)) ≡ true) ⌝ }
+    requires { ⌜ Holds key n i (now state) × Writable path × (viewRows n (now state) .seq ≤ lastSeq) × (inMain (rowAt i (viewRows n (now state) .rows)) ≡ true) × (outcome ≡ heldOutcome path (rowAt i (viewRows n (now state) .rows))) ⌝ }
     ensures { λ r. ⌜ Placing (placeMain key path time ttl funding stated i (viewRows n (now (state .entry)))) r (now (state .exit)) ⌝ }
 {
     let w = row_weight(path);
     let old = row::weight(state, n, i);
     if w <= old {
-        return refile_held(state, n, i, path, time, ttl, old, Segment::Main);
+        return refile_held(state, n, i, path, time, ttl, old, Segment::Main, outcome);
     }
     let units = wide(w);
     let added = units - wide(old);
     if !funding.covers(added) {
         return reject(true, 0);
     }
-    grow(state, n, i, key, path, time, ttl, stated, w, units, added)
+    grow(
+        state,
+        n,
+        i,
+        key,
+        path,
+        time,
+        ttl,
+        stated,
+        w,
+        units,
+        added,
+        outcome,
+    )
 }
 
-// 3. A verified key is Rejected, unless stated and differing.
-fn stays_verified(state: &[u8], n: usize, i: usize, path: Path, time: u64, stated: bool) -> bool
-    requires { ⌜ (i < n) × (headSize + n * rowSize ≤ length (now state)) ⌝ }
-    ensures { λ r. ⌜ r ≡ staysVerified path time stated (rowAt i (viewRows n (now (state .entry)) .rows)) ⌝ }
-{
-    if !is_verified(state, n, i, time) {
-        return false;
-    }
-    if !stated {
-        return true;
-    }
-    path_is(state, n, i, path)
-}
-
+// 3. A verified key is Rejected, unless stated and differing. The paths are compared once, and only where a rule asks it.
 pub fn place_held(
     state: &mut [u8],
     n: usize,
@@ -242,11 +243,17 @@ pub fn place_held(
     requires { ⌜ Holds key n i (now state) × Writable path × (viewRows n (now state) .seq ≤ lastSeq) ⌝ }
     ensures { λ r. ⌜ Placing (placeHeld key path time ttl funding stated i (viewRows n (now (state .entry)))) r (now (state .exit)) ⌝ }
 {
-    if stays_verified(state, n, i, path, time, stated) {
+    let verified = is_verified(state, n, i, time);
+    if verified & !stated {
         return reject(false, 0);
     }
-    if row::place(state, n, i) < PROBATION {
-        return place_main(state, n, i, key, path, time, ttl, funding, stated);
+    let same = path_is(state, n, i, path);
+    if verified & same {
+        return reject(false, 0);
     }
-    place_probation(state, n, i, key, path, time, ttl, funding)
+    let outcome = outcome_of(same);
+    if row::place(state, n, i) < PROBATION {
+        return place_main(state, n, i, key, path, time, ttl, funding, stated, outcome);
+    }
+    place_probation(state, n, i, key, path, time, ttl, funding, outcome)
 }

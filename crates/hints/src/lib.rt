@@ -2,38 +2,16 @@
 // and public.
 use coord::coord::Path;
 use coord::node_addr::NodeAddr;
-use placement::place_hint;
+use placement::hint;
 use types::answers::HintAnswer;
 use types::placed::Funding;
 ghost use mathlib.Core.Path.{_≡_};
 ghost use mathlib.Core.Bool.{true};
 ghost use Rattle.rules.specs.Sound.{sound};
-ghost use Rattle.rules.specs.Calls.{Call, Insert, InsertWithTtl, InsertFunded, InsertStated};
+ghost use Rattle.rules.specs.Calls.{Insert, InsertWithTtl, InsertFunded, InsertStated};
 ghost use Rattle.rules.specs.Answers.{hintSaid};
 ghost use Rattle.rules.specs.Memory.{capacity, view};
 ghost use Rattle.rules.specs.Lent.{call};
-ghost use Rattle.hints.specs.Hints.{Places};
-
-// All four: refused by 2 or 3, or placed.
-fn hint(
-    state: &mut [u8],
-    key: NodeAddr,
-    path: Path,
-    time: u64,
-    ttl: u64,
-    funding: Funding,
-    stated: bool,
-) -> HintAnswer
-    requires { ⌜ sound (capacity (now state)) (view (now state)) ≡ true ⌝ }
-    ensures { λ r. ⌜ ((q : Call) → Places q key path time ttl funding stated (view (now (state .entry))) → (hintSaid r ≡ call (now (state .entry)) q .answer) × (now (state .exit) ≡ call (now (state .entry)) q .memory)) ⌝ }
-{
-    let number = frame::write_refusal(state, path);
-    if number != 0 {
-        return HintAnswer::Refused(number);
-    }
-    let n = memory::head::row_count(state) as usize;
-    HintAnswer::Placed(place_hint(state, n, key, path, time, ttl, funding, stated))
-}
 
 pub fn insert_unchecked(state: &mut [u8], key: NodeAddr, path: Path, time: u64) -> HintAnswer
     requires { ⌜ sound (capacity (now state)) (view (now state)) ≡ true ⌝ }

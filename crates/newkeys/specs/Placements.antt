@@ -10,14 +10,13 @@ use Rattle.types.specs.declared.placed.Segment.the-variants.{Main, Probation}
 use Rattle.coord.specs.declared.coord.Path.{Path}
 use Rattle.types.specs.declared.placed.HintOutcome.{HintOutcome}
 use Rattle.types.specs.declared.placed.HintOutcome.the-variants.{Inserted, Rejected}
-use Rattle.types.specs.declared.placed.Funding.{Funding}
 use Rattle.types.specs.declared.placed.Placed.{Placed}
 use Rattle.rules.specs.Records.{State, byUse, probation, mainBound}
 use Rattle.rules.specs.Room.{Room, takeOut, fileNew, makeRoom}
 use Rattle.rules.specs.Rows.{rowAt, mainCount}
 use Rattle.rules.specs.Sound.{sound}
-use Rattle.rules.specs.Entries.{expired, update}
-use Rattle.rules.specs.Placement.{PlaceResult, placeResult, rejected, heldOutcome, placeNew, placeHeld}
+use Rattle.rules.specs.Entries.{update}
+use Rattle.rules.specs.Placement.{PlaceResult, placeResult, rejected, heldOutcome}
 use Rattle.rules.specs.Memory.{capacity, viewRows}
 
 pub record Placing (u : PlaceResult) (r : Placed) (m : List ℕ) : Type 0 where
@@ -65,7 +64,3 @@ growth k p now ttl stated w i s =
     let r = rowAt i (s .rows) in
     let m = makeRoom now w (takeOut i s) in
     cond (m .made || stated) (placeResult (heldOutcome p r) (w - r .weight) Main false (m .examined) (fileNew k (update p now ttl (r .entry)) w byUse (m .state))) (rejected false (m .examined) (fileNew k (r .entry) (r .weight) byUse (m .state)))
-
--- the key's row is row i: 1, an expired one is removed, and the key is new
-unfoldable pub foundHint : NodeAddr → Path → ℕ → ℕ → Funding → Bool → ℕ → State → PlaceResult
-foundHint k p now ttl f stated i s = cond (expired now (rowAt i (s .rows) .entry)) (placeNew k p now ttl f (takeOut i s)) (placeHeld k p now ttl f stated i s)

@@ -1,60 +1,71 @@
-// A hint, placed by 01's steps.
+// A hint, placed by 01's steps, or refused by 2 or 3.
 use coord::coord::Path;
 use coord::node_addr::NodeAddr;
 use heldkeys::place_held;
 use memory::rows::remove_row;
 use newkeys::place_new;
 use search::answers::Search;
+use types::answers::HintAnswer;
 use types::placed::Funding;
-use types::placed::Placed;
 ghost use mathlib.Core.Path.{_≡_};
 ghost use mathlib.Core.Bool.{true};
-ghost use Prim.Native.Nat.{_≤_};
 ghost use Rattle.rules.specs.Sound.{sound};
-ghost use Rattle.rules.specs.Placement.{placeHint};
-ghost use Rattle.rules.specs.Refusals.{lastSeq};
-ghost use Rattle.rules.specs.Memory.{capacity, viewRows};
-ghost use Rattle.filing.specs.Filings.{Writable};
-ghost use Rattle.newkeys.specs.Placements.{Placing, Holds, foundHint};
+ghost use Rattle.rules.specs.Calls.{Call};
+ghost use Rattle.rules.specs.Answers.{hintSaid};
+ghost use Rattle.rules.specs.Memory.{capacity, viewRows, view};
+ghost use Rattle.rules.specs.Lent.{call};
+ghost use Rattle.placement.specs.Hints.{Places, Stands};
 
-// The key's row is row i. 1. An expired one is removed, and the key is new.
-fn place_found(
-    state: &mut [u8],
-    n: usize,
-    i: usize,
-    key: NodeAddr,
-    path: Path,
-    time: u64,
-    ttl: u64,
-    funding: Funding,
-    stated: bool,
-) -> Placed
-    requires { ⌜ Holds key n i (now state) × Writable path × (viewRows n (now state) .seq ≤ lastSeq) ⌝ }
-    ensures { λ r. ⌜ Placing (foundHint key path time ttl funding stated i (viewRows n (now (state .entry)))) r (now (state .exit)) ⌝ }
-{
-    if entries::is_expired(state, n, i, time) {
-        remove_row(state, n, i);
-        return place_new(state, n - 1, key, path, time, ttl, funding);
-    }
-    place_held(state, n, i, key, path, time, ttl, funding, stated)
+// The row of a key, or how many rows there are without one.
+pub enum KeyRow {
+    At(usize),
+    New(usize),
 }
 
-pub fn place_hint(
-    state: &mut [u8],
-    n: usize,
-    key: NodeAddr,
-    path: Path,
-    time: u64,
-    ttl: u64,
-    funding: Funding,
-    stated: bool,
-) -> Placed
-    requires { ⌜ (sound (capacity (now state)) (viewRows n (now state)) ≡ true) × Writable path × (viewRows n (now state) .seq ≤ lastSeq) ⌝ }
-    ensures { λ r. ⌜ Placing (placeHint key path time ttl funding stated (viewRows n (now (state .entry)))) r (now (state .exit)) ⌝ }
+// 1. The key's row. An expired one is removed, and the key is new.
+fn find_key(state: &mut [u8], n: usize, key: NodeAddr, time: u64) -> KeyRow
+    requires { ⌜ sound (capacity (now state)) (viewRows n (now state)) ≡ true ⌝ }
+    ensures { λ r. ⌜ Stands r key time n (now (state .entry)) (now (state .exit)) ⌝ }
 {
     let at = search::keys::search(state, n, key);
     match at {
-        Search::At(i) => place_found(state, n, i, key, path, time, ttl, funding, stated),
-        Search::Absent(_) => place_new(state, n, key, path, time, ttl, funding),
+        Search::At(i) => {
+            if entries::is_expired(state, n, i, time) {
+                remove_row(state, n, i);
+                return KeyRow::New(n - 1);
+            }
+            KeyRow::At(i)
+        }
+        Search::Absent(_) => KeyRow::New(n),
+    }
+}
+
+// All four calls: refused by 2 or 3, or placed. A path is a thousand bytes and passed by value, so few functions lie between this
+// one and those that write it.
+pub fn hint(
+    state: &mut [u8],
+    key: NodeAddr,
+    path: Path,
+    time: u64,
+    ttl: u64,
+    funding: Funding,
+    stated: bool,
+) -> HintAnswer
+    requires { ⌜ sound (capacity (now state)) (view (now state)) ≡ true ⌝ }
+    ensures { λ r. ⌜ ((q : Call) → Places q key path time ttl funding stated (view (now (state .entry))) → (hintSaid r ≡ call (now (state .entry)) q .answer) × (now (state .exit) ≡ call (now (state .entry)) q .memory)) ⌝ }
+{
+    let number = frame::write_refusal(state, path);
+    if number != 0 {
+        return HintAnswer::Refused(number);
+    }
+    let n = memory::head::row_count(state) as usize;
+    let at = find_key(state, n, key, time);
+    match at {
+        KeyRow::At(i) => {
+            HintAnswer::Placed(place_held(state, n, i, key, path, time, ttl, funding, stated))
+        }
+        KeyRow::New(rows) => {
+            HintAnswer::Placed(place_new(state, rows, key, path, time, ttl, funding))
+        }
     }
 }

@@ -28,7 +28,8 @@ use Rattle.frame.specs.Writes.{writeRefusal}
 use Rattle.frame.proofs.Frame.{done-with}
 use Rattle.frame.proofs.Refusing.{said}
 use Rattle.frame.proofs.Writing.{passed, write-refused}
-use Rattle.verified.specs.Forms.{mtuOf, verifiedCall}
+use Rattle.inplace.specs.Mtu.{mtuOf}
+use Rattle.verified.specs.Forms.{verifiedCall}
 
 -- the rows that the head counts
 pub rows-sound : (l : List ℕ) (n : ℕ) → sound (capacity l) (view l) ≡ true → n ≡ viewRows 0 l .rowCount → sound (capacity l) (viewRows n l) ≡ true

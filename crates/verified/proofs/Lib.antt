@@ -1,5 +1,1 @@
-pub mod NoPlace
-pub mod Inserting
-pub mod Marks
-pub mod InPlace
 pub mod Calling

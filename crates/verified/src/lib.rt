@@ -1,14 +1,10 @@
 // insert_verified, and its form with a path MTU. Each stands twice: unchecked, on a memory known to be sound, and public.
-mod in_place;
-mod places;
-mod writes;
-
-use crate::places::no_place_for;
-use crate::writes::file_verified;
 use coord::coord::Path;
 use coord::node_addr::NodeAddr;
+use noplace::no_place_for;
 use types::answers::VerifiedAnswer;
 use types::entry::PathMtu;
+use verifying::file_verified;
 ghost use mathlib.Core.Path.{_≡_};
 ghost use mathlib.Core.Bool.{true};
 ghost use Rattle.rules.specs.Sound.{sound};

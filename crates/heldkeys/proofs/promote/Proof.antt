@@ -4,19 +4,14 @@ use borrow.Author.Needs.{needs}
 use Rattle.heldkeys.proofs.promote.Statement.{statement}
 use Rattle.heldkeys.proofs.promote.Tie as tie
 
-held-outcome-requires : tie.Need-held-outcome-requires
-held-outcome-requires c κs =
-    let s = c .before .before in
-    row-there (s .args .key) (s .args .n) (s .args .i) (s .args .state .now) (s .pre .0)
-
 updated-entry-requires : tie.Need-updated-entry-requires
 updated-entry-requires c κs =
-    let s = c .before .before .before .before in
+    let s = c .before .before in
     row-there (s .args .key) (s .args .n) (s .args .i) (s .args .state .now) (s .pre .0)
 
 remove-row-requires : tie.Need-remove-row-requires
 remove-row-requires c κs =
-    let s = c .before .before .before .before .before .before in
+    let s = c .before .before .before .before in
     out-asks (s .args .key) (s .args .n) (s .args .i) (s .args .state .now) (s .pre .0)
 
 sub-make-room : tie.Need-sub-make-room
@@ -27,7 +22,7 @@ wide-requires c κs = search needs
 
 make-room-requires : tie.Need-make-room-requires
 make-room-requires c κs =
-    let s = c .before .before .before .before .before .before .before .before .before .before .before in
+    let s = c .before .before .before .before .before .before .before .before .before in
     let x = c .before .before .before .before .remove-row in
     room-asks (s .args .time) _ (x .last .0) (out-without (s .args .key) (s .args .n) (s .args .i) (s .args .state .now) (x .last .0) (s .pre .0) (x .kept .0) (x .ensures) .sound) (out-seq (s .args .key) (s .args .n) (s .args .i) (s .args .state .now) (x .last .0) (s .pre .0) (x .kept .0) (x .ensures) (s .pre .2))
 
@@ -36,7 +31,7 @@ place-for-requires c κs = search needs
 
 file-new-requires : tie.Need-file-new-requires
 file-new-requires c κs =
-    let s = c .before .before .before .before .before .before .before .before .before .before .before .before .before .before .before .before in
+    let s = c .before .before .before .before .before .before .before .before .before .before .before .before .before .before in
     let x = c .before .before .before .before .before .before .before .before .before .remove-row in
     let o = c .before .before .before .before .make-room in
     promote-asks (s .args .key) (s .args .n) (s .args .i) (s .args .state .now) (x .last .0) (s .pre .0) (x .kept .0) (x .ensures) (o .last .0) (s .args .time) (c .before .before .before .before .before .wide .result) (o .result) (sought (x .last .0) (o .last .0) (s .args .time) (c .before .before .before .before .before .wide .result) _ (o .result) (o .kept .0) (o .ensures .0)) (c .before .before .before .before .before .before .before .before .before .before .before .updated-entry .result) (s .args .path) (s .pre .3) (s .pre .2) (s .pre .1) (c .before .before .before .before .before .before .before .before .before .before .before .updated-entry .ensures .1)
@@ -52,16 +47,15 @@ same-length c = search needs
 
 returns : tie.Need-returns
 returns c =
-    let s = c .before .before .before .before .before .before .before .before .before .before .before .before .before .before .before .before .before .before .before .before .before in
+    let s = c .before .before .before .before .before .before .before .before .before .before .before .before .before .before .before .before .before .before .before in
     let x = c .before .before .before .before .before .before .before .before .before .before .before .before .before .before .remove-row in
     let o = c .before .before .before .before .before .before .before .before .before .make-room in
-    promoted-is (s .args .key) (s .args .n) (s .args .i) (s .args .state .now) (x .last .0) (s .pre .0) (x .kept .0) (x .ensures) (o .last .0) (s .args .time) (c .before .before .before .before .before .before .before .before .before .before .wide .result) (o .result) (sought (x .last .0) (o .last .0) (s .args .time) (c .before .before .before .before .before .before .before .before .before .before .wide .result) _ (o .result) (o .kept .0) (o .ensures .0)) (s .args .path) (s .args .ttl) (s .args .weight) (c .before .wide2 .result) (c .before .before .before .before .before .place-for .result) (c .before .before .before .before .before .before .before .before .before .before .before .before .before .before .before .before .before .before .held-outcome .result) (c .before .before .before .before .before .before .before .before .before .before .before .before .before .before .before .before .updated-entry .result) _ (c .promoted .result) (c .before .before .before .before .before .before .before .before .before .before .wide .ensures .0) (c .before .wide2 .ensures .0) (c .before .before .before .before .before .before .before .before .before .before .before .before .before .before .before .before .before .before .held-outcome .ensures) (c .before .before .before .before .before .before .before .before .before .before .before .before .before .before .before .before .updated-entry .ensures .0) (c .before .before .before .before .before .place-for .ensures) (c .before .before .before .before .file-new .ensures) (c .promoted .ensures)
+    promoted-is (s .args .key) (s .args .n) (s .args .i) (s .args .state .now) (x .last .0) (s .pre .0) (x .kept .0) (x .ensures) (o .last .0) (s .args .time) (c .before .before .before .before .before .before .before .before .before .before .wide .result) (o .result) (sought (x .last .0) (o .last .0) (s .args .time) (c .before .before .before .before .before .before .before .before .before .before .wide .result) _ (o .result) (o .kept .0) (o .ensures .0)) (s .args .path) (s .args .ttl) (s .args .weight) (c .before .wide2 .result) (c .before .before .before .before .before .place-for .result) (s .args .outcome) (c .before .before .before .before .before .before .before .before .before .before .before .before .before .before .before .before .updated-entry .result) _ (c .promoted .result) (c .before .before .before .before .before .before .before .before .before .before .wide .ensures .0) (c .before .wide2 .ensures .0) (c .before .before .before .before .before .before .before .before .before .before .before .before .before .before .before .before .before .before .before .pre .4) (c .before .before .before .before .before .before .before .before .before .before .before .before .before .before .before .before .updated-entry .ensures .0) (c .before .before .before .before .before .place-for .ensures) (c .before .before .before .before .file-new .ensures) (c .promoted .ensures)
 
 pub promote-spec : {M : Type 1} → statement M
 promote-spec =
     tie.close
     (tie.spec
-    held-outcome-requires
     updated-entry-requires
     remove-row-requires
     sub-make-room

@@ -1,17 +1,11 @@
-use Rattle.room.proofs.Files.{laid-out}
 use Rattle.heldkeys.proofs.HeldKeys.{refile-asks, stays}
 use borrow.Author.Needs.{needs}
 use Rattle.heldkeys.proofs.refile_held.Statement.{statement}
 use Rattle.heldkeys.proofs.refile_held.Tie as tie
 
-held-outcome-requires : tie.Need-held-outcome-requires
-held-outcome-requires c κs =
-    let s = c .before .before in
-    (s .pre .1, laid-out (s .args .n) (s .args .state .now) (s .pre .0))
-
 update-and-refile-requires : tie.Need-update-and-refile-requires
 update-and-refile-requires c κs =
-    let s = c .before .before .before .before in
+    let s = c .before .before in
     refile-asks (s .args .n) (s .args .i) (s .args .state .now) (s .args .path) (s .pre .0) (s .pre .1) (s .pre .2) (s .pre .3)
 
 same-length : tie.Need-same-length
@@ -19,9 +13,8 @@ same-length c = search needs
 
 returns : tie.Need-returns
 returns c =
-    let s = c .before .before .before .before .before .before .before .args in
-    stays (s .path) (s .time) (s .ttl) (s .n) (s .i) (s .weight) (s .segment) (c .before .before .before .before .held-outcome .result) (s .state .now) _ (c .before .before .before .before .held-outcome .ensures) (c .before .before .update-and-refile .ensures)
+    let s = c .before .before .before .before .before .args in
+    stays (s .path) (s .time) (s .ttl) (s .n) (s .i) (s .weight) (s .segment) (s .outcome) (s .state .now) _ (c .before .before .before .before .before .pre .4) (c .before .before .update-and-refile .ensures)
 
 pub refile-held-spec : {M : Type 1} → statement M
-refile-held-spec =
-    tie.close (tie.spec held-outcome-requires update-and-refile-requires same-length returns)
+refile-held-spec = tie.close (tie.spec update-and-refile-requires same-length returns)

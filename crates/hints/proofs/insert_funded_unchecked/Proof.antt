@@ -2,7 +2,7 @@ use mathlib.Core.Path.{_∙_}
 use Rattle.rules.specs.Calls.{InsertFunded}
 use Rattle.rules.specs.Memory.{view}
 use Rattle.frame.proofs.Frame.{head-there}
-use Rattle.hints.proofs.Placed.{inserts-funded, shown-ttl}
+use Rattle.hints.proofs.Four.{inserts-funded, shown-ttl}
 use borrow.Author.Needs.{needs}
 use Rattle.hints.proofs.insert_funded_unchecked.Statement.{statement}
 use Rattle.hints.proofs.insert_funded_unchecked.Tie as tie

@@ -1,6 +1,6 @@
 use Rattle.rules.specs.Calls.{InsertWithTtl}
 use Rattle.rules.specs.Memory.{view}
-use Rattle.hints.proofs.Placed.{inserts-with-ttl}
+use Rattle.hints.proofs.Four.{inserts-with-ttl}
 use borrow.Author.Needs.{needs}
 use Rattle.hints.proofs.insert_with_ttl_unchecked.Statement.{statement}
 use Rattle.hints.proofs.insert_with_ttl_unchecked.Tie as tie

@@ -1,0 +1,88 @@
+use Prim.Native.Nat.{_+_}
+use mathlib.Core.Path.{_∙_}
+use native.Mathlib.Omega.{arith}
+use Rattle.rules.specs.Memory.{capacity, viewRows}
+use Rattle.memory.proofs.Fields.{same-head}
+use Rattle.room.proofs.Files.{shown, laid-out}
+use Rattle.inplace.proofs.InPlace.{stored-few, verified-back}
+use borrow.Author.Needs.{needs}
+use Rattle.inplace.proofs.verify_in_place.Statement.{statement}
+use Rattle.inplace.proofs.verify_in_place.Tie as tie
+
+default-ttl-requires : tie.Need-default-ttl-requires
+default-ttl-requires c κs =
+    let s = c .before .before in
+    omega (arith, laid-out (s .args .n) (s .args .state .now) (s .pre .0))
+
+stored-without-requires : tie.Need-stored-without-requires
+stored-without-requires c κs = search needs
+
+wide-requires : tie.Need-wide-requires
+wide-requires c κs = search needs
+
+add-stored : tie.Need-add-stored
+add-stored c =
+    let t = c .before in
+    let s = t .before .before .before .before .before in
+    let n = s .args .n in
+    let l = s .args .state .now in
+    record { fits = omega (arith, t .stored-without .ensures, stored-few (capacity l) (s .args .i) (viewRows n l) (s .pre .0), c .wide .ensures .1) }
+
+update-and-refile-requires : tie.Need-update-and-refile-requires
+update-and-refile-requires c κs =
+    let s = c .before .before .before .before .before .before .before in
+    (s .pre .1, laid-out (s .args .n) (s .args .state .now) (s .pre .0), s .pre .3, s .pre .4)
+
+mark-verified-requires : tie.Need-mark-verified-requires
+mark-verified-requires c κs =
+    let u = c .before .before .before in
+    let s = u .before .before .before .before .before .before .before .before in
+    (s .pre .1, omega (arith, laid-out (s .args .n) (s .args .state .now) (s .pre .0), u .update-and-refile .kept .0))
+
+set-mtu-requires : tie.Need-set-mtu-requires
+set-mtu-requires c κs =
+    let m = c .before .before .before in
+    let u = m .before .before .before .before in
+    let s = u .before .before .before .before .before .before .before .before in
+    (s .pre .1, omega (arith, laid-out (s .args .n) (s .args .state .now) (s .pre .0), u .update-and-refile .kept .0, m .mark-verified .kept .0))
+
+set-stored-weight-requires : tie.Need-set-stored-weight-requires
+set-stored-weight-requires c κs =
+    let g = c .before .before .before in
+    let m = g .before .before .before .before in
+    let u = m .before .before .before .before in
+    let s = u .before .before .before .before .before .before .before .before in
+    omega (arith, laid-out (s .args .n) (s .args .state .now) (s .pre .0), u .update-and-refile .kept .0, m .mark-verified .kept .0, g .set-mtu .kept .0)
+
+same-length : tie.Need-same-length
+same-length c = search needs
+
+returns : tie.Need-returns
+returns c =
+    let x = c .before .before in
+    let g = x .before .before .before .before in
+    let m = g .before .before .before .before in
+    let u = m .before .before .before .before in
+    let w = u .before .before in
+    let t = w .before in
+    let d = t .before .before in
+    let s = d .before .before .before in
+    let a = s .args in
+    let n = a .n in
+    let l = a .state .now in
+    λ k f. verified-back (capacity l) k (a .path) (a .time) (d .default-ttl .result) (a .i) (a .weight) (t .stored-without .result + w .wide .result) (a .mtu) (viewRows n l) (viewRows n (u .update-and-refile .last .0)) (viewRows n (m .mark-verified .last .0)) (viewRows n (g .set-mtu .last .0)) (viewRows n (x .set-stored-weight .last .0)) (shown n l (s .pre .0)) f (s .pre .2) (d .default-ttl .ensures ∙ same-head 0 n l .defaultTtl) (rw (t .stored-without .ensures, w .wide .ensures .0)) (u .update-and-refile .ensures) (m .mark-verified .ensures) (g .set-mtu .ensures) (x .set-stored-weight .ensures)
+
+pub verify-in-place-spec : {M : Type 1} → statement M
+verify-in-place-spec =
+    tie.close
+    (tie.spec
+    default-ttl-requires
+    stored-without-requires
+    wide-requires
+    add-stored
+    update-and-refile-requires
+    mark-verified-requires
+    set-mtu-requires
+    set-stored-weight-requires
+    same-length
+    returns)

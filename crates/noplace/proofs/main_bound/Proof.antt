@@ -1,0 +1,40 @@
+use native.Mathlib.Omega.{arith}
+use Rattle.noplace.proofs.NoPlace.{rows-searchable, bound-is}
+use borrow.Author.Needs.{needs}
+use Rattle.noplace.proofs.main_bound.Statement.{statement}
+use Rattle.noplace.proofs.main_bound.Tie as tie
+
+rows-that-fit-requires : tie.Need-rows-that-fit-requires
+rows-that-fit-requires c κs = search needs
+
+max-entries-requires : tie.Need-max-entries-requires
+max-entries-requires c κs =
+    let s = c .before .before in
+    omega (arith, rows-searchable (s .args .n) (s .args .state .now) (s .pre) .1)
+
+probation-bound-requires : tie.Need-probation-bound-requires
+probation-bound-requires c κs = search needs
+
+sub-result : tie.Need-sub-result
+sub-result c =
+    let m = c .before in
+    let r = m .before in
+    let s = r .before .before in
+    bound-is (s .args .n) (s .args .state .now) (r .rows-that-fit .result) (m .max-entries .result) (c .probation-bound .result) (s .pre) (r .rows-that-fit .ensures) (m .max-entries .ensures) (c .probation-bound .ensures) .0
+
+returns : tie.Need-returns
+returns c =
+    let m = c .before in
+    let r = m .before in
+    let s = r .before .before in
+    bound-is (s .args .n) (s .args .state .now) (r .rows-that-fit .result) (m .max-entries .result) (c .probation-bound .result) (s .pre) (r .rows-that-fit .ensures) (m .max-entries .ensures) (c .probation-bound .ensures) .1
+
+pub main-bound-spec : {M : Type 1} → statement M
+main-bound-spec =
+    tie.close
+    (tie.spec
+    rows-that-fit-requires
+    max-entries-requires
+    probation-bound-requires
+    sub-result
+    returns)

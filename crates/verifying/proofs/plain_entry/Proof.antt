@@ -1,0 +1,65 @@
+use mathlib.Core.Path.{_∙_}
+use Rattle.rules.specs.Memory.{viewRows}
+use Rattle.memory.proofs.Fields.{same-head}
+use Rattle.filing.specs.Filings.{entryFrom}
+use Rattle.verifying.proofs.Inserting.{within, entry-held, entry-new}
+use borrow.Author.Needs.{needs}
+use Rattle.verifying.proofs.plain_entry.Statement.{statement}
+use Rattle.verifying.proofs.plain_entry.Tie as tie
+
+default-ttl-requires : tie.Need-default-ttl-requires
+default-ttl-requires c κs = search needs
+
+enum-known-at : tie.Need-enum-known-at
+enum-known-at c = search needs
+
+updated-entry-requires : tie.Need-updated-entry-requires
+updated-entry-requires c κs =
+    let s = c .before .before .before .before .before in
+    (within (s .args .n) _ (s .args .at) (c .before .at .given .1) (s .pre .1), s .pre .0)
+
+verified-entry-requires : tie.Need-verified-entry-requires
+verified-entry-requires c κs = search needs
+
+enum-told : tie.Need-enum-told
+enum-told c = search needs
+
+new-entry-requires : tie.Need-new-entry-requires
+new-entry-requires c κs = search needs
+
+verified-entry-requires-2 : tie.Need-verified-entry-requires-2
+verified-entry-requires-2 c κs = search needs
+
+returns : tie.Need-returns
+returns c =
+    let u = c .before in
+    let a = u .before .before in
+    let d = a .before .before in
+    let s = d .before .before in
+    let n = s .args .n in
+    let l = s .args .state .now in
+    (λ k e. entry-held k (s .args .path) (s .args .time) _ (d .default-ttl .result) (viewRows n l) (s .args .at) (entryFrom (u .updated-entry .result)) _ e (a .at .given .1) (d .default-ttl .ensures ∙ same-head 0 n l .defaultTtl) (u .updated-entry .ensures .0) (c .verified-entry .ensures .0), c .verified-entry .ensures .1 ∙ u .updated-entry .ensures .1)
+
+returns-2 : tie.Need-returns-2
+returns-2 c =
+    let u = c .before in
+    let a = u .before in
+    let d = a .before .before in
+    let s = d .before .before in
+    let n = s .args .n in
+    let l = s .args .state .now in
+    (λ k e. entry-new k (s .args .path) (s .args .time) _ (d .default-ttl .result) (viewRows n l) (s .args .at) (entryFrom (u .new-entry .result)) _ e (a .enum-told .given .1) (d .default-ttl .ensures ∙ same-head 0 n l .defaultTtl) (u .new-entry .ensures .0) (c .verified-entry2 .ensures .0), c .verified-entry2 .ensures .1 ∙ u .new-entry .ensures .1)
+
+pub plain-entry-spec : {M : Type 1} → statement M
+plain-entry-spec =
+    tie.close
+    (tie.spec
+    default-ttl-requires
+    enum-known-at
+    updated-entry-requires
+    verified-entry-requires
+    enum-told
+    new-entry-requires
+    verified-entry-requires-2
+    returns
+    returns-2)
