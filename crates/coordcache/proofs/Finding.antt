@@ -1,6 +1,7 @@
 -- What the exported lookups and remove tell.
 use mathlib.Core.Path.{_≡_, refl, sym, ap, _∙_, subst}
 use Prim.Native.Nat.{ℕ}
+use native.Mathlib.Omega.{arith}
 use mathlib.Core.List.{List, []}
 use mathlib.Core.Bool.{true, false}
 use lib.ListN.{length}
@@ -22,7 +23,7 @@ use Rattle.decoding.specs.OnMemory.{partReply}
 use Rattle.decoding.proofs.Operands.{one-replied}
 use Rattle.decoding.proofs.Typing.{lent-sound}
 use Rattle.asking.proofs.Replying.{got-reply}
-use Rattle.boundary.specs.Exported.{addressFrom, Told, PartAt, rowTaken}
+use Rattle.boundary.specs.Exported.{addressFrom, Told, PartAt, PathAt, rowTaken}
 use Rattle.boundary.proofs.Operands.{none-taken}
 use Rattle.coordcache.proofs.Telling.{told, told-call}
 
@@ -37,20 +38,20 @@ part-at k time l p at s e = rw e (ap (λ (j : ℕ). cut (p .at) j l) (sym (part-
 -- ---- get
 
 pub got-told : (l : List ℕ) (k k′ : NodeAddr) (time : ℕ) (p : PathPlace) (r : Reply) (n : ℕ) (vs : List ℕ) (at : ℕ) → sound (capacity l) (view l) ≡ true → k ≡ k′ → StandsAt k time l (p .at) (p .bytes) → l ≡ call l (Get k time) .memory → r ≡ partReply (p .bytes) → n ≡ r .refusal → vs ≡ r .values → at ≡ p .at
-    → Told (call l (Get k′ time)) n vs l × PartAt at l (gotPart k′ time l)
+    → Told (call l (Get k′ time)) n vs l × PartAt at l (gotPart k′ time l) × PathAt n at k′ time l
 got-told l k k′ time p r n vs at h f s m e a b d =
-    subst (λ (x : NodeAddr). Told (call l (Get x time)) n vs l × PartAt at l (gotPart x time l)) f
-    (told (call l (Get k time)) r n vs l (e ∙ ap partReply (part-length k time l p s) ∙ got-reply l k time h) a b m, part-at k time l p at s d)
+    subst (λ (x : NodeAddr). Told (call l (Get x time)) n vs l × PartAt at l (gotPart x time l) × PathAt n at x time l) f
+    (told (call l (Get k time)) r n vs l (e ∙ ap partReply (part-length k time l p s) ∙ got-reply l k time h) a b m, part-at k time l p at s d, λ z i q. d ∙ s .own i q)
 
 -- ---- get_and_touch
 
 pub touched-told : (l : List ℕ) (k k′ : NodeAddr) (time : ℕ) (p : PathPlace) (r : Reply) (n : ℕ) (vs m : List ℕ) (at : ℕ) → sound (capacity l) (view l) ≡ true → Bytes l → Typed (GetAndTouch k time) → k ≡ k′ → StandsAt k time m (p .at) (p .bytes) → m ≡ call l (GetAndTouch k time) .memory → r ≡ partReply (p .bytes) → n ≡ r .refusal → vs ≡ r .values → at ≡ p .at
-    → Told (call l (GetAndTouch k′ time)) n vs m × PartAt at m (gotPart k′ time m)
+    → Told (call l (GetAndTouch k′ time)) n vs m × PartAt at m (gotPart k′ time m) × PathAt n at k′ time m
 touched-told l k k′ time p r n vs m at h o g f s v e a b d =
     let q : sound (capacity m) (view m) ≡ true = subst (λ (x : List ℕ). sound (capacity x) (view x) ≡ true) (sym v) (lent-sound l (Asked (GetAndTouch k time)) o g h) in
     let w : partReply (p .bytes) ≡ reply (call l (GetAndTouch k time) .answer) = ap partReply (part-length k time m p s) ∙ got-reply m k time q ∙ ap (λ (x : List ℕ). reply (call x (Get k time) .answer)) v ∙ ap reply (got-after-touch l k time o g) in
-    subst (λ (x : NodeAddr). Told (call l (GetAndTouch x time)) n vs m × PartAt at m (gotPart x time m)) f
-    (told (call l (GetAndTouch k time)) r n vs m (e ∙ w) a b v, part-at k time m p at s d)
+    subst (λ (x : NodeAddr). Told (call l (GetAndTouch x time)) n vs m × PartAt at m (gotPart x time m) × PathAt n at x time m) f
+    (told (call l (GetAndTouch k time)) r n vs m (e ∙ w) a b v, part-at k time m p at s d, λ z i q. d ∙ s .own i q)
 
 -- ---- number 1
 
@@ -59,6 +60,10 @@ one-told l q r n vs h e a b = let o = one-replied l q h in told (call l q) r n v
 
 pub no-part : (l : List ℕ) (k : NodeAddr) (time at : ℕ) → sound (capacity l) (view l) ≡ false → PartAt at l (gotPart k time l)
 no-part l k time at h = subst (λ (x : List ℕ). PartAt at l x) (one-got l k time h) refl
+
+pub no-path : (l : List ℕ) (k : NodeAddr) (time at n : ℕ) (r : Reply) → r ≡ refuses 1 → n ≡ r .refusal → PathAt n at k time l
+unfolding refuses
+no-path l k time at n r e a z i q = absurd (let y : ⊥ = omega (arith, a, ap (λ (x : Reply). x .refusal) e) in y)
 
 -- ---- remove
 

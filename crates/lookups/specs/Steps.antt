@@ -2,6 +2,7 @@
 use Prim.Native.Nat.{ℕ, _+_, _*_, _≤_}
 use mathlib.Core.Path.{_≡_}
 use mathlib.Core.List.{List}
+use mathlib.Core.Option.{some}
 use mathlib.Core.Bool.{cond}
 use lib.ListN.{length}
 use Rattle.coord.specs.declared.node_addr.NodeAddr.{NodeAddr}
@@ -10,8 +11,8 @@ use Rattle.rules.specs.Records.{State}
 use Rattle.rules.specs.Rows.{rowAt, rowSize}
 use Rattle.rules.specs.Entries.{expired, refresh}
 use Rattle.rules.specs.Room.{takeOut}
-use Rattle.rules.specs.Lookups.{rewrite}
-use Rattle.rules.specs.Memory.{headSize, entryOffset, placesOffset, coordEntrySize, cut}
+use Rattle.rules.specs.Lookups.{rewrite, unexpiredRow}
+use Rattle.rules.specs.Memory.{headSize, entryOffset, placesOffset, coordEntrySize, cut, view}
 use Rattle.paths.specs.declared.path.PathPlace.{PathPlace}
 use Rattle.rules.specs.Lent.{gotPart}
 
@@ -22,14 +23,19 @@ touchedAt i now s = cond (expired now (rowAt i (s .rows) .entry)) (takeOut i s) 
 unfoldable pub touchSays : ℕ → ℕ → State → TouchAnswer
 touchSays i now s = cond (expired now (rowAt i (s .rows) .entry)) TouchAnswer.Absent (TouchAnswer.Found (rowAt i (s .rows) .entry .path .len))
 
--- the part that a lookup hands back stands at these bytes of the memory; none where nothing is found
+-- the first byte of the path in row i
+abbrev pub pathAt : ℕ → ℕ
+pathAt i = headSize + i * rowSize + (entryOffset + placesOffset)
+
+-- the part that a lookup hands back stands at these bytes of the memory, in the key's own row; no bytes where nothing is found
 pub record StandsAt (k : NodeAddr) (now : ℕ) (l : List ℕ) (at bytes : ℕ) : Type 0 where
   pub part : cut at bytes l ≡ gotPart k now l
   pub inside : at + bytes ≤ length l
+  pub own : (i : ℕ) → unexpiredRow k now (view l) ≡ some i → at ≡ pathAt i
 
 -- where the path of row i stands after it; nowhere where the row leaves
 unfoldable pub touchedPlace : ℕ → ℕ → State → PathPlace
 touchedPlace i now s =
     cond (expired now (rowAt i (s .rows) .entry))
     (record { at = 0; bytes = 0 })
-    (record { at = headSize + i * rowSize + (entryOffset + placesOffset); bytes = rowAt i (s .rows) .entry .path .len * coordEntrySize })
+    (record { at = pathAt i; bytes = rowAt i (s .rows) .entry .path .len * coordEntrySize })

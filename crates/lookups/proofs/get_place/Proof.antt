@@ -3,7 +3,7 @@ use Rattle.rules.specs.Memory.{viewRows}
 use Rattle.rules.proofs.MemoryLaws.{all-bytes}
 use Rattle.rules.proofs.Public.{sound-memory}
 use Rattle.frame.proofs.Frame.{head-there, searchable, found-inside, found, missing}
-use Rattle.lookups.proofs.Looking.{got-absent, got-expired, nothing-stands, path-stands, get-left}
+use Rattle.lookups.proofs.Looking.{absent-stands, expired-stands, path-stands, get-left}
 use borrow.Author.Needs.{needs}
 use Rattle.lookups.proofs.get_place.Statement.{statement}
 use Rattle.lookups.proofs.get_place.Tie as tie
@@ -29,7 +29,7 @@ returns c =
     let l = s .args .state .now in
     let n = c .before .before .before .before .before .before .before .row-count .result in
     let m = sound-memory l n (s .pre) (c .before .before .before .before .before .before .before .row-count .ensures) in
-    (nothing-stands l (s .args .key) (s .args .time) _ (c .nowhere .ensures) (got-expired l n (s .args .key) (s .args .time) _ (s .pre) m (found (s .args .key) (viewRows n l .rows) _ (c .before .before .before .before .before .before .search .result) (c .before .before .before .before .before .before .search .ensures) (c .before .before .before .before .at .given .1)) (sym (c .before .before .is-expired .ensures) ∙ c .before .if1 .taken)), get-left l n (s .args .key) (s .args .time) (s .pre) m (all-bytes l (λ i. c .before .before .before .before .before .before .before .before .shared-slice-known .given i .fits)))
+    (expired-stands l n (s .args .key) (s .args .time) _ _ (s .pre) m (found (s .args .key) (viewRows n l .rows) _ (c .before .before .before .before .before .before .search .result) (c .before .before .before .before .before .before .search .ensures) (c .before .before .before .before .at .given .1)) (sym (c .before .before .is-expired .ensures) ∙ c .before .if1 .taken) (c .nowhere .ensures), get-left l n (s .args .key) (s .args .time) (s .pre) m (all-bytes l (λ i. c .before .before .before .before .before .before .before .before .shared-slice-known .given i .fits)))
 
 path-place-requires : tie.Need-path-place-requires
 path-place-requires c κs = found-inside (c .before .before .before .before .before .before .before .before .args .state .now) (c .before .before .before .before .before .before .row-count .result) (c .before .before .before .before .before .before .before .before .args .key) _ (c .before .before .before .before .before .search .result) (c .before .before .before .before .before .before .before .before .pre) (c .before .before .before .before .before .before .row-count .ensures) (c .before .before .before .before .before .search .ensures) (c .before .before .before .at .given .1)
@@ -55,7 +55,7 @@ returns-3 c =
     let l = s .args .state .now in
     let n = c .before .before .before .before .row-count .result in
     let m = sound-memory l n (s .pre) (c .before .before .before .before .row-count .ensures) in
-    (nothing-stands l (s .args .key) (s .args .time) _ (c .nowhere2 .ensures) (got-absent l n (s .args .key) (s .args .time) (s .pre) m (missing (s .args .key) (viewRows n l .rows) _ (c .before .before .before .search .result) (c .before .before .before .search .ensures) (c .before .enum-told .given .1))), get-left l n (s .args .key) (s .args .time) (s .pre) m (all-bytes l (λ i. c .before .before .before .before .before .shared-slice-known .given i .fits)))
+    (absent-stands l n (s .args .key) (s .args .time) _ (s .pre) m (missing (s .args .key) (viewRows n l .rows) _ (c .before .before .before .search .result) (c .before .before .before .search .ensures) (c .before .enum-told .given .1)) (c .nowhere2 .ensures), get-left l n (s .args .key) (s .args .time) (s .pre) m (all-bytes l (λ i. c .before .before .before .before .before .shared-slice-known .given i .fits)))
 
 pub get-place-spec : {M : Type 1} → statement M
 get-place-spec =

@@ -52,7 +52,7 @@ returns-2 c =
     let s = c .before .before .before .before .before .before .before .before in
     let l = s .args .state .now in
     let n = c .before .before .before .before .before .row-count .result in
-    touch-placed-absent l n (s .args .key) (s .args .time) (c .nowhere .result) (s .pre) (sound-memory l n (s .pre) (c .before .before .before .before .before .row-count .ensures)) (missing (s .args .key) (viewRows n l .rows) _ (c .before .before .before .search .result) (c .before .before .before .search .ensures) (c .before .enum-told .given .1)) (all-bytes l (λ i. c .before .before .before .before .before .before .before .slice-known .given i .fits)) (owned-addr (s .args .key) _ (s .good .1 .0), small8 (s .args .time) (s .fits .time .fits)) (c .nowhere .ensures)
+    touch-placed-absent l n (s .args .key) (s .args .time) (c .nowhere .result) (s .pre) (sound-memory l n (s .pre) (c .before .before .before .before .before .row-count .ensures)) (missing (s .args .key) (viewRows n l .rows) _ (c .before .before .before .search .result) (c .before .before .before .search .ensures) (c .before .enum-told .given .1)) (all-bytes l (λ i. c .before .before .before .before .before .before .before .slice-known .given i .fits)) (c .nowhere .ensures)
 
 pub touch-place-spec : {M : Type 1} → statement M
 touch-place-spec =
