@@ -55,7 +55,7 @@ only-absent k rs i j r h f g = let z = sym (none-searched k rs h) ∙ sym f ∙ 
 one-longer : (i : ℕ) (r : Row) (rs : List Row) → i ≤ length rs → length (take i rs ++ (r ∷ drop i rs)) ≡ length rs + 1
 one-longer i r rs h = simp (length-append, length-take, length-drop) (omega arith)
 
-in-order : (r : Row) (w i : ℕ) (s : State) → ascends (s .rows) ≡ true → searched (r .key) (s .rows) ≡ Absent i → s .storedWeight ≡ mainWeight s → w ≡ s .storedWeight + cond (ltb (r .place) 2) (r .weight) 0
+pub in-order : (r : Row) (w i : ℕ) (s : State) → ascends (s .rows) ≡ true → searched (r .key) (s .rows) ≡ Absent i → s .storedWeight ≡ mainWeight s → w ≡ s .storedWeight + cond (ltb (r .place) 2) (r .weight) 0
     → (take i (s .rows) ++ (r ∷ drop i (s .rows)) ≡ insertInOrder r (s .rows)) × (w ≡ weighRows inMain (insertInOrder r (s .rows))) × (length (s .rows) + 1 ≡ length (insertInOrder r (s .rows)))
 unfolding inMain
 in-order r w i s a h m e =

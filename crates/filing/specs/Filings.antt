@@ -1,8 +1,17 @@
--- An entry by value, as an entry of the state; a path that can be written.
-use Prim.Native.Nat.{_≤_}
+-- An entry by value, as an entry of the state; a path that can be written; a row that may leave for another.
+use Prim.Native.Nat.{ℕ, _+_, _*_, _≤_, _<_}
+use mathlib.Core.Path.{_≡_}
+use mathlib.Core.Bool.{true}
+use mathlib.Core.List.{List}
+use mathlib.Core.Option.{none}
+use lib.ListN.{length}
 use Rattle.coord.specs.declared.coord.Path.{Path}
+use Rattle.coord.specs.declared.node_addr.NodeAddr.{NodeAddr}
 use Rattle.coord.specs.Paths.{asWritten, pathPlaces}
 use Rattle.rules.specs.Records.{Entry}
+use Rattle.rules.specs.Rows.{rowSize, find, inMain, weighRows, withoutRow}
+use Rattle.rules.specs.Sound.{ascends}
+use Rattle.rules.specs.Memory.{headSize, viewRows}
 use Rattle.filing.specs.declared.entry.NewEntry.{NewEntry}
 
 -- every field; the path as a row holds it
@@ -13,3 +22,12 @@ entryFrom e = record { path = asWritten (e .path); createdAt = e .«created_at»
 pub record Writable (p : Path) : Type 0 where
   pub long : 1 ≤ p .len
   pub short : p .len ≤ pathPlaces
+
+-- row i of n may leave for a row of key k; w is the weight that is stored without it
+pub record Over (k : NodeAddr) (n i w : ℕ) (l : List ℕ) : Type 0 where
+  pub fits : headSize + n * rowSize ≤ length l
+  pub inside : i < n
+  pub rising : ascends (viewRows n l .rows) ≡ true
+  pub gone : find k (viewRows n l .rows) ≡ none
+  pub weighs : w ≡ weighRows inMain (withoutRow i (viewRows n l .rows))
+  pub light : w ≤ 32768

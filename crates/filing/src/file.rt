@@ -1,6 +1,7 @@
 // A row filed in the order of keys.
 use crate::entry::NewEntry;
 use coord::node_addr::NodeAddr;
+use insertion::exchange::exchange_row;
 use insertion::insert::insert_row;
 use insertion::row::NewRow;
 use insertion::saved::insert_saved;
@@ -20,13 +21,13 @@ ghost use lib.Dec.{ltb};
 ghost use lib.ListN.{length};
 ghost use Rattle.coord.specs.Paths.{pathPlaces};
 ghost use Rattle.rules.specs.Records.{byUse, probation};
-ghost use Rattle.rules.specs.Rows.{rowSize, find};
+ghost use Rattle.rules.specs.Rows.{rowSize, find, withoutRow};
 ghost use Rattle.rules.specs.Sound.{sound, ascends};
-ghost use Rattle.rules.specs.Room.{fileNew};
+ghost use Rattle.rules.specs.Room.{fileNew, takeOut};
 ghost use Rattle.rules.specs.Memory.{headSize, cut, rowOf, capacity, viewRows};
 ghost use Rattle.search.specs.declared.answers.Search.the-variants.{Absent};
 ghost use Rattle.search.specs.ByKey.{searched};
-ghost use Rattle.filing.specs.Filings.{entryFrom};
+ghost use Rattle.filing.specs.Filings.{entryFrom, Over};
 
 // The row that a key without one becomes.
 fn index_for(state: &[u8], n: usize, key: NodeAddr) -> usize
@@ -40,17 +41,33 @@ fn index_for(state: &[u8], n: usize, key: NodeAddr) -> usize
     }
 }
 
-// The weight that is stored once a row is there: a main row's counts.
-fn stored_with(state: &[u8], weight: u8, place: u8) -> u64
-    requires { ⌜ (headSize ≤ length (now state)) × (viewRows 0 (now state) .storedWeight ≤ 32768) ⌝ }
-    ensures { λ r. ⌜ r ≡ viewRows 0 (now (state .entry)) .storedWeight + cond (ltb place probation) weight 0 ⌝ }
+// The row that a key without one becomes once row i is gone.
+fn index_without(state: &[u8], n: usize, i: usize, key: NodeAddr) -> usize
+    requires { ⌜ (ascends (viewRows n (now state) .rows) ≡ true) × (headSize + n * rowSize ≤ length (now state)) × (find key (viewRows n (now state) .rows) ≡ none) × (i < n) ⌝ }
+    ensures { λ r. ⌜ searched key (withoutRow i (viewRows n (now (state .entry)) .rows)) ≡ Absent r ⌝ }
 {
-    let stored = head::stored_weight(state);
+    let at = index_for(state, n, key);
+    if i < at { at - 1 } else { at }
+}
+
+// A weight with a row's added: a main row's counts.
+fn weight_with(stored: u64, weight: u8, place: u8) -> u64
+    requires { ⌜ stored ≤ 32768 ⌝ }
+    ensures { λ r. ⌜ r ≡ stored + cond (ltb place probation) weight 0 ⌝ }
+{
     if place < PROBATION {
         stored + raw::numbers::wide(weight)
     } else {
         stored
     }
+}
+
+// The weight that is stored once a row is there.
+fn stored_with(state: &[u8], weight: u8, place: u8) -> u64
+    requires { ⌜ (headSize ≤ length (now state)) × (viewRows 0 (now state) .storedWeight ≤ 32768) ⌝ }
+    ensures { λ r. ⌜ r ≡ viewRows 0 (now (state .entry)) .storedWeight + cond (ltb place probation) weight 0 ⌝ }
+{
+    weight_with(head::stored_weight(state), weight, place)
 }
 
 // A new row, under the stamp (last_used, seq + 1).
@@ -81,6 +98,49 @@ pub fn file_new(state: &mut [u8], n: usize, key: NodeAddr, e: NewEntry, weight: 
             place: place,
             stamp_first: e.last_used,
             stamp_seq: seq,
+            weight: weight,
+        },
+    );
+}
+
+// Row i leaves, and a new row is filed under the stamp (last_used, seq + 1). `stored` is the weight that is stored without row i.
+pub fn file_over(
+    state: &mut [u8],
+    n: usize,
+    i: usize,
+    stored: u64,
+    key: NodeAddr,
+    e: NewEntry,
+    weight: u8,
+    place: u8,
+)
+    requires { ⌜ Over key n i stored (now state) × (viewRows n (now state) .seq < 18446744073709551615) × (e .path .len ≤ pathPlaces) ⌝ }
+    ensures { λ _. ⌜ viewRows n (now (state .exit)) ≡ fileNew key (entryFrom e) weight place (takeOut i (viewRows n (now (state .entry)))) ⌝ }
+{
+    let j = index_without(state, n, i, key);
+    let next = head::seq(state) + 1;
+    head::set_stored_weight(state, n, weight_with(stored, weight, place));
+    head::set_seq(state, n, next);
+    head::set_row_count(state, n, n as u64);
+    let path = e.path;
+    exchange_row(
+        state,
+        n,
+        i,
+        j,
+        NewRow {
+            key: key,
+            path: path,
+            created_at: e.created_at,
+            last_used: e.last_used,
+            expires_at: e.expires_at,
+            mtu_mark: e.mtu_mark,
+            mtu: e.mtu,
+            source: e.source,
+            verified_until: e.verified_until,
+            place: place,
+            stamp_first: e.last_used,
+            stamp_seq: next,
             weight: weight,
         },
     );

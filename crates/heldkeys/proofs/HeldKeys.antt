@@ -18,13 +18,14 @@ use Rattle.types.specs.declared.placed.HintOutcome.{HintOutcome}
 use Rattle.types.specs.declared.placed.HintOutcome.the-variants.{Changed, Unchanged}
 use Rattle.types.specs.declared.placed.Placed.{Placed}
 use Rattle.types.specs.Values.{covers}
-use Rattle.rules.specs.Records.{Entry, Row, State, mainBound, probationBound}
+use Rattle.rules.specs.Records.{Entry, Row, State}
 use Rattle.rules.specs.Rows.{rowAt, find, inMain, inProbation, atPlace, mainCount, probationCount, mainWeight, withOnlyRows, withRows}
 use Rattle.rules.specs.Sound.{sound}
 use Rattle.rules.specs.Entries.{verified, update}
 use Rattle.rules.specs.Room.{refile, refiled, stamp, raised, fileNew, takeOut, makeRoom}
 use Rattle.rules.specs.Placement.{placeResult, rejected, heldOutcome, staysVerified, placeProbation, placeMain, placeHeld}
 use Rattle.rules.specs.Memory.{cut, rowOf, capacity, viewRows}
+use Rattle.rules.proofs.Addresses.{contradiction}
 use Rattle.rules.proofs.SoundTest.{RowOk}
 use Rattle.rules.proofs.RowLists.{cores, every-at, rising-unique, total-without, length-change}
 use Rattle.rules.proofs.LentMemory.{capacity-same}
@@ -33,14 +34,17 @@ use Rattle.rules.proofs.Moves.{ready, takeOut-sound}
 use Rattle.rules.proofs.Others.{takeOut-gone, takeOut-seq, takeOut-max, takeOut-main}
 use Rattle.memory.proofs.RowLaws.{view-length}
 use Rattle.memory.proofs.Fields.{row-at}
-use Rattle.room.specs.declared.answers.Room.{Room as RoomAnswer}
-use Rattle.room.specs.Rooms.{roomOf, Without}
-use Rattle.room.proofs.Files.{shown, laid-out, free-in-main, free-in-probation, reached-without, filed}
+use Rattle.stamps.specs.declared.answers.Lowest.the-variants.{Nothing}
+use Rattle.room.specs.declared.answers.SoughtRoom.{SoughtRoom}
+use Rattle.room.specs.Rooms.{soughtRoomOf, withoutVictim, Without}
+use Rattle.room.proofs.Leaving.{without-none}
+use Rattle.room.proofs.Files.{shown, laid-out, free-in-probation, reached-without, filed}
 use Rattle.filing.specs.declared.entry.NewEntry.{NewEntry}
 use Rattle.filing.specs.Filings.{entryFrom, Writable}
-use Rattle.newkeys.specs.Placements.{Placing, Holds, FreeInMain, rejectedAs, promotedAs, promotion, growth}
-use Rattle.newkeys.proofs.AfterRoom.{Sought, still-without, seq-after, room-state}
-use Rattle.newkeys.proofs.NewKeys.{left-as-is}
+use Rattle.newkeys.specs.Placements.{Placing, Holds, rejectedAs, promotedAs, promotion, growth}
+use Rattle.replacing.specs.Replacing.{Takes}
+use Rattle.replacing.proofs.Seeking.{Sought, free-main, free-state, still-without, takes}
+use Rattle.newkeys.proofs.NewKeys.{filed-as, left-as-is}
 
 -- ---- a row that is there
 
@@ -95,82 +99,83 @@ module _ (k : NodeAddr) (n i : ℕ) (l m : List ℕ) (ho : Holds k n i l) (z : l
   pub out-seq : viewRows n l .seq ≤ 18446744073709547519 → viewRows (n - 1) m .seq ≤ 18446744073709547519
   out-seq q = rw v (omega (arith, takeOut-seq i (viewRows n l)))
 
-  module _ (x : List ℕ) (time w : ℕ) (r : RoomAnswer) (so : Sought m x time w (viewRows (n - 1) m) r) where
+  module _ (x : List ℕ) (time w : ℕ) (r : SoughtRoom) (so : Sought m x (n - 1) time w r) where
     made : Roomed time w (viewRows (n - 1) m) (makeRoom time w (viewRows (n - 1) m))
     made = room-roomed time w (viewRows (n - 1) m) (ready (shown (n - 1) m (out-without .sound)))
 
-    same-size : capacity x ≡ capacity l
-    same-size = capacity-same m x (so .size) ∙ capacity-same l m z
+    max-kept : makeRoom time w (viewRows (n - 1) m) .state .maxEntries ≡ viewRows n l .maxEntries
+    max-kept = made .maxEntries ∙ rw v (takeOut-max i (viewRows n l))
 
     -- the row that was taken out left one free
-    pub freed-in-main : inMain (rowAt i (viewRows n l .rows)) ≡ true → FreeInMain (r .rows) x
+    freed-in-main : inMain (rowAt i (viewRows n l .rows)) ≡ true → r .victim ≡ Nothing → r .rows < capacity x
     freed-in-main e =
         let s = shown n l (ho .sound) in
         let a : mainCount (viewRows (n - 1) m) + 1 ≡ mainCount (viewRows n l) = rw v (takeOut-main i (viewRows n l) inside e) in
-        let b : viewRows (n - 1) m .maxEntries ≡ viewRows n l .maxEntries = rw v (takeOut-max i (viewRows n l)) in
-        let c : makeRoom time w (viewRows (n - 1) m) .state .maxEntries ≡ viewRows n l .maxEntries = made .maxEntries ∙ b in
-        rw (same-size, room-state k (n - 1) m x time w r out-without so) (subst (λ (y : ℕ). mainCount (makeRoom time w (viewRows (n - 1) m) .state) < mainBound (capacity l) y) (sym c) (omega (arith, made .mains, a, s .mains)))
+        free-main k (n - 1) m x time w r out-without so (rw (max-kept, capacity-same l m z) (omega (arith, made .mains, a, s .mains)))
 
-    freed-in-probation : inMain (rowAt i (viewRows n l .rows)) ≡ false → probationCount (viewRows (r .rows) x) < probationBound (viewRows (r .rows) x .maxEntries)
-    freed-in-probation e =
+    freed-in-probation : inMain (rowAt i (viewRows n l .rows)) ≡ false → r .victim ≡ Nothing → r .rows < capacity x
+    freed-in-probation e u =
         let s = shown n l (ho .sound) in
         let p = not-main (rowAt i (viewRows n l .rows)) (every-at (RowOk (viewRows n l .seq)) i (viewRows n l .rows) inside (s .each) .place) e in
         let a : probationCount (viewRows (n - 1) m) + 1 ≡ probationCount (viewRows n l) = rw v (probation-one-less i (viewRows n l) inside p) in
-        let b : viewRows (n - 1) m .maxEntries ≡ viewRows n l .maxEntries = rw v (takeOut-max i (viewRows n l)) in
-        let c : makeRoom time w (viewRows (n - 1) m) .state .maxEntries ≡ viewRows n l .maxEntries = made .maxEntries ∙ b in
-        rw (room-state k (n - 1) m x time w r out-without so) (subst (λ (y : ℕ). probationCount (makeRoom time w (viewRows (n - 1) m) .state) < probationBound y) (sym c) (omega (arith, made .probations, a, s .probations)))
+        free-in-probation (r .rows) x (still-without k (n - 1) m x time w r out-without so u .sound) (rw (free-state k (n - 1) m x time w r out-without so u, max-kept) (omega (arith, made .probations, a, s .probations)))
 
     -- what filing asks, for one that was in probation
-    pub promote-asks : (e : NewEntry) (p : Path) → inMain (rowAt i (viewRows n l .rows)) ≡ false → viewRows n l .seq ≤ 18446744073709547519 → Writable p → e .path ≡ p
-        → (sound (capacity x) (viewRows (r .rows) x) ≡ true) × (r .rows < capacity x) × (find k (viewRows (r .rows) x .rows) ≡ none) × (viewRows (r .rows) x .seq < 18446744073709551615) × (e .path .len ≤ 32)
-    promote-asks e p f q wr pe =
-        let h = still-without k (n - 1) m x time w r out-without so in
-        (h .sound, free-in-probation (r .rows) x (h .sound) (freed-in-probation f), h .gone, seq-after k (n - 1) m x time w r out-without so (out-seq q), rw pe (wr .short))
+    pub promote-asks : (e : NewEntry) (p : Path) → inMain (rowAt i (viewRows n l .rows)) ≡ false → viewRows n l .seq ≤ 18446744073709547519 → Writable p → e .path ≡ p → Takes k (r .victim) (r .stored) (r .rows) x × (e .path .len ≤ 32)
+    promote-asks e p f q wr pe = (takes k (n - 1) m x time w r out-without so (freed-in-probation f) (out-seq q), rw pe (wr .short))
 
-    pub grow-asks : (e : NewEntry) (p : Path) → inMain (rowAt i (viewRows n l .rows)) ≡ true → viewRows n l .seq ≤ 18446744073709547519 → Writable p → e .path ≡ p
-        → (sound (capacity x) (viewRows (r .rows) x) ≡ true) × (r .rows < capacity x) × (find k (viewRows (r .rows) x .rows) ≡ none) × (viewRows (r .rows) x .seq < 18446744073709551615) × (e .path .len ≤ 32)
-    grow-asks e p f q wr pe =
-        let h = still-without k (n - 1) m x time w r out-without so in
-        (h .sound, free-in-main (r .rows) x (h .sound) (freed-in-main f), h .gone, seq-after k (n - 1) m x time w r out-without so (out-seq q), rw pe (wr .short))
+    pub grow-asks : (e : NewEntry) (p : Path) → inMain (rowAt i (viewRows n l .rows)) ≡ true → viewRows n l .seq ≤ 18446744073709547519 → Writable p → e .path ≡ p → Takes k (r .victim) (r .stored) (r .rows) x × (e .path .len ≤ 32)
+    grow-asks e p f q wr pe = (takes k (n - 1) m x time w r out-without so (freed-in-main f) (out-seq q), rw pe (wr .short))
 
-    pub back-asks : (row : List ℕ) → row ≡ cut (40 + i * 1095) 1095 l → inMain (rowAt i (viewRows n l .rows)) ≡ true → viewRows n l .seq ≤ 18446744073709547519
+    -- nothing was made, and no victim left
+    unmade : (stated : Bool) → r .made || stated ≡ false → r .victim ≡ Nothing
+    unmade stated h = so .none (go (r .made) refl)
+      where
+        go : (b : Bool) → r .made ≡ b → r .made ≡ false
+        go true e = contradiction (rw e) h
+        go false e = e
+
+    pub back-asks : (row : List ℕ) (stated : Bool) → row ≡ cut (40 + i * 1095) 1095 l → r .made || stated ≡ false → inMain (rowAt i (viewRows n l .rows)) ≡ true → viewRows n l .seq ≤ 18446744073709547519
         → (sound (capacity x) (viewRows (r .rows) x) ≡ true) × (r .rows < capacity x) × (find k (viewRows (r .rows) x .rows) ≡ none) × (viewRows (r .rows) x .seq < 18446744073709551615) × (rowOf row .key ≡ k)
-    back-asks row c f q =
-        let h = still-without k (n - 1) m x time w r out-without so in
-        (h .sound, free-in-main (r .rows) x (h .sound) (freed-in-main f), h .gone, seq-after k (n - 1) m x time w r out-without so (out-seq q), ap (λ (y : Row). y .key) (ap rowOf c ∙ sym (row-at n i l (ho .inside))) ∙ ho .key)
+    back-asks row stated c u f q =
+        let t = takes k (n - 1) m x time w r out-without so (freed-in-main f) (out-seq q) in
+        let h = t .free (unmade stated u) in
+        (h .0 .sound, h .1, h .0 .gone, t .seq, ap (λ (y : Row). y .key) (ap rowOf c ∙ sym (row-at n i l (ho .inside))) ∙ ho .key)
 
-    -- the room that was sought, by the rules
-    sought-there : (u : ℕ) → w ≡ u → roomOf r (viewRows (r .rows) x) ≡ makeRoom time u (takeOut i (viewRows n l))
+    -- the state once the victim is out, and the room that was sought, by the rules
+    left : State
+    left = withoutVictim (r .victim) (viewRows (r .rows) x)
+
+    sought-there : (u : ℕ) → w ≡ u → soughtRoomOf r (viewRows (r .rows) x) ≡ makeRoom time u (takeOut i (viewRows n l))
     sought-there u a = so .room ∙ rw (v, a)
 
     pub promoted-is : (p : Path) (ttl u a b : ℕ) (o : HintOutcome) (e : NewEntry) (y : List ℕ) (d : Placed) → w ≡ u → a ≡ u → o ≡ heldOutcome p (rowAt i (viewRows n l .rows)) → entryFrom e ≡ update p time ttl (rowAt i (viewRows n l .rows) .entry)
-        → b ≡ cond (r .made) 0 2 → viewRows (r .rows + 1) y ≡ fileNew k (entryFrom e) u b (viewRows (r .rows) x) → d ≡ promotedAs o (r .made) a (r .examined)
+        → b ≡ cond (r .made) 0 2 → viewRows (length (fileNew k (entryFrom e) u b (withoutVictim (r .victim) (viewRows (r .rows) x)) .rows)) y ≡ fileNew k (entryFrom e) u b (withoutVictim (r .victim) (viewRows (r .rows) x)) → d ≡ promotedAs o (r .made) a (r .examined)
         → Placing (promotion k p time ttl u i (viewRows n l)) d y
-    unfolding promotion placeResult roomOf
+    unfolding promotion placeResult soughtRoomOf left
     promoted-is p ttl u a b o e y d wu au oh eu bc f ds = rw (← (sought-there u wu), ← oh) (go (r .made) refl)
       where
-        go : (c : Bool) → r .made ≡ c → Placing (cond (r .made) (placeResult o u Main false (r .examined) (fileNew k (update p time ttl (rowAt i (viewRows n l .rows) .entry)) u 0 (viewRows (r .rows) x))) (placeResult o 0 Probation false (r .examined) (fileNew k (update p time ttl (rowAt i (viewRows n l .rows) .entry)) u 2 (viewRows (r .rows) x)))) d y
-        go true h =
-            let b0 : b ≡ 0 = bc ∙ rw h in
-            rw h (record { says = ds ∙ rw (h, au); state = filed k (update p time ttl (rowAt i (viewRows n l .rows) .entry)) (entryFrom e) u u 0 (r .rows) x y (viewRows (r .rows) x) refl eu refl (f ∙ rw b0) })
-        go false h =
-            let b2 : b ≡ 2 = bc ∙ rw h in
-            rw h (record { says = ds ∙ rw h; state = filed k (update p time ttl (rowAt i (viewRows n l .rows) .entry)) (entryFrom e) u u 2 (r .rows) x y (viewRows (r .rows) x) refl eu refl (f ∙ rw b2) })
+        filed-at : (c : ℕ) → b ≡ c → viewRows (length (fileNew k (update p time ttl (rowAt i (viewRows n l .rows) .entry)) u c left .rows)) y ≡ fileNew k (update p time ttl (rowAt i (viewRows n l .rows) .entry)) u c left
+        filed-at c h = filed-as k (update p time ttl (rowAt i (viewRows n l .rows) .entry)) (entryFrom e) u u c left left y refl eu refl (subst (λ (z : ℕ). viewRows (length (fileNew k (entryFrom e) u z left .rows)) y ≡ fileNew k (entryFrom e) u z left) h f)
+
+        go : (c : Bool) → r .made ≡ c → Placing (cond (r .made) (placeResult o u Main false (r .examined) (fileNew k (update p time ttl (rowAt i (viewRows n l .rows) .entry)) u 0 left)) (placeResult o 0 Probation false (r .examined) (fileNew k (update p time ttl (rowAt i (viewRows n l .rows) .entry)) u 2 left))) d y
+        go true h = rw h (record { says = ds ∙ rw (h, au); state = filed-at 0 (bc ∙ rw h) })
+        go false h = rw h (record { says = ds ∙ rw h; state = filed-at 2 (bc ∙ rw h) })
 
     pub grown-is : (p : Path) (ttl u a : ℕ) (stated : Bool) (o : HintOutcome) (e : NewEntry) (y : List ℕ) → w ≡ u → a ≡ u - rowAt i (viewRows n l .rows) .weight → o ≡ heldOutcome p (rowAt i (viewRows n l .rows)) → entryFrom e ≡ update p time ttl (rowAt i (viewRows n l .rows) .entry)
-        → r .made || stated ≡ true → viewRows (r .rows + 1) y ≡ fileNew k (entryFrom e) u 0 (viewRows (r .rows) x)
+        → r .made || stated ≡ true → viewRows (length (fileNew k (entryFrom e) u 0 (withoutVictim (r .victim) (viewRows (r .rows) x)) .rows)) y ≡ fileNew k (entryFrom e) u 0 (withoutVictim (r .victim) (viewRows (r .rows) x))
         → Placing (growth k p time ttl stated u i (viewRows n l)) (record { outcome = o; «added_weight» = a; segment = Main; unfunded = false; examined = r .examined }) y
-    unfolding growth placeResult roomOf
+    unfolding growth placeResult soughtRoomOf left
     grown-is p ttl u a stated o e y wu au oh eu h f = rw (← (sought-there u wu), h)
-        (record { says = rw (au, oh); state = filed k (update p time ttl (rowAt i (viewRows n l .rows) .entry)) (entryFrom e) u u 0 (r .rows) x y (viewRows (r .rows) x) refl eu refl f })
+        (record { says = rw (au, oh); state = filed-as k (update p time ttl (rowAt i (viewRows n l .rows) .entry)) (entryFrom e) u u 0 left left y refl eu refl f })
 
     pub goes-back : (p : Path) (ttl u : ℕ) (stated : Bool) (row y : List ℕ) (d : Placed) → w ≡ u → row ≡ cut (40 + i * 1095) 1095 l → r .made || stated ≡ false → viewRows (r .rows + 1) y ≡ fileNew k (rowOf row .entry) (rowOf row .weight) 0 (viewRows (r .rows) x)
         → d ≡ rejectedAs false (r .examined) → Placing (growth k p time ttl stated u i (viewRows n l)) d y
-    unfolding growth rejected placeResult roomOf
+    unfolding growth rejected placeResult soughtRoomOf left
     goes-back p ttl u stated row y d wu rc h f ds =
         let g : rowOf row ≡ rowAt i (viewRows n l .rows) = ap rowOf rc ∙ sym (row-at n i l (ho .inside)) in
         rw (← (sought-there u wu), h)
-        (record { says = ds; state = filed k (rowAt i (viewRows n l .rows) .entry) (rowOf row .entry) (rowAt i (viewRows n l .rows) .weight) (rowOf row .weight) 0 (r .rows) x y (viewRows (r .rows) x) refl (ap (λ (t : Row). t .entry) g) (ap (λ (t : Row). t .weight) g) f })
+        (record { says = ds; state = filed k (rowAt i (viewRows n l .rows) .entry) (rowOf row .entry) (rowAt i (viewRows n l .rows) .weight) (rowOf row .weight) 0 (r .rows) x y left (sym (without-none (r .victim) (viewRows (r .rows) x) (unmade stated h))) (ap (λ (t : Row). t .entry) g) (ap (λ (t : Row). t .weight) g) f })
 
 -- ---- the steps
 

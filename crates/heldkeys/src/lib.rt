@@ -3,7 +3,6 @@ use coord::coord::Path;
 use coord::node_addr::NodeAddr;
 use filing::entry::updated_entry;
 use filing::file::file_again;
-use filing::file::file_new;
 use filing::file::save_row;
 use filing::refile::update_and_refile;
 use memory::row;
@@ -12,7 +11,8 @@ use newkeys::reject;
 use newkeys::row_weight;
 use paths::path::path_is;
 use raw::numbers::wide;
-use room::victims::make_room;
+use replacing::file_in_room;
+use room::victims::seek_room;
 use stamps::row::BY_USE;
 use stamps::row::PROBATION;
 use stamps::row::is_verified;
@@ -117,8 +117,10 @@ fn promote(
 {
     let e = updated_entry(state, n, i, path, time, ttl);
     remove_row(state, n, i);
-    let room = make_room(state, n - 1, wide(weight), time);
-    file_new(state, room.rows, key, e, weight, place_for(room.made));
+    let room = seek_room(state, n - 1, wide(weight), time);
+    let victim = room.victim;
+    let place = place_for(room.made);
+    file_in_room(state, room.rows, victim, room.stored, key, e, weight, place);
     promoted(outcome, room.made, wide(weight), room.examined)
 }
 
@@ -171,9 +173,19 @@ fn grow(
     let e = updated_entry(state, n, i, path, time, ttl);
     let saved = save_row(state, n, i);
     remove_row(state, n, i);
-    let room = make_room(state, n - 1, units, time);
+    let room = seek_room(state, n - 1, units, time);
     if room.made | stated {
-        file_new(state, room.rows, key, e, weight, BY_USE);
+        let victim = room.victim;
+        file_in_room(
+            state,
+            room.rows,
+            victim,
+            room.stored,
+            key,
+            e,
+            weight,
+            BY_USE,
+        );
         return Placed {
             outcome: outcome,
             added_weight: added,

@@ -2,3 +2,4 @@ pub mod Runs
 pub mod PathLaws
 pub mod RowImage
 pub mod InsertLaws
+pub mod ExchangeLaws

@@ -1,11 +1,12 @@
--- A path's bytes; a row by value, as a row of the state; a state with a row inserted; an entry with another path.
-use Prim.Native.Nat.{ℕ, _+_}
+-- A path's bytes; a row by value, as a row of the state; a state with a row inserted or exchanged; an entry with another path.
+use Prim.Native.Nat.{ℕ, suc, _+_}
+use mathlib.Core.Path.{_≡_}
 use mathlib.Core.List.{List, _∷_, _++_}
 use lib.ListN.{length, take, drop}
 use Rattle.coord.specs.declared.coord.Path.{Path}
 use Rattle.coord.specs.Paths.{asWritten}
 use Rattle.rules.specs.Records.{Entry, Row, State}
-use Rattle.rules.specs.Rows.{rowSize}
+use Rattle.rules.specs.Rows.{rowSize, withoutRow, withRows}
 use Rattle.rules.specs.Memory.{leBytes, coordEntriesBytes}
 use Rattle.insertion.specs.declared.row.NewRow.{NewRow}
 
@@ -32,6 +33,16 @@ rowFrom r =
 -- row r goes in at i; what is past the rows loses a row's bytes
 unfoldable pub inserted : ℕ → Row → State → State
 inserted i r s = record { maxEntries = s .maxEntries; defaultTtl = s .defaultTtl; seq = s .seq; storedWeight = s .storedWeight; rowCount = length (s .rows) + 1; rows = take i (s .rows) ++ r ∷ drop i (s .rows); rest = drop rowSize (s .rest) }
+
+-- row i leaves, and row r goes in at j of those that stay
+unfoldable pub exchanged : ℕ → ℕ → Row → State → State
+exchanged i j r s = withRows (take j (withoutRow i (s .rows)) ++ r ∷ drop j (withoutRow i (s .rows))) s
+
+-- of a state s, t has the rows but row i, with a place between them at j; all else is as it was
+pub record Opened (i j : ℕ) (s t : State) : Type 0 where
+  pub before : take j (t .rows) ≡ take j (withoutRow i (s .rows))
+  pub behind : drop (suc j) (t .rows) ≡ drop j (withoutRow i (s .rows))
+  pub others : withRows (s .rows) t ≡ s
 
 -- another path, as a row holds it
 unfoldable pub withPath : Path → Entry → Entry

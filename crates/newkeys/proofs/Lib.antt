@@ -1,2 +1,1 @@
-pub mod AfterRoom
 pub mod NewKeys

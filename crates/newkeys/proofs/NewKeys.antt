@@ -1,5 +1,5 @@
 -- 2. a new key: what each branch meets, and what it leaves.
-use mathlib.Core.Path.{_≡_, refl, ap, _∙_, subst}
+use mathlib.Core.Path.{_≡_, refl, sym, ap, _∙_, subst}
 use Prim.Native.Nat.{ℕ, _+_, _*_, _≤_, _<_}
 use native.Mathlib.Omega.{arith}
 use mathlib.Core.List.{List}
@@ -28,49 +28,71 @@ use Rattle.stamps.specs.Walked.{walkFrom}
 use Rattle.room.proofs.Sums.{probation-visits}
 use Rattle.filing.specs.declared.entry.NewEntry.{NewEntry}
 use Rattle.filing.specs.Filings.{entryFrom, Writable}
-use Rattle.room.specs.declared.answers.Room.{Room as RoomAnswer}
-use Rattle.room.specs.Rooms.{roomOf, Without, StampsLeft}
+use Rattle.stamps.specs.declared.answers.Lowest.{Lowest}
+use Rattle.stamps.specs.declared.answers.Lowest.the-variants.{At, Nothing}
+use Rattle.room.specs.declared.answers.SoughtRoom.{SoughtRoom}
+use Rattle.room.specs.declared.answers.ProbationRoom.{ProbationRoom}
+use Rattle.room.specs.Rooms.{soughtRoomOf, withoutVictim, Leaves, Without, StampsLeft}
+use Rattle.room.proofs.Leaving.{without-none}
+use Rattle.replacing.specs.Replacing.{Takes}
+use Rattle.replacing.proofs.Seeking.{victim-seq, over-victim}
 use Rattle.newkeys.specs.Placements.{Placing, noRoom, insertedAs, rejectedAs}
-use Rattle.room.proofs.Files.{shown, laid-out, few, free-in-probation, Reached, reached-without, without-gone, filed}
+use Rattle.room.proofs.Files.{shown, laid-out, few, free-in-probation, reached-without, without-gone}
+
+-- ---- a row filed, as the rules name it
+
+pub filed-as : (k : NodeAddr) (e x : Entry) (w v p : ℕ) (t s : State) (y : List ℕ) → t ≡ s → x ≡ e → v ≡ w → viewRows (length (fileNew k x v p t .rows)) y ≡ fileNew k x v p t → viewRows (length (fileNew k e w p s .rows)) y ≡ fileNew k e w p s
+filed-as k e x w v p t s y a b c d = rw (← a, ← b, ← c) d
 
 -- ---- to probation
 
 pub probation-asks : (k : NodeAddr) (n : ℕ) (l : List ℕ) → Without k n l → StampsLeft n l
-    → (40 + n * 1095 ≤ length l) × (viewRows n l .storedWeight ≡ mainWeight (viewRows n l)) × (viewRows n l .seq + total probationVisits (viewRows n l .rows) < 18446744073709551616)
-probation-asks k n l w q = (laid-out n l (w .sound), shown n l (w .sound) .storedWeight, omega arith)
+    → (40 + n * 1095 ≤ length l) × (sound (capacity l) (viewRows n l) ≡ true) × (viewRows n l .seq + total probationVisits (viewRows n l .rows) < 18446744073709551616)
+probation-asks k n l w q = (laid-out n l (w .sound), w .sound, omega arith)
 
 -- where the walk stopped
-walked : (s t : State) (x : ℕ) (w : Walk) → walkFrom t x ≡ w → (t ≡ w .state) × (x ≡ w .examined)
-walked s t x w e = (ap (λ (y : Walk). y .state) e, ap (λ (y : Walk). y .examined) e)
+walked : (t : State) (x : ℕ) (w : Walk) → walkFrom t x ≡ w → (t ≡ w .state) × (x ≡ w .examined)
+walked t x w e = (ap (λ (y : Walk). y .state) e, ap (λ (y : Walk). y .examined) e)
 
-module _ (k : NodeAddr) (p : Path) (n j x : ℕ) (l m : List ℕ) (wo : Without k n l) (q : StampsLeft n l) (z : length m ≡ length l) (v : walkFrom (viewRows j m) x ≡ makeProbationRoom (viewRows n l)) where
-  room-reached : Reached l m j (makeProbationRoom (viewRows n l) .state)
-  room-reached = record { size = z; state = walked (viewRows n l) (viewRows j m) x (makeProbationRoom (viewRows n l)) v .0 }
+module _ (k : NodeAddr) (p : Path) (n : ℕ) (r : ProbationRoom) (l m : List ℕ) (wo : Without k n l) (q : StampsLeft n l) (z : length m ≡ length l)
+    (v : (walkFrom (withoutVictim (r .victim) (viewRows n m)) (r .examined) ≡ makeProbationRoom (viewRows n l)) × Leaves (r .victim) (r .stored) (viewRows n l .rows) (viewRows n m .rows)) where
+  left-state : withoutVictim (r .victim) (viewRows n m) ≡ makeProbationRoom (viewRows n l) .state
+  left-state = walked (withoutVictim (r .victim) (viewRows n m)) (r .examined) (makeProbationRoom (viewRows n l)) (v .0) .0
 
-  room-examined : x ≡ makeProbationRoom (viewRows n l) .examined
-  room-examined = walked (viewRows n l) (viewRows j m) x (makeProbationRoom (viewRows n l)) v .1
+  room-examined : r .examined ≡ makeProbationRoom (viewRows n l) .examined
+  room-examined = walked (withoutVictim (r .victim) (viewRows n m)) (r .examined) (makeProbationRoom (viewRows n l)) (v .0) .1
 
-  pub probation-few : x ≤ 2048
+  pub probation-few : r .examined ≤ 2048
   probation-few =
       let t = probation-evict (capacity l) (viewRows n l) (shown n l (wo .sound)) .evicted in
       omega (arith, room-examined, t .done, probation-visits (viewRows n l .rows), view-length n l, few n l (wo .sound))
 
-  pub probation-file-asks : (e : NewEntry) → Writable p → e .path ≡ p
-      → (sound (capacity m) (viewRows j m) ≡ true) × (j < capacity m) × (find k (viewRows j m .rows) ≡ none) × (viewRows j m .seq < 18446744073709551615) × (e .path .len ≤ 32)
-  probation-file-asks e wr pe =
-      let s = shown n l (wo .sound) in
-      let t = probation-evict (capacity l) (viewRows n l) s in
+  free : r .victim ≡ Nothing → Without k n m × (n < capacity m)
+  free e =
+      let t = probation-evict (capacity l) (viewRows n l) (shown n l (wo .sound)) in
       let u = t .evicted in
-      let h = reached-without k l m j (makeProbationRoom (viewRows n l) .state) room-reached (u .sound) (u .keeps (λ y. y .key ≡ k → ⊥) (without-gone k n l wo)) in
-      let r = room-reached .state in
-      (h .sound, free-in-probation j m (h .sound) (rw r (t .few)), h .gone, rw r (omega (arith, u .stamps, u .done, q)), rw pe (wr .short))
+      let g = sym (without-none (r .victim) (viewRows n m) e) ∙ left-state in
+      let h = reached-without k l m n (makeProbationRoom (viewRows n l) .state) (record { size = z; state = g }) (u .sound) (u .keeps (λ y. y .key ≡ k → ⊥) (without-gone k n l wo)) in
+      (h, free-in-probation n m (h .sound) (rw g (t .few)))
 
-  pub in-probation : (time ttl before w : ℕ) (unfunded : Bool) (e : NewEntry) (y : List ℕ) (d : Placed) → entryFrom e ≡ newEntry p time ttl → w ≡ pathWeight p → viewRows (j + 1) y ≡ fileNew k (entryFrom e) w 2 (viewRows j m) → d ≡ insertedAs 0 Probation unfunded (before + x)
+  pub probation-takes : (e : NewEntry) → Writable p → e .path ≡ p → Takes k (r .victim) (r .stored) n m × (e .path .len ≤ 32)
+  probation-takes e wr pe =
+      let u = probation-evict (capacity l) (viewRows n l) (shown n l (wo .sound)) .evicted in (
+        record {
+          free = free;
+          over = λ i h. over-victim k n n i (r .stored) l m wo z (omega arith) (v .1 i h);
+          seq = omega (arith, u .stamps, u .done, q, victim-seq (r .victim) (viewRows n m), ap (λ (x : State). x .seq) left-state);
+        },
+        rw pe (wr .short),
+      )
+
+  pub in-probation : (time ttl before w : ℕ) (unfunded : Bool) (e : NewEntry) (y : List ℕ) (d : Placed) → entryFrom e ≡ newEntry p time ttl → w ≡ pathWeight p
+      → viewRows (length (fileNew k (entryFrom e) w 2 (withoutVictim (r .victim) (viewRows n m)) .rows)) y ≡ fileNew k (entryFrom e) w 2 (withoutVictim (r .victim) (viewRows n m)) → d ≡ insertedAs 0 Probation unfunded (before + r .examined)
       → Placing (newInProbation k (newEntry p time ttl) (pathWeight p) unfunded before (viewRows n l)) d y
   unfolding newInProbation placeResult
   in-probation time ttl before w unfunded e y d a b c h = record {
     says = h ∙ ap (λ (i : ℕ). insertedAs 0 Probation unfunded (before + i)) room-examined;
-    state = filed k (newEntry p time ttl) (entryFrom e) (pathWeight p) w 2 j m y (makeProbationRoom (viewRows n l) .state) (room-reached .state) a b c;
+    state = filed-as k (newEntry p time ttl) (entryFrom e) (pathWeight p) w 2 (withoutVictim (r .victim) (viewRows n m)) (makeProbationRoom (viewRows n l) .state) y left-state a b c;
   }
 
 -- ---- weights
@@ -81,12 +103,15 @@ light p w = omega (arith, w .short)
 
 -- ---- to main
 
-pub in-main : (k : NodeAddr) (p : Path) (time ttl n w v x : ℕ) (l y : List ℕ) (e : NewEntry) (d : Placed) → entryFrom e ≡ newEntry p time ttl → w ≡ pathWeight p → v ≡ w → viewRows (n + 1) y ≡ fileNew k (entryFrom e) w 0 (viewRows n l) → d ≡ insertedAs v Main false x
-    → Placing (placeResult Inserted (pathWeight p) Main false x (fileNew k (newEntry p time ttl) (pathWeight p) 0 (viewRows n l))) d y
+pub main-asks : (k : NodeAddr) (v : Lowest) (p : Path) (stored n : ℕ) (l : List ℕ) (e : NewEntry) → Takes k v stored n l → Writable p → e .path ≡ p → Takes k v stored n l × (e .path .len ≤ 32)
+main-asks k v p stored n l e t w pe = (t, rw pe (w .short))
+
+pub in-main : (k : NodeAddr) (p : Path) (time ttl w v x : ℕ) (s : State) (y : List ℕ) (e : NewEntry) (d : Placed) → entryFrom e ≡ newEntry p time ttl → w ≡ pathWeight p → v ≡ w → viewRows (length (fileNew k (entryFrom e) w 0 s .rows)) y ≡ fileNew k (entryFrom e) w 0 s → d ≡ insertedAs v Main false x
+    → Placing (placeResult Inserted (pathWeight p) Main false x (fileNew k (newEntry p time ttl) (pathWeight p) 0 s)) d y
 unfolding placeResult
-in-main k p time ttl n w v x l y e d a b c f h = record {
+in-main k p time ttl w v x s y e d a b c f h = record {
   says = h ∙ ap (λ (i : ℕ). insertedAs i Main false x) (c ∙ b);
-  state = filed k (newEntry p time ttl) (entryFrom e) (pathWeight p) w 0 n l y (viewRows n l) refl a b f;
+  state = filed-as k (newEntry p time ttl) (entryFrom e) (pathWeight p) w 0 s s y refl a b f;
 }
 
 -- ---- no room
@@ -110,18 +135,17 @@ module _ (k : NodeAddr) (p : Path) (time ttl : ℕ) (f : Funding) (n : ℕ) (l :
   unfolding placeNew
   uncovered y r c h = rw c h
 
-  pub covered-made : (m y : List ℕ) (w : ℕ) (o : RoomAnswer) (r : Placed) → w ≡ pathWeight p → covers f w ≡ true → o .made ≡ true → roomOf o (viewRows (o .rows) m) ≡ makeRoom time w (viewRows n l)
-      → Placing (placeResult Inserted (pathWeight p) Main false (o .examined) (fileNew k (newEntry p time ttl) (pathWeight p) 0 (viewRows (o .rows) m))) r y → Placing (placeNew k p time ttl f (viewRows n l)) r y
-  unfolding placeNew roomOf
-  covered-made m y w o r e c d q h =
-      let c1 : covers f (pathWeight p) ≡ true = subst (λ (x : ℕ). covers f x ≡ true) e c in
-      let q1 : roomOf o (viewRows (o .rows) m) ≡ makeRoom time (pathWeight p) (viewRows n l) = subst (λ (x : ℕ). roomOf o (viewRows (o .rows) m) ≡ makeRoom time x (viewRows n l)) e q in
-      rw (c1, ← q1, d) h
+  module _ (m y : List ℕ) (w : ℕ) (o : SoughtRoom) (r : Placed) (e : w ≡ pathWeight p) (c : covers f w ≡ true) (q : soughtRoomOf o (viewRows (o .rows) m) ≡ makeRoom time w (viewRows n l)) where
+    covered : covers f (pathWeight p) ≡ true
+    covered = subst (λ (x : ℕ). covers f x ≡ true) e c
 
-  pub covered-not-made : (m y : List ℕ) (w : ℕ) (o : RoomAnswer) (r : Placed) → w ≡ pathWeight p → covers f w ≡ true → o .made ≡ false → roomOf o (viewRows (o .rows) m) ≡ makeRoom time w (viewRows n l)
-      → Placing (newWithoutRoom f k (newEntry p time ttl) (pathWeight p) (noRoom (viewRows (o .rows) m) (o .examined))) r y → Placing (placeNew k p time ttl f (viewRows n l)) r y
-  unfolding placeNew roomOf
-  covered-not-made m y w o r e c d q h =
-      let c1 : covers f (pathWeight p) ≡ true = subst (λ (x : ℕ). covers f x ≡ true) e c in
-      let q1 : roomOf o (viewRows (o .rows) m) ≡ makeRoom time (pathWeight p) (viewRows n l) = subst (λ (x : ℕ). roomOf o (viewRows (o .rows) m) ≡ makeRoom time x (viewRows n l)) e q in
-      rw (c1, ← q1, d) h
+    room : soughtRoomOf o (viewRows (o .rows) m) ≡ makeRoom time (pathWeight p) (viewRows n l)
+    room = subst (λ (x : ℕ). soughtRoomOf o (viewRows (o .rows) m) ≡ makeRoom time x (viewRows n l)) e q
+
+    pub covered-made : o .made ≡ true → Placing (placeResult Inserted (pathWeight p) Main false (o .examined) (fileNew k (newEntry p time ttl) (pathWeight p) 0 (withoutVictim (o .victim) (viewRows (o .rows) m)))) r y → Placing (placeNew k p time ttl f (viewRows n l)) r y
+    unfolding placeNew soughtRoomOf
+    covered-made d h = rw (covered, ← room, d) h
+
+    pub covered-not-made : o .made ≡ false → o .victim ≡ Nothing → Placing (newWithoutRoom f k (newEntry p time ttl) (pathWeight p) (noRoom (viewRows (o .rows) m) (o .examined))) r y → Placing (placeNew k p time ttl f (viewRows n l)) r y
+    unfolding placeNew soughtRoomOf
+    covered-not-made d v h = rw (covered, ← room, d, without-none (o .victim) (viewRows (o .rows) m) v) h

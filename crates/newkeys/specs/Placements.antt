@@ -23,10 +23,6 @@ pub record Placing (u : PlaceResult) (r : Placed) (m : List ℕ) : Type 0 where
   pub says : r ≡ u .placed
   pub state : viewRows (length (u .state .rows)) m ≡ u .state
 
--- main has a row free
-abbrev pub FreeInMain : ℕ → List ℕ → Type 0
-FreeInMain n l = mainCount (viewRows n l) < mainBound (capacity l) (viewRows n l .maxEntries)
-
 -- no room was made
 abbrev pub noRoom : State → ℕ → Room
 noRoom s examined = record { made = false; state = s; examined = examined }

@@ -2,9 +2,10 @@
 use coord::coord::Path;
 use coord::node_addr::NodeAddr;
 use filing::entry::new_entry;
-use filing::file::file_new;
-use room::probation::make_probation_room;
-use room::victims::make_room;
+use replacing::file_in_room;
+use room::probation::seek_probation_room;
+use room::victims::seek_room;
+use stamps::answers::Lowest;
 use stamps::row::BY_USE;
 use stamps::row::PROBATION;
 use types::placed::Funding;
@@ -12,7 +13,7 @@ use types::placed::HintOutcome;
 use types::placed::Placed;
 use types::placed::Segment;
 ghost use mathlib.Core.Path.{_≡_};
-ghost use Prim.Native.Nat.{_+_, _≤_, _<_};
+ghost use Prim.Native.Nat.{_≤_};
 ghost use Rattle.coord.specs.Paths.{pathWeight};
 ghost use mathlib.Core.Bool.{false};
 ghost use Rattle.types.specs.declared.placed.Segment.the-variants.{Main};
@@ -23,9 +24,10 @@ ghost use Rattle.rules.specs.Entries.{newEntry};
 ghost use Rattle.rules.specs.Room.{fileNew};
 ghost use Rattle.rules.specs.Placement.{placeResult, newInProbation, newWithoutRoom, placeNew};
 ghost use Rattle.rules.specs.Memory.{viewRows};
-ghost use Rattle.room.specs.Rooms.{Without, StampsLeft};
+ghost use Rattle.room.specs.Rooms.{Without, StampsLeft, withoutVictim};
 ghost use Rattle.filing.specs.Filings.{Writable};
-ghost use Rattle.newkeys.specs.Placements.{Placing, FreeInMain, noRoom, insertedAs, rejectedAs};
+ghost use Rattle.replacing.specs.Replacing.{Takes};
+ghost use Rattle.newkeys.specs.Placements.{Placing, noRoom, insertedAs, rejectedAs};
 
 // What a path weighs, as a row holds it.
 pub fn row_weight(path: Path) -> u8
@@ -62,9 +64,10 @@ fn new_in_probation(
     ensures { λ r. ⌜ Placing (newInProbation key (newEntry path time ttl) (pathWeight path) unfunded before (viewRows n (now (state .entry)))) r (now (state .exit)) ⌝ }
 {
     let w = row_weight(path);
-    let room = make_probation_room(state, n);
+    let room = seek_probation_room(state, n);
+    let victim = room.victim;
     let e = new_entry(path, time, ttl);
-    file_new(state, room.rows, key, e, w, PROBATION);
+    file_in_room(state, n, victim, room.stored, key, e, w, PROBATION);
     inserted(0, Segment::Probation, unfunded, before + room.examined)
 }
 
@@ -72,18 +75,20 @@ fn new_in_probation(
 fn new_in_main(
     state: &mut [u8],
     n: usize,
+    victim: Lowest,
+    stored: u64,
     key: NodeAddr,
     path: Path,
     time: u64,
     ttl: u64,
     examined: u64,
 ) -> Placed
-    requires { ⌜ Without key n (now state) × Writable path × FreeInMain n (now state) × (viewRows n (now state) .seq < 18446744073709551615) ⌝ }
-    ensures { λ r. ⌜ Placing (placeResult Inserted (pathWeight path) Main false examined (fileNew key (newEntry path time ttl) (pathWeight path) byUse (viewRows n (now (state .entry))))) r (now (state .exit)) ⌝ }
+    requires { ⌜ Takes key victim stored n (now state) × Writable path ⌝ }
+    ensures { λ r. ⌜ Placing (placeResult Inserted (pathWeight path) Main false examined (fileNew key (newEntry path time ttl) (pathWeight path) byUse (withoutVictim victim (viewRows n (now (state .entry)))))) r (now (state .exit)) ⌝ }
 {
     let w = row_weight(path);
     let e = new_entry(path, time, ttl);
-    file_new(state, n, key, e, w, BY_USE);
+    file_in_room(state, n, victim, stored, key, e, w, BY_USE);
     inserted(raw::numbers::wide(w), Segment::Main, false, examined)
 }
 
@@ -137,9 +142,20 @@ pub fn place_new(
     if !funding.covers(w) {
         return new_in_probation(state, n, key, path, time, ttl, true, 0);
     }
-    let room = make_room(state, n, w, time);
+    let room = seek_room(state, n, w, time);
     if room.made {
-        return new_in_main(state, room.rows, key, path, time, ttl, room.examined);
+        let victim = room.victim;
+        return new_in_main(
+            state,
+            room.rows,
+            victim,
+            room.stored,
+            key,
+            path,
+            time,
+            ttl,
+            room.examined,
+        );
     }
     new_without_room(
         state,

@@ -21,7 +21,6 @@ use Rattle.stamps.specs.declared.answers.Lowest.{Lowest}
 use Rattle.stamps.specs.declared.answers.Lowest.the-variants.{At, Nothing}
 use Rattle.stamps.specs.declared.answers.Victim.{Victim}
 use Rattle.stamps.specs.Walked.{lowestOf, walkFrom, soughtOf}
-use Rattle.room.specs.Rooms.{chosenOf}
 use Rattle.room.proofs.Sums.{sound-small}
 use Rattle.room.proofs.Later.{next-from}
 
@@ -127,9 +126,8 @@ unfolding hasRoom
 room-test now w s count stored m v b g em h = sym (h ∙ rw (g .mains, g .loads, em, ← g .led .maxEntries))
 
 pub chosen-enough : (now w e count stored m : ℕ) (s t : State) (b : Bool) → Choosing now w s count stored (walkFrom t e) → m ≡ s .maxEntries → b ≡ ltb count m && leb (stored + w) (weightBound m) → b ≡ true
-    → chosenOf (record { made = true; examined = e }) t ≡ choosing now w (walkFrom s 0)
-unfolding chosenOf
-chosen-enough now w e count stored m s t b g em h q = sym (g .same ∙ choose-done now w (walkFrom t e) (room-test now w s count stored m (walkFrom t e) b g em h ∙ q))
+    → choosing now w (walkFrom s 0) ≡ record { made = true; walk = walkFrom t e }
+chosen-enough now w e count stored m s t b g em h q = g .same ∙ choose-done now w (walkFrom t e) (room-test now w s count stored m (walkFrom t e) b g em h ∙ q)
 
 -- seq has room for the walk that is left
 pub choosing-seq : (now w count stored : ℕ) (s t : State) (e : ℕ) → Choosing now w s count stored (walkFrom t e) → t .seq + total (mainVisits now) (t .rows) ≤ s .seq + total (mainVisits now) (s .rows)
@@ -138,7 +136,7 @@ choosing-seq now w count stored s t e g = omega (arith, g .led .done, g .led .st
 -- the walk from t came to u, and answered r
 pub record Came (now w : ℕ) (s : State) (count stored e : ℕ) (u : State) (r : Victim) : Type 0 where
   pub fits : e + r .examined ≤ total (mainVisits now) (s .rows)
-  pub none-left : r .found ≡ Nothing → chosenOf (record { made = false; examined = e + r .examined }) u ≡ choosing now w (walkFrom s 0)
+  pub none-left : r .found ≡ Nothing → choosing now w (walkFrom s 0) ≡ record { made = false; walk = walkFrom u (e + r .examined) }
   pub inside : (i : ℕ) → r .found ≡ At i → i < length (u .rows)
   pub some-left : (i : ℕ) → r .found ≡ At i → 1 ≤ count
   pub enough : (i : ℕ) → r .found ≡ At i → rowAt i (u .rows) .weight ≤ stored
@@ -154,7 +152,7 @@ at-is f i e = rw e
 
 pub came : (now w count stored e m : ℕ) (s t u : State) (b : Bool) (r : Victim) → Choosing now w s count stored (walkFrom t e) → m ≡ s .maxEntries → b ≡ ltb count m && leb (stored + w) (weightBound m) → b ≡ false
     → soughtOf r u ≡ nextVictim now (walkFrom t 0) → Came now w s count stored e u r
-unfolding chosenOf sought setAside
+unfolding sought setAside
 came now w count stored e m s t u b r g em h f q =
     let v = walkFrom t e in
     let y = walkFrom u (e + r .examined) in
@@ -166,7 +164,7 @@ came now w count stored e m s t u b r g em h f q =
     let loss : (i : ℕ) → r .found ≡ At i → mainWeight (setAside i y .state) + rowAt i (u .rows) .weight ≡ mainWeight t = λ i a. let p = z .there i (at-is (r .found) i a) in aside-weight y i (p .0) (p .1) ∙ z .same .weights in
     record {
       fits = bound o k refl;
-      none-left = λ a. sym (g .same ∙ choose-none now w v full (ap (λ (x : Sought). x .victim) n ∙ nothing-is (r .found) a) ∙ ap (λ (x : Sought). record { made = false; walk = x .walk }) n);
+      none-left = λ a. g .same ∙ choose-none now w v full (ap (λ (x : Sought). x .victim) n ∙ nothing-is (r .found) a) ∙ ap (λ (x : Sought). record { made = false; walk = x .walk }) n;
       inside = λ i a. z .there i (at-is (r .found) i a) .0;
       some-left = λ i a. omega (arith, g .mains, k .yields i (at-is (r .found) i a) .1);
       enough = λ i a. omega (arith, g .loads, loss i a);

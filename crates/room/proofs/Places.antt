@@ -1,16 +1,18 @@
 -- Rows set aside and put back.
 use mathlib.Core.Path.{_≡_, refl, sym, ap, _∙_}
-use Prim.Native.Nat.{ℕ, zero, suc, _+_}
+use Prim.Native.Nat.{ℕ, zero, suc, _+_, _-_, _<_}
 use native.Mathlib.Omega.{arith}
 use native.Mathlib.Numerals.{add-one}
 use mathlib.Core.List.{List, [], _∷_, map}
+use mathlib.Core.Bool.{true}
 use lib.ListN.{length}
 use borrow.Author.Tests.{eq-eqb, ne-eqb}
 use Rattle.rules.specs.Records.{Row, State, aside}
 use Rattle.rules.specs.Rows.{rowAt, atPlace, changeRow, withRows}
 use Rattle.rules.specs.Room.{atNewPlace, putBack}
-use Rattle.rules.proofs.RowLists.{change-at, change-none}
+use Rattle.rules.proofs.RowLists.{change-at, change-none, length-change}
 use Rattle.memory.specs.Edits.{stampedAs}
+use Rattle.room.specs.Rooms.{LastAside}
 
 -- ---- a row at another place, under its own stamp
 
@@ -20,6 +22,20 @@ own-stamp p f q r ef eq = rw (ef, eq)
 
 pub placed : (i p f q : ℕ) (s x : State) → f ≡ rowAt i (s .rows) .stampFirst → q ≡ rowAt i (s .rows) .stampSeq → x ≡ withRows (changeRow (stampedAs p f q) i (s .rows)) s → x ≡ withRows (changeRow (atNewPlace p) i (s .rows)) s
 placed i p f q s x ef eq ex = ex ∙ ap (λ (rs : List Row). withRows rs s) (change-at (stampedAs p f q) (atNewPlace p) i (s .rows) (own-stamp p f q (rowAt i (s .rows)) ef eq))
+
+-- ---- the row that was set aside last
+
+aside-there : (i : ℕ) (rs : List Row) → i < length rs → atPlace aside (rowAt i (changeRow (atNewPlace aside) i rs)) ≡ true
+unfolding changeRow atNewPlace atPlace
+aside-there i [] h = absurd (let z : ⊥ = omega arith in z)
+aside-there zero (r ∷ rs) h = refl
+aside-there (suc i) (r ∷ rs) h = aside-there i rs (omega arith)
+
+pub last-start : (count i : ℕ) (rs : List Row) → LastAside count count i rs
+last-start count i rs = record { few = omega arith; inside = λ h. omega arith; there = λ h. absurd (let z : ⊥ = omega arith in z) }
+
+pub last-turn : (count left i j : ℕ) (rs ts : List Row) → LastAside count left i rs → j < length ts → LastAside count (left - 1) j (changeRow (atNewPlace aside) j ts)
+last-turn count left i j rs ts l h = record { few = omega (arith, l .few); inside = λ _. omega (arith, length-change (atNewPlace aside) j ts); there = λ _. aside-there j ts h }
 
 -- ---- a row put back
 

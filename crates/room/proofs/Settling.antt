@@ -1,6 +1,6 @@
--- Room that is there, victims that leave, and victims that go back.
+-- Room that is there, victims that leave or stay for the row that takes their place, and victims that go back.
 use mathlib.Core.Path.{_≡_, refl, sym, ap, _∙_, subst}
-use Prim.Native.Nat.{ℕ, zero, suc, _+_, _-_, _≤_, min}
+use Prim.Native.Nat.{ℕ, zero, suc, _+_, _-_, _≤_, _<_, min}
 use native.Mathlib.Omega.{arith}
 use mathlib.Core.List.{List, [], _∷_, map}
 use mathlib.Core.Bool.{Bool, true, false, cond, _&&_, not}
@@ -10,9 +10,9 @@ use borrow.Author.Tests.{eq-eqb, ne-eqb, ltb-true, ltb-false}
 use Rattle.coord.specs.declared.node_addr.NodeAddr.{NodeAddr}
 use Rattle.rules.specs.Cases.{Every}
 use Rattle.rules.specs.Records.{Row, State, aside, weightBound}
-use Rattle.rules.specs.Rows.{atPlace, inMain, keepRows, mainCount, total, weighRows, withRows, withOnlyRows, zeroRows}
+use Rattle.rules.specs.Rows.{rowAt, atPlace, inMain, keepRows, countRows, mainCount, total, weighRows, withRows, withOnlyRows, zeroRows}
 use Rattle.rules.specs.Sound.{sound}
-use Rattle.rules.specs.Room.{Walk, Chosen, nextVictim, hasRoom, setAside, putBack, chooseVictims, settled, makeRoom}
+use Rattle.rules.specs.Room.{Walk, Chosen, nextVictim, hasRoom, setAside, putBack, chooseVictims, settled, makeRoom, takeOut}
 use Rattle.rules.proofs.RowLists.{Core, by-cond, by-maybe, cores, core, every-map, every-mapped, map-cores}
 use Rattle.rules.proofs.SoundTest.{RowOk, sound-is}
 use Rattle.rules.proofs.Moves.{ready}
@@ -20,10 +20,13 @@ use Rattle.rules.proofs.Walks.{Going, Led, back-core, choose-led, not-at, start
 use Rattle.rules.proofs.Loops.{choose-done}
 use Rattle.sweep.proofs.Sweeping.{only-rows, rows-same}
 use Rattle.sweep.specs.Sweep.{PathFit, PathsFit, keptRows, sweepTest}
+use Rattle.stamps.specs.declared.answers.Lowest.the-variants.{At, Nothing}
 use Rattle.stamps.specs.Walked.{walkFrom}
 use Rattle.room.specs.declared.victims.Chosen.{Chosen as ChosenAnswer}
-use Rattle.room.specs.Rooms.{chosenOf, roomOf}
+use Rattle.room.specs.declared.answers.SoughtRoom.{SoughtRoom}
+use Rattle.room.specs.Rooms.{chosenOf, roomOf, soughtRoomOf, withoutVictim, SetAside, LeftAt, Alone}
 use Rattle.room.proofs.Choosing.{next-yields}
+use Rattle.room.proofs.Leaving.{left-at, one-aside, back-mains, aside-not-main}
 
 -- ---- the pass over the rows
 
@@ -54,7 +57,7 @@ pub room-made : (now w n x : ℕ) (s t u : State) (c : ChosenAnswer) → x ≡ m
 unfolding roomOf makeRoom settled chosenOf
 room-made now w n x s t u c ex h m e = rw (← ex, ← h, m, e)
 
--- ---- the victims go back
+-- ---- what was chosen
 
 -- what the walks leave in the head
 record Held (v x : Walk) : Type 0 where
@@ -110,6 +113,8 @@ pub record Waiting (s t : State) : Type 0 where
   pub storedWeight : t .storedWeight ≡ weighRows inMain (map putBack (t .rows))
   pub rowCount : t .rowCount ≡ s .rowCount
   pub paths : PathsFit (t .rows)
+  pub same : cores (t .rows) ≡ cores (s .rows)
+  pub mains : countRows (λ r. inMain (putBack r)) (t .rows) ≡ mainCount s
 
 pub waiting : (now x R : ℕ) (s t : State) (c : ChosenAnswer) → sound R s ≡ true → chosenOf c t ≡ chooseVictims (suc (mainCount s)) now x (walkFrom s 0) → Waiting s t
 unfolding chosenOf
@@ -123,12 +128,43 @@ waiting now x R s t c h e =
       storedWeight = a .storedWeight ∙ d .storedWeight ∙ sym (back-weight now (t .seq) (t .rows) (s .rows) (s .seq) (l .each) (d .each) (l .same));
       rowCount = a .rowCount;
       paths = every-map fit (t .rows) (l .each);
+      same = l .same;
+      mains = l .mains;
     }
   where
     fit : (r : Row) → Going now (t .seq) r → PathFit r
     fit r g = let q = back-core r in record { long = subst (λ (y : Core). 1 ≤ y .entry .path .len) q (g .ok .long); short = subst (λ (y : Core). y .entry .path .len ≤ 32) q (g .ok .short) }
 
+-- ---- the victims go back
+
 pub room-failed : (now w n x : ℕ) (s t u : State) (c : ChosenAnswer) → Waiting s t → s .rowCount ≡ length (t .rows) → x ≡ min w (weightBound (s .maxEntries)) → chosenOf c t ≡ chooseVictims (suc (mainCount s)) now x (walkFrom s 0) → c .made ≡ false → u ≡ withRows (map putBack (t .rows)) t
     → roomOf (record { made = false; rows = n; examined = c .examined }) u ≡ makeRoom now w s
 unfolding roomOf makeRoom settled chosenOf
 room-failed now w n x s t u c k l ex h m e = rw (← ex, ← h, m, e, only-rows (map putBack (t .rows)) t (length-map (t .rows)) (k .storedWeight) (k .rowCount ∙ l))
+
+-- ---- the only victim stays, aside
+
+-- it is what would leave
+pub out-is : (i : ℕ) (s : State) → Alone i (s .rows) → takeOut i s ≡ withOnlyRows (keepRows (λ r. not (atPlace aside r)) (s .rows)) s
+unfolding takeOut
+out-is i s a = rw (a .only)
+
+module _ (count : ℕ) (s t : State) (c : ChosenAnswer) (k : Waiting s t) (e : count ≡ mainCount s) (a : SetAside count c t) (h : count - c .left ≡ 1) where
+  pub waits-alone : Alone (c .last) (t .rows)
+  waits-alone =
+      let l : c .left < count = omega arith in
+      record { only = one-aside (c .last) (t .rows) (a .last .inside l) (a .last .there l) (omega (arith, back-mains (t .rows), k .mains, a .mains)); paths = k .paths }
+
+  pub left-aside : (R : ℕ) → sound R s ≡ true → LeftAt (c .last) (c .stored) (s .rows) (t .rows)
+  left-aside R d =
+      let l : c .left < count = omega arith in
+      left-at (c .last) (c .stored) (s .rows) (t .rows) (sound-is R s d .rising) (k .same) (a .last .inside l) (aside-not-main (rowAt (c .last) (t .rows)) (a .last .there l)) (a .weighs) (a .light)
+
+-- room that was sought, as room that was made
+pub sought-at : (r : SoughtRoom) (i n : ℕ) (s : State) → r .victim ≡ At i → soughtRoomOf r s ≡ roomOf (record { made = r .made; rows = n; examined = r .examined }) (takeOut i s)
+unfolding soughtRoomOf withoutVictim roomOf
+sought-at r i n s e = rw e
+
+pub sought-none : (r : SoughtRoom) (n : ℕ) (s : State) → r .victim ≡ Nothing → soughtRoomOf r s ≡ roomOf (record { made = r .made; rows = n; examined = r .examined }) s
+unfolding soughtRoomOf withoutVictim roomOf
+sought-none r n s e = rw e

@@ -1,21 +1,26 @@
 -- The code's answers in the rules' terms.
 use mathlib.Core.Path.{_≡_}
-use Prim.Native.Nat.{ℕ, _+_, _<_}
+use Prim.Native.Nat.{ℕ, _+_, _≤_, _<_}
 use mathlib.Core.List.{List}
 use mathlib.Core.Option.{none}
-use mathlib.Core.Bool.{Bool, true}
+use mathlib.Core.Bool.{Bool, true, not}
 use lib.Dec.{ltb, eqb}
+use lib.ListN.{length}
 use Rattle.coord.specs.declared.node_addr.NodeAddr.{NodeAddr}
 use Rattle.types.specs.declared.placed.Segment.{Segment}
 use Rattle.types.specs.declared.placed.Segment.the-variants.{Main, Probation}
-use Rattle.rules.specs.Records.{Row, State, probation}
-use Rattle.rules.specs.Rows.{inMain, inProbation, find, total}
-use Rattle.rules.specs.Sound.{sound}
-use Rattle.rules.specs.Room.{Chosen, Room, probationVisits}
+use Rattle.rules.specs.Records.{Row, State, probation, aside}
+use Rattle.rules.specs.Rows.{rowAt, atPlace, inMain, inProbation, find, withoutRow, keepRows, total, weighRows, mainCount, mainWeight}
+use Rattle.rules.specs.Sound.{sound, ascends}
+use Rattle.rules.specs.Room.{Chosen, Room, probationVisits, takeOut}
 use Rattle.rules.specs.Memory.{capacity, viewRows}
+use Rattle.stamps.specs.declared.answers.Lowest.{Lowest}
+use Rattle.stamps.specs.declared.answers.Lowest.the-variants.{At, Nothing}
 use Rattle.stamps.specs.Walked.{walkFrom}
+use Rattle.sweep.specs.Sweep.{PathsFit}
 use Rattle.room.specs.declared.victims.Chosen.{Chosen as ChosenAnswer}
 use Rattle.room.specs.declared.answers.Room.{Room as RoomAnswer}
+use Rattle.room.specs.declared.answers.SoughtRoom.{SoughtRoom}
 
 -- whether a place belongs to a segment
 abbrev pub placeIn : Segment → ℕ → Bool
@@ -31,6 +36,48 @@ chosenOf c s = record { made = c .made; walk = walkFrom s (c .examined) }
 
 unfoldable pub roomOf : RoomAnswer → State → Room
 roomOf m s = record { made = m .made; state = s; examined = m .examined }
+
+-- ---- a victim left in place
+
+-- a state without the victim, if there is one
+unfoldable pub withoutVictim : Lowest → State → State
+withoutVictim (At i) s = takeOut i s
+withoutVictim Nothing s = s
+
+unfoldable pub soughtRoomOf : SoughtRoom → State → Room
+soughtRoomOf r s = record { made = r .made; state = withoutVictim (r .victim) s; examined = r .examined }
+
+-- the main rows fell from count to left; row i was set aside last
+pub record LastAside (count left i : ℕ) (rs : List Row) : Type 0 where
+  pub few : left ≤ count
+  pub inside : left < count → i < length rs
+  pub there : left < count → atPlace aside (rowAt i rs) ≡ true
+
+-- the victims stand aside in s, which had count main rows
+pub record SetAside (count : ℕ) (c : ChosenAnswer) (s : State) : Type 0 where
+  pub mains : c .left ≡ mainCount s
+  pub weighs : c .stored ≡ mainWeight s
+  pub light : c .stored ≤ 32768
+  pub last : LastAside count (c .left) (c .last) (s .rows)
+
+-- row i of ts, left for the row that takes its place: w is stored without it, and the keys are those of rs
+pub record LeftAt (i w : ℕ) (rs ts : List Row) : Type 0 where
+  pub inside : i < length ts
+  pub weighs : w ≡ weighRows inMain (withoutRow i ts)
+  pub light : w ≤ 32768
+  pub rising : ascends ts ≡ true
+  pub gone : (k : NodeAddr) → find k rs ≡ none → find k ts ≡ none
+
+abbrev pub Leaves : Lowest → ℕ → List Row → List Row → Type 0
+Leaves v w rs ts = (i : ℕ) → v ≡ At i → LeftAt i w rs ts
+
+-- row i is the only one aside
+pub record Alone (i : ℕ) (rs : List Row) : Type 0 where
+  pub only : keepRows (λ r. not (atPlace aside r)) rs ≡ withoutRow i rs
+  pub paths : PathsFit rs
+
+abbrev pub WaitsAlone : Lowest → List Row → Type 0
+WaitsAlone v rs = (i : ℕ) → v ≡ At i → Alone i rs
 
 -- ---- what a row that is filed meets
 

@@ -1,3 +1,5 @@
+use stamps::answers::Lowest;
+
 // Whether room was made in main, the rows that are left, and the keys taken up.
 pub struct Room {
     pub made: bool,
@@ -5,8 +7,18 @@ pub struct Room {
     pub examined: u64,
 }
 
-// The rows that are left once probation has room, and the keys taken up.
-pub struct ProbationRoom {
+// Room that was sought in main. A victim that stands alone is left where it is, for the row that takes its place; `stored` is the weight that is stored without it.
+pub struct SoughtRoom {
+    pub made: bool,
     pub rows: usize,
+    pub victim: Lowest,
+    pub stored: u64,
+    pub examined: u64,
+}
+
+// Room that was sought in probation: the victim, left where it is, the weight that is stored without it, and the keys taken up.
+pub struct ProbationRoom {
+    pub victim: Lowest,
+    pub stored: u64,
     pub examined: u64,
 }

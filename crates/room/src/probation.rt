@@ -9,36 +9,54 @@ use stamps::row::is_stale;
 use stamps::row::restamp;
 use types::placed::Segment;
 ghost use mathlib.Core.Path.{_≡_};
+ghost use mathlib.Core.Bool.{true};
 ghost use Prim.Native.Nat.{_+_, _*_, _≤_, _<_};
 ghost use lib.ListN.{length};
-ghost use Rattle.rules.specs.Rows.{rowSize, total, mainWeight};
+ghost use Rattle.rules.specs.Rows.{rowSize, total};
+ghost use Rattle.rules.specs.Sound.{sound};
 ghost use Rattle.rules.specs.Room.{probationVisits, makeProbationRoom};
-ghost use Rattle.rules.specs.Memory.{headSize, viewRows};
+ghost use Rattle.rules.specs.Memory.{headSize, capacity, viewRows};
 ghost use Rattle.stamps.specs.Walked.{walkFrom};
+ghost use Rattle.room.specs.Rooms.{withoutVictim, Leaves};
 
-// While probation rows ≥ Q the lowest stamp is taken up, restamped if stale, otherwise removed.
-pub fn make_probation_room(state: &mut [u8], n: usize) -> ProbationRoom
-    requires { ⌜ (headSize + n * rowSize ≤ length (now state)) × (viewRows n (now state) .storedWeight ≡ mainWeight (viewRows n (now state))) × (viewRows n (now state) .seq + total probationVisits (viewRows n (now state) .rows) < 18446744073709551616) ⌝ }
-    ensures { λ r. ⌜ (walkFrom (viewRows (r .rows) (now (state .exit))) (r .examined) ≡ makeProbationRoom (viewRows n (now (state .entry)))) × (r .rows ≤ n) ⌝ }
+// Where probation rows ≥ Q the lowest stamp is taken up, and restamped if stale. The first that is not is the victim, and the only one, since a sound state has at most Q; it is left for the row that takes its place.
+pub fn seek_probation_room(state: &mut [u8], n: usize) -> ProbationRoom
+    requires { ⌜ (headSize + n * rowSize ≤ length (now state)) × (sound (capacity (now state)) (viewRows n (now state)) ≡ true) × (viewRows n (now state) .seq + total probationVisits (viewRows n (now state) .rows) < 18446744073709551616) ⌝ }
+    ensures { λ r. ⌜ (walkFrom (withoutVictim (r .victim) (viewRows n (now (state .exit)))) (r .examined) ≡ makeProbationRoom (viewRows n (now (state .entry)))) × Leaves (r .victim) (r .stored) (viewRows n (now (state .entry)) .rows) (viewRows n (now (state .exit)) .rows) ⌝ }
 {
     let bound = probation_bound(memory::head::max_entries(state));
-    let mut count = count_rows(state, n, Segment::Probation);
-    let mut rows = n;
+    let count = count_rows(state, n, Segment::Probation);
+    let stored = memory::head::stored_weight(state);
+    if count < bound {
+        return ProbationRoom {
+            victim: Lowest::Nothing,
+            stored,
+            examined: 0,
+        };
+    }
     let mut examined: u64 = 0;
-    while bound <= count {
-        match lowest_stamp(state, rows, PROBATION) {
-            Lowest::Nothing => return ProbationRoom { rows, examined },
+    loop {
+        let victim = lowest_stamp(state, n, PROBATION);
+        match victim {
+            Lowest::Nothing => {
+                return ProbationRoom {
+                    victim,
+                    stored,
+                    examined,
+                };
+            }
             Lowest::At(i) => {
                 examined += 1;
-                if is_stale(state, rows, i) {
-                    restamp(state, rows, i);
+                if is_stale(state, n, i) {
+                    restamp(state, n, i);
                 } else {
-                    memory::rows::remove_row(state, rows, i);
-                    rows -= 1;
-                    count -= 1;
+                    return ProbationRoom {
+                        victim,
+                        stored,
+                        examined,
+                    };
                 }
             }
         }
     }
-    ProbationRoom { rows, examined }
 }

@@ -1,5 +1,6 @@
 // Room in main: victims are set aside, and leave together or go back.
 use crate::answers::Room;
+use crate::answers::SoughtRoom;
 use crate::counts::count_rows;
 use crate::counts::cut_to_bound;
 use crate::counts::has_room;
@@ -9,7 +10,7 @@ use stamps::row::BY_USE;
 use stamps::walk::next_victim;
 use types::placed::Segment;
 ghost use mathlib.Core.Path.{_≡_};
-ghost use mathlib.Core.Bool.{true, not};
+ghost use mathlib.Core.Bool.{true, false, not};
 ghost use mathlib.Core.List.{map};
 ghost use Prim.Native.Nat.{suc, _+_, _*_, _≤_, _<_};
 ghost use lib.ListN.{length};
@@ -18,16 +19,20 @@ ghost use Rattle.rules.specs.Rows.{rowSize, atPlace, changeRow, keepRows, withR
 ghost use Rattle.rules.specs.Sound.{sound};
 ghost use Rattle.rules.specs.Room.{mainVisits, atNewPlace, putBack, chooseVictims, makeRoom};
 ghost use Rattle.rules.specs.Memory.{headSize, capacity, viewRows};
+ghost use Rattle.stamps.specs.declared.answers.Lowest.the-variants.{Nothing};
 ghost use Rattle.stamps.specs.Walked.{walkFrom};
 ghost use Rattle.sweep.specs.Sweep.{PathsFit};
-ghost use Rattle.room.specs.Rooms.{chosenOf, roomOf};
+ghost use Rattle.room.specs.Rooms.{chosenOf, roomOf, soughtRoomOf, SetAside, Leaves, WaitsAlone};
 
 // Where a victim waits; no state at rest has this place.
 const ASIDE: u8 = 3;
 
-// Whether enough victims were chosen, and the keys taken up.
+// Whether enough victims were chosen; the main rows that are left and their weight; the row that was set aside last; the keys taken up.
 struct Chosen {
     made: bool,
+    left: u64,
+    stored: u64,
+    last: usize,
     examined: u64,
 }
 
@@ -44,16 +49,20 @@ fn set_place(state: &mut [u8], n: usize, i: usize, place: u8)
 // Victims are set aside while there is no room for w, or until none is left; count is the number of main rows.
 fn choose_victims(state: &mut [u8], n: usize, count: u64, w: u64, time: u64) -> Chosen
     requires { ⌜ (headSize + n * rowSize ≤ length (now state)) × (sound (capacity (now state)) (viewRows n (now state)) ≡ true) × (viewRows n (now state) .seq + total (mainVisits time) (viewRows n (now state) .rows) < 18446744073709551616) × (count ≡ mainCount (viewRows n (now state))) × (w ≤ weightBound (viewRows n (now state) .maxEntries)) ⌝ }
-    ensures { λ r. ⌜ chosenOf r (viewRows n (now (state .exit))) ≡ chooseVictims (suc (mainCount (viewRows n (now (state .entry))))) time w (walkFrom (viewRows n (now (state .entry))) 0) ⌝ }
+    ensures { λ r. ⌜ (chosenOf r (viewRows n (now (state .exit))) ≡ chooseVictims (suc (mainCount (viewRows n (now (state .entry))))) time w (walkFrom (viewRows n (now (state .entry))) 0)) × (r .made ≡ true → SetAside count r (viewRows n (now (state .exit)))) ⌝ }
 {
     let max = memory::head::max_entries(state);
     let mut stored = memory::head::stored_weight(state);
     let mut left = count;
+    let mut last = n;
     let mut examined: u64 = 0;
     loop {
         if has_room(max, left, stored, w) {
             return Chosen {
                 made: true,
+                left,
+                stored,
+                last,
                 examined,
             };
         }
@@ -64,6 +73,9 @@ fn choose_victims(state: &mut [u8], n: usize, count: u64, w: u64, time: u64) -> 
             Lowest::Nothing => {
                 return Chosen {
                     made: false,
+                    left,
+                    stored,
+                    last,
                     examined,
                 };
             }
@@ -71,6 +83,7 @@ fn choose_victims(state: &mut [u8], n: usize, count: u64, w: u64, time: u64) -> 
                 left -= 1;
                 stored -= raw::numbers::wide(memory::row::weight(state, n, i));
                 set_place(state, n, i, ASIDE);
+                last = i;
             }
         }
     }
@@ -107,36 +120,78 @@ fn drop_aside(state: &mut [u8], n: usize) -> usize
     sweep::sweep_rows(state, n, sweep::ASIDE, 0, none)
 }
 
-// Room for w in main. Where there is room nothing is written, and where it can't be made no row leaves.
-pub fn make_room(state: &mut [u8], n: usize, w: u64, time: u64) -> Room
+// Room for w in main, with a victim that stands alone left aside. Where there is room nothing is written, and where it can't be made no row leaves.
+pub fn seek_room(state: &mut [u8], n: usize, w: u64, time: u64) -> SoughtRoom
     requires { ⌜ (headSize + n * rowSize ≤ length (now state)) × (sound (capacity (now state)) (viewRows n (now state)) ≡ true) × (viewRows n (now state) .seq + total (mainVisits time) (viewRows n (now state) .rows) < 18446744073709551616) ⌝ }
-    ensures { λ r. ⌜ (roomOf r (viewRows (r .rows) (now (state .exit))) ≡ makeRoom time w (viewRows n (now (state .entry)))) × (r .rows ≤ n) ⌝ }
+    ensures { λ r. ⌜ (soughtRoomOf r (viewRows (r .rows) (now (state .exit))) ≡ makeRoom time w (viewRows n (now (state .entry)))) × (r .rows ≤ n) × Leaves (r .victim) (r .stored) (viewRows n (now (state .entry)) .rows) (viewRows (r .rows) (now (state .exit)) .rows) × WaitsAlone (r .victim) (viewRows (r .rows) (now (state .exit)) .rows) × (r .made ≡ false → r .victim ≡ Nothing) ⌝ }
 {
     let max = memory::head::max_entries(state);
     let cut = cut_to_bound(w, max);
     let count = count_rows(state, n, Segment::Main);
     let stored = memory::head::stored_weight(state);
     if has_room(max, count, stored, cut) {
-        return Room {
+        return SoughtRoom {
             made: true,
             rows: n,
+            victim: Lowest::Nothing,
+            stored,
             examined: 0,
         };
     }
     let chosen = choose_victims(state, n, count, cut, time);
     let examined = chosen.examined;
     if chosen.made {
+        if count - chosen.left == 1 {
+            return SoughtRoom {
+                made: true,
+                rows: n,
+                victim: Lowest::At(chosen.last),
+                stored: chosen.stored,
+                examined,
+            };
+        }
         let rows = drop_aside(state, n);
-        return Room {
+        return SoughtRoom {
             made: true,
             rows,
+            victim: Lowest::Nothing,
+            stored: chosen.stored,
             examined,
         };
     }
     put_back(state, n);
-    Room {
+    SoughtRoom {
         made: false,
         rows: n,
+        victim: Lowest::Nothing,
+        stored,
         examined,
+    }
+}
+
+// Room for w in main, and every victim gone.
+pub fn make_room(state: &mut [u8], n: usize, w: u64, time: u64) -> Room
+    requires { ⌜ (headSize + n * rowSize ≤ length (now state)) × (sound (capacity (now state)) (viewRows n (now state)) ≡ true) × (viewRows n (now state) .seq + total (mainVisits time) (viewRows n (now state) .rows) < 18446744073709551616) ⌝ }
+    ensures { λ r. ⌜ (roomOf r (viewRows (r .rows) (now (state .exit))) ≡ makeRoom time w (viewRows n (now (state .entry)))) × (r .rows ≤ n) ⌝ }
+{
+    let sought = seek_room(state, n, w, time);
+    let made = sought.made;
+    let rows = sought.rows;
+    let examined = sought.examined;
+    let victim = sought.victim;
+    match victim {
+        Lowest::Nothing => Room {
+            made,
+            rows,
+            examined,
+        },
+        Lowest::At(i) => {
+            let kept = drop_aside(state, rows);
+            Room {
+                made,
+                rows: kept,
+                examined,
+            }
+        }
     }
 }

@@ -1,5 +1,6 @@
-use Rattle.newkeys.proofs.AfterRoom.{file-asks}
-use Rattle.newkeys.proofs.NewKeys.{in-main}
+use Rattle.rules.specs.Memory.{viewRows}
+use Rattle.room.specs.Rooms.{withoutVictim}
+use Rattle.newkeys.proofs.NewKeys.{main-asks, in-main}
 use borrow.Author.Needs.{needs}
 use Rattle.newkeys.proofs.new_in_main.Statement.{statement}
 use Rattle.newkeys.proofs.new_in_main.Tie as tie
@@ -10,10 +11,10 @@ row-weight-requires c κs = search needs
 new-entry-requires : tie.Need-new-entry-requires
 new-entry-requires c κs = search needs
 
-file-new-requires : tie.Need-file-new-requires
-file-new-requires c κs =
+file-in-room-requires : tie.Need-file-in-room-requires
+file-in-room-requires c κs =
     let s = c .before .before .before .before in
-    file-asks (s .args .key) (s .args .path) (s .args .n) (s .args .state .now) (c .before .new-entry .result) (s .pre .0) (s .pre .2) (s .pre .3) (s .pre .1) (c .before .new-entry .ensures .1)
+    main-asks (s .args .key) (s .args .victim) (s .args .path) (s .args .stored) (s .args .n) (s .args .state .now) (c .before .new-entry .result) (s .pre .0) (s .pre .1) (c .before .new-entry .ensures .1)
 
 wide-requires : tie.Need-wide-requires
 wide-requires c κs = search needs
@@ -27,7 +28,7 @@ same-length c = search needs
 returns : tie.Need-returns
 returns c =
     let s = c .before .before .before .before .before .before .before .before .before in
-    in-main (s .args .key) (s .args .path) (s .args .time) (s .args .ttl) (s .args .n) (c .before .before .before .before .before .before .before .row-weight .result) (c .before .wide .result) (s .args .examined) (s .args .state .now) _ (c .before .before .before .before .before .before .new-entry .result) (c .inserted .result) (c .before .before .before .before .before .before .new-entry .ensures .0) (c .before .before .before .before .before .before .before .row-weight .ensures .0) (c .before .wide .ensures .0) (c .before .before .before .before .file-new .ensures) (c .inserted .ensures)
+    in-main (s .args .key) (s .args .path) (s .args .time) (s .args .ttl) (c .before .before .before .before .before .before .before .row-weight .result) (c .before .wide .result) (s .args .examined) (withoutVictim (s .args .victim) (viewRows (s .args .n) (s .args .state .now))) _ (c .before .before .before .before .before .before .new-entry .result) (c .inserted .result) (c .before .before .before .before .before .before .new-entry .ensures .0) (c .before .before .before .before .before .before .before .row-weight .ensures .0) (c .before .wide .ensures .0) (c .before .before .before .before .file-in-room .ensures) (c .inserted .ensures)
 
 pub new-in-main-spec : {M : Type 1} → statement M
 new-in-main-spec =
@@ -35,7 +36,7 @@ new-in-main-spec =
     (tie.spec
     row-weight-requires
     new-entry-requires
-    file-new-requires
+    file-in-room-requires
     wide-requires
     inserted-requires
     same-length

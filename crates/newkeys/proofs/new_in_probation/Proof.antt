@@ -1,5 +1,5 @@
 use native.Mathlib.Omega.{arith}
-use Rattle.newkeys.proofs.NewKeys.{probation-asks, probation-few, probation-file-asks, in-probation}
+use Rattle.newkeys.proofs.NewKeys.{probation-asks, probation-few, probation-takes, in-probation}
 use borrow.Author.Needs.{needs}
 use Rattle.newkeys.proofs.new_in_probation.Statement.{statement}
 use Rattle.newkeys.proofs.new_in_probation.Tie as tie
@@ -7,25 +7,25 @@ use Rattle.newkeys.proofs.new_in_probation.Tie as tie
 row-weight-requires : tie.Need-row-weight-requires
 row-weight-requires c κs = search needs
 
-make-probation-room-requires : tie.Need-make-probation-room-requires
-make-probation-room-requires c κs =
+seek-probation-room-requires : tie.Need-seek-probation-room-requires
+seek-probation-room-requires c κs =
     let s = c .before .before .before in
     probation-asks (s .args .key) (s .args .n) (s .args .state .now) (s .pre .0) (s .pre .2)
 
 new-entry-requires : tie.Need-new-entry-requires
 new-entry-requires c κs = search needs
 
-file-new-requires : tie.Need-file-new-requires
-file-new-requires c κs =
+file-in-room-requires : tie.Need-file-in-room-requires
+file-in-room-requires c κs =
     let s = c .before .before .before .before .before .before .before .before in
-    let r = c .before .before .before .before .make-probation-room in
-    probation-file-asks (s .args .key) (s .args .path) (s .args .n) (r .result .rows) (r .result .examined) (s .args .state .now) (r .last .0) (s .pre .0) (s .pre .2) (r .kept .0) (r .ensures .0) (c .before .new-entry .result) (s .pre .1) (c .before .new-entry .ensures .1)
+    let r = c .before .before .before .before .seek-probation-room in
+    probation-takes (s .args .key) (s .args .path) (s .args .n) (r .result) (s .args .state .now) (r .last .0) (s .pre .0) (s .pre .2) (r .kept .0) (r .ensures) (c .before .new-entry .result) (s .pre .1) (c .before .new-entry .ensures .1)
 
 add-inserted : tie.Need-add-inserted
 add-inserted c =
     let s = c .before .before .before .before .before .before .before .before .before .before .before .before in
-    let r = c .before .before .before .before .before .before .before .before .make-probation-room in
-    omega (arith, s .pre .3, probation-few (s .args .key) (s .args .path) (s .args .n) (r .result .rows) (r .result .examined) (s .args .state .now) (r .last .0) (s .pre .0) (s .pre .2) (r .kept .0) (r .ensures .0))
+    let r = c .before .before .before .before .before .before .before .before .seek-probation-room in
+    omega (arith, s .pre .3, probation-few (s .args .key) (s .args .path) (s .args .n) (r .result) (s .args .state .now) (r .last .0) (s .pre .0) (s .pre .2) (r .kept .0) (r .ensures))
 
 inserted-requires : tie.Need-inserted-requires
 inserted-requires c κs = search needs
@@ -36,17 +36,17 @@ same-length c = search needs
 returns : tie.Need-returns
 returns c =
     let s = c .before .before .before .before .before .before .before .before .before .before .before .before .before in
-    let r = c .before .before .before .before .before .before .before .before .before .make-probation-room in
-    in-probation (s .args .key) (s .args .path) (s .args .n) (r .result .rows) (r .result .examined) (s .args .state .now) (r .last .0) (s .pre .0) (s .pre .2) (r .kept .0) (r .ensures .0) (s .args .time) (s .args .ttl) (s .args .before) (c .before .before .before .before .before .before .before .before .before .before .before .row-weight .result) (s .args .unfunded) (c .before .before .before .before .before .before .new-entry .result) _ (c .inserted .result) (c .before .before .before .before .before .before .new-entry .ensures .0) (c .before .before .before .before .before .before .before .before .before .before .before .row-weight .ensures .0) (c .before .before .before .before .file-new .ensures) (c .inserted .ensures)
+    let r = c .before .before .before .before .before .before .before .before .before .seek-probation-room in
+    in-probation (s .args .key) (s .args .path) (s .args .n) (r .result) (s .args .state .now) (r .last .0) (s .pre .0) (s .pre .2) (r .kept .0) (r .ensures) (s .args .time) (s .args .ttl) (s .args .before) (c .before .before .before .before .before .before .before .before .before .before .before .row-weight .result) (s .args .unfunded) (c .before .before .before .before .before .before .new-entry .result) _ (c .inserted .result) (c .before .before .before .before .before .before .new-entry .ensures .0) (c .before .before .before .before .before .before .before .before .before .before .before .row-weight .ensures .0) (c .before .before .before .before .file-in-room .ensures) (c .inserted .ensures)
 
 pub new-in-probation-spec : {M : Type 1} → statement M
 new-in-probation-spec =
     tie.close
     (tie.spec
     row-weight-requires
-    make-probation-room-requires
+    seek-probation-room-requires
     new-entry-requires
-    file-new-requires
+    file-in-room-requires
     add-inserted
     inserted-requires
     same-length

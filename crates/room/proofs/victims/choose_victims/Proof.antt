@@ -1,22 +1,26 @@
-use mathlib.Core.Path.{_≡_, refl, _∙_}
+use mathlib.Core.Path.{_≡_, refl, sym, _∙_}
 use Prim.Native.Nat.{_-_}
 use native.Mathlib.Omega.{arith}
 use borrow.Author.Needs.{needs}
 use lib.ListN.{length}
+use Rattle.rules.specs.Rows.{withRows}
 use Rattle.rules.specs.Memory.{viewRows}
+use Rattle.rules.proofs.Addresses.{contradiction}
 use Rattle.memory.proofs.Fields.{same-head}
 use Rattle.memory.proofs.RowLaws.{view-length}
 use Rattle.stamps.specs.Walked.{walkFrom}
+use Rattle.room.specs.Rooms.{LastAside, chosenOf}
 use Rattle.room.proofs.Sums.{sound-small}
+use Rattle.room.proofs.Places.{last-start, last-turn}
 use Rattle.room.proofs.Choosing.{Choosing, Came, choosing-start, choosing-seq, chosen-enough, came}
 use Rattle.room.proofs.victims.choose_victims.Statement.{statement}
 use Rattle.room.proofs.victims.choose_victims.Tie as tie
 
 abbrev Inv-loop : tie.InvT-loop
-Inv-loop state₀ n count w time max stored₀ left₀ examined₀ state stored left examined = (length state ≡ length state₀) × Choosing time w (viewRows n state₀) left stored (walkFrom (viewRows n state) examined)
+Inv-loop state₀ n count w time max stored₀ left₀ last₀ examined₀ state stored left last examined = (length state ≡ length state₀) × Choosing time w (viewRows n state₀) left stored (walkFrom (viewRows n state) examined) × LastAside count left last (viewRows n state .rows)
 
 abbrev μ-loop : tie.MeasureT-loop
-μ-loop state₀ n count w time max stored₀ left₀ examined₀ state stored left examined = left
+μ-loop state₀ n count w time max stored₀ left₀ last₀ examined₀ state stored left last examined = left
 
 -- the walk for one victim
 step : (c : tie.After-state Inv-loop μ-loop) →
@@ -34,7 +38,7 @@ stored-weight-requires c κs = search needs
 loop-holds : tie.Need-loop-holds Inv-loop μ-loop
 loop-holds c =
     let s = c .before .before .before .before .before in
-    (refl, choosing-start (s .args .time) (s .args .w) _ _ _ (viewRows (s .args .n) (s .args .state .now)) (s .pre .1) (s .pre .3) (c .stored-weight .ensures ∙ same-head 0 (s .args .n) (s .args .state .now) .storedWeight))
+    (refl, choosing-start (s .args .time) (s .args .w) _ _ _ (viewRows (s .args .n) (s .args .state .now)) (s .pre .1) (s .pre .3) (c .stored-weight .ensures ∙ same-head 0 (s .args .n) (s .args .state .now) .storedWeight), last-start _ _ _)
 
 has-room-requires : tie.Need-has-room-requires Inv-loop μ-loop
 has-room-requires c κs =
@@ -46,10 +50,11 @@ same-length : tie.Need-same-length Inv-loop μ-loop
 same-length c = search needs
 
 returns : tie.Need-returns Inv-loop μ-loop
+unfolding chosenOf
 returns c =
     let s = c .before .before .before .before .before .before .before .before .args in
     let l = c .before .before .loop in
-    chosen-enough (s .time) (s .w) (l .examined) (l .left) (l .stored) (c .before .before .before .before .before .max-entries .result) (viewRows (s .n) (s .state .now)) (viewRows (s .n) (l .state)) _ (l .inv .1) (c .before .before .before .before .before .max-entries .ensures ∙ same-head 0 (s .n) (s .state .now) .maxEntries) (c .before .has-room .ensures) (c .if1 .taken)
+    (sym (chosen-enough (s .time) (s .w) (l .examined) (l .left) (l .stored) (c .before .before .before .before .before .max-entries .result) (viewRows (s .n) (s .state .now)) (viewRows (s .n) (l .state)) _ (l .inv .1) (c .before .before .before .before .before .max-entries .ensures ∙ same-head 0 (s .n) (s .state .now) .maxEntries) (c .before .has-room .ensures) (c .if1 .taken)), λ _. record { mains = l .inv .1 .mains; weighs = l .inv .1 .loads; light = l .inv .1 .small; last = l .inv .2 })
 
 next-victim-requires : tie.Need-next-victim-requires Inv-loop μ-loop
 next-victim-requires c κs =
@@ -69,7 +74,8 @@ same-length-2 c =
     omega arith
 
 returns-2 : tie.Need-returns-2 Inv-loop μ-loop
-returns-2 c = step (c .before .before .before .before) .none-left (c .enum-told .given .1)
+unfolding chosenOf
+returns-2 c = (sym (step (c .before .before .before .before) .none-left (c .enum-told .given .1)), λ e. contradiction e refl)
 
 enum-known-found : tie.Need-enum-known-found Inv-loop μ-loop
 enum-known-found c = search needs
@@ -105,11 +111,13 @@ loop-less c =
     omega arith
 
 loop-again : tie.Need-loop-again Inv-loop μ-loop
+unfolding withRows
 loop-again c =
     let k = c .before .before .before .before .before .before .before .before .before .before .before .before .before .next-victim .kept .0 in
     let p = c .before .before .set-place .kept .0 in
-    let h = step (c .before .before .before .before .before .before .before .before .before .before .before .before) .goes _ (c .before .before .before .before .before .before .before .before .found .given .1) in
-    (omega arith, rw (c .before .before .set-place .ensures, c .before .before .before .before .wide .ensures .0 ∙ c .before .before .before .before .before .weight .ensures) h)
+    let q = step (c .before .before .before .before .before .before .before .before .before .before .before .before) in
+    let a = c .before .before .before .before .before .before .before .before .found .given .1 in
+    (omega arith, rw (c .before .before .set-place .ensures, c .before .before .before .before .wide .ensures .0 ∙ c .before .before .before .before .before .weight .ensures) (q .goes _ a), rw (c .before .before .set-place .ensures) (last-turn _ _ _ _ _ _ (c .before .before .before .before .before .before .before .before .before .before .before .before .before .before .before .before .before .loop .inv .2) (q .inside _ a)))
 
 pub choose-victims-spec : {M : Type 1} → statement M
 choose-victims-spec =

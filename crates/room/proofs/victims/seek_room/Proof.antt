@@ -1,0 +1,130 @@
+use mathlib.Core.Path.{_≡_, refl, sym, ap, _∙_}
+use Prim.Native.Nat.{ℕ, min}
+use native.Mathlib.Omega.{arith}
+use Rattle.rules.specs.Records.{weightBound}
+use Rattle.rules.specs.Memory.{viewRows}
+use Rattle.rules.proofs.Addresses.{contradiction}
+use Rattle.rules.proofs.SoundTest.{sound-is}
+use Rattle.memory.proofs.Fields.{same-head}
+use Rattle.memory.proofs.RowLaws.{view-length}
+use Rattle.room.specs.Rooms.{LeftAt, Alone}
+use Rattle.room.proofs.Sums.{sound-small}
+use Rattle.room.proofs.Files.{few}
+use Rattle.room.proofs.Leaving.{at-none, at-one}
+use Rattle.room.proofs.Settling.{Waiting, waiting, room-there, room-made, room-failed, out-is, waits-alone, left-aside, sought-at, sought-none}
+use borrow.Author.Needs.{needs}
+use Rattle.room.proofs.victims.seek_room.Statement.{statement}
+use Rattle.room.proofs.victims.seek_room.Tie as tie
+
+most : (c : tie.After-max-entries) → c .max-entries .result ≡ viewRows (c .before .before .before .args .n) (c .before .before .before .args .state .now) .maxEntries
+most c = c .max-entries .ensures ∙ same-head 0 (c .before .before .before .args .n) (c .before .before .before .args .state .now) .maxEntries
+
+cut : (c : tie.After-cut-to-bound) → c .cut-to-bound .result ≡ min (c .before .before .before .before .args .w) (weightBound (viewRows (c .before .before .before .before .args .n) (c .before .before .before .before .args .state .now) .maxEntries))
+cut c = c .cut-to-bound .ensures ∙ ap (λ (m : ℕ). min (c .before .before .before .before .args .w) (weightBound m)) (most (c .before))
+
+-- the victims stand aside
+aside : (c : tie.After-choose-victims) → Waiting (viewRows (c .before .before .before .before .before .before .before .before .before .before .before .before .args .n) (c .before .before .before .before .before .before .before .before .before .before .before .before .args .state .now)) (viewRows (c .before .before .before .before .before .before .before .before .before .before .before .before .args .n) (c .choose-victims .last .0))
+aside c = waiting _ _ _ _ _ (c .choose-victims .result) (c .before .before .before .before .before .before .before .before .before .before .before .before .pre .1) (c .choose-victims .ensures .0)
+
+max-entries-requires : tie.Need-max-entries-requires
+max-entries-requires c κs = search needs
+
+cut-to-bound-requires : tie.Need-cut-to-bound-requires
+cut-to-bound-requires c κs = omega (arith, most c, sound-small _ _ (c .before .before .before .pre .1) .max)
+
+count-rows-requires : tie.Need-count-rows-requires
+count-rows-requires c κs = search needs
+
+stored-weight-requires : tie.Need-stored-weight-requires
+stored-weight-requires c κs = search needs
+
+has-room-requires : tie.Need-has-room-requires
+has-room-requires c κs =
+    let s = c .before .before .before .before .before .before .before .before in
+    let m = sound-small _ _ (s .pre .1) in
+    (omega (arith, most (c .before .before .before .before .before), m .max), omega (arith, c .stored-weight .ensures, same-head 0 (s .args .n) (s .args .state .now) .storedWeight, m .stored), omega (arith, c .before .before .before .before .cut-to-bound .ensures))
+
+same-length : tie.Need-same-length
+same-length c = search needs
+
+returns : tie.Need-returns
+returns c =
+    let s = c .before .before .before .before .before .before .before .before .before .before in
+    let a = s .args in
+    let v = viewRows (a .n) (a .state .now) in
+    (sought-none _ (a .n) v refl ∙ room-there (a .time) (a .w) (a .n) _ (c .before .before .before .before .before .before .before .max-entries .result) (c .before .before .before .before .count-rows .result) (c .before .before .stored-weight .result) (c .before .before .before .before .before .before .cut-to-bound .result) v _ (s .pre .1) (most (c .before .before .before .before .before .before .before)) (c .before .before .before .before .count-rows .ensures) (c .before .before .stored-weight .ensures ∙ same-head 0 (a .n) (a .state .now) .storedWeight) (c .before .before .before .before .before .before .cut-to-bound .ensures) (c .before .has-room .ensures) (c .if1 .taken), omega arith, at-none _ _ refl, at-none _ _ refl, λ e. contradiction refl e)
+
+choose-victims-requires : tie.Need-choose-victims-requires
+choose-victims-requires c κs =
+    let s = c .before .before .before .before .before .before .before .before .before .before .before in
+    (s .pre .0, s .pre .1, s .pre .2, c .before .before .before .before .before .count-rows .ensures, omega (arith, cut (c .before .before .before .before .before .before .before)))
+
+sub-if3 : tie.Need-sub-if3
+sub-if3 c = omega (arith, c .before .before .before .before .choose-victims .ensures .1 (c .before .if2 .taken) .last .few)
+
+same-length-2 : tie.Need-same-length-2
+same-length-2 c = search needs
+
+returns-2 : tie.Need-returns-2
+returns-2 c =
+    let s = c .before .before .before .before .before .before .before .before .before .before .before .before .before .before .before .before .before in
+    let a = s .args in
+    let h = c .before .before .before .before .before .choose-victims in
+    let m = c .before .before .if2 .taken in
+    let v = viewRows (a .n) (a .state .now) in
+    let t = viewRows (a .n) (h .last .0) in
+    let u = waits-alone _ v t (h .result) (aside (c .before .before .before .before .before)) (c .before .before .before .before .before .before .before .before .before .before .before .count-rows .ensures) (h .ensures .1 m) (c .if3 .taken) in
+    let l = left-aside _ v t (h .result) (aside (c .before .before .before .before .before)) (c .before .before .before .before .before .before .before .before .before .before .before .count-rows .ensures) (h .ensures .1 m) (c .if3 .taken) _ (s .pre .1) in
+    (sought-at _ _ (a .n) t refl ∙ room-made (a .time) (a .w) (a .n) (c .before .before .before .before .before .before .before .before .before .before .before .before .before .cut-to-bound .result) v t _ (h .result) (cut (c .before .before .before .before .before .before .before .before .before .before .before .before .before)) (h .ensures .0) m (out-is _ t u), omega arith, at-one (λ i. LeftAt i _ _ _) _ _ refl l, at-one (λ i. Alone i _) _ _ refl u, λ e. contradiction refl e)
+
+drop-aside-requires : tie.Need-drop-aside-requires
+drop-aside-requires c κs =
+    let s = c .before .before .before .before .before .before .before .before .before .before .before .before .before .before .before .before .before .before in
+    let k = c .before .before .before .before .before .before .choose-victims .kept .0 in
+    (few _ _ (s .pre .1), omega arith, aside (c .before .before .before .before .before .before) .paths)
+
+same-length-3 : tie.Need-same-length-3
+same-length-3 c = search needs
+
+returns-3 : tie.Need-returns-3
+returns-3 c =
+    let a = c .before .before .before .before .before .before .before .before .before .before .before .before .before .before .before .before .before .before .before .before .before .args in
+    let h = c .before .before .before .before .before .before .before .before .before .choose-victims in
+    let d = c .before .before .drop-aside in
+    (sought-none _ (d .result) _ refl ∙ room-made (a .time) (a .w) (d .result) (c .before .before .before .before .before .before .before .before .before .before .before .before .before .before .before .before .before .cut-to-bound .result) (viewRows (a .n) (a .state .now)) (viewRows (a .n) (h .last .0)) _ (h .result) (cut (c .before .before .before .before .before .before .before .before .before .before .before .before .before .before .before .before .before)) (h .ensures .0) (c .before .before .before .before .before .before .if2 .taken) (d .ensures .1), d .ensures .0, at-none _ _ refl, at-none _ _ refl, λ e. contradiction refl e)
+
+put-back-requires : tie.Need-put-back-requires
+put-back-requires c κs = search needs
+
+same-length-4 : tie.Need-same-length-4
+same-length-4 c = search needs
+
+returns-4 : tie.Need-returns-4
+returns-4 c =
+    let s = c .before .before .before .before .before .before .before .before .before .before .before .before .before .before .before .before .before .before .before in
+    let a = s .args in
+    let h = c .before .before .before .before .before .before .before .choose-victims in
+    let v = viewRows (a .n) (a .state .now) in
+    (sought-none _ (a .n) _ refl ∙ room-failed (a .time) (a .w) (a .n) (c .before .before .before .before .before .before .before .before .before .before .before .before .before .before .before .cut-to-bound .result) v (viewRows (a .n) (h .last .0)) _ (h .result) (aside (c .before .before .before .before .before .before .before)) (sound-is _ v (s .pre .1) .counted ∙ view-length (a .n) (a .state .now) ∙ sym (view-length (a .n) (h .last .0))) (cut (c .before .before .before .before .before .before .before .before .before .before .before .before .before .before .before)) (h .ensures .0) (c .before .before .before .before .if2 .left) (c .before .before .put-back .ensures), omega arith, at-none _ _ refl, at-none _ _ refl, λ e. refl)
+
+pub seek-room-spec : {M : Type 1} → statement M
+seek-room-spec =
+    tie.close
+    (tie.spec
+    max-entries-requires
+    cut-to-bound-requires
+    count-rows-requires
+    stored-weight-requires
+    has-room-requires
+    same-length
+    returns
+    choose-victims-requires
+    sub-if3
+    same-length-2
+    returns-2
+    drop-aside-requires
+    same-length-3
+    returns-3
+    put-back-requires
+    same-length-4
+    returns-4)
