@@ -35,8 +35,8 @@ use Rattle.rules.proofs.Others.{takeOut-gone, takeOut-seq, takeOut-max, takeOut
 use Rattle.memory.proofs.RowLaws.{view-length}
 use Rattle.memory.proofs.Fields.{row-at}
 use Rattle.stamps.specs.declared.answers.Lowest.the-variants.{Nothing}
-use Rattle.room.specs.declared.answers.SoughtRoom.{SoughtRoom}
-use Rattle.room.specs.Rooms.{soughtRoomOf, withoutVictim, Without}
+use Rattle.room.specs.declared.answers.Room.{Room as RoomAnswer}
+use Rattle.room.specs.Rooms.{roomOf, withoutVictim, Without}
 use Rattle.room.proofs.Leaving.{without-none}
 use Rattle.room.proofs.Files.{shown, laid-out, free-in-probation, reached-without, filed}
 use Rattle.filing.specs.declared.entry.NewEntry.{NewEntry}
@@ -99,7 +99,7 @@ module _ (k : NodeAddr) (n i : ℕ) (l m : List ℕ) (ho : Holds k n i l) (z : l
   pub out-seq : viewRows n l .seq ≤ 18446744073709547519 → viewRows (n - 1) m .seq ≤ 18446744073709547519
   out-seq q = rw v (omega (arith, takeOut-seq i (viewRows n l)))
 
-  module _ (x : List ℕ) (time w : ℕ) (r : SoughtRoom) (so : Sought m x (n - 1) time w r) where
+  module _ (x : List ℕ) (time w : ℕ) (r : RoomAnswer) (so : Sought m x (n - 1) time w r) where
     made : Roomed time w (viewRows (n - 1) m) (makeRoom time w (viewRows (n - 1) m))
     made = room-roomed time w (viewRows (n - 1) m) (ready (shown (n - 1) m (out-without .sound)))
 
@@ -146,13 +146,13 @@ module _ (k : NodeAddr) (n i : ℕ) (l m : List ℕ) (ho : Holds k n i l) (z : l
     left : State
     left = withoutVictim (r .victim) (viewRows (r .rows) x)
 
-    sought-there : (u : ℕ) → w ≡ u → soughtRoomOf r (viewRows (r .rows) x) ≡ makeRoom time u (takeOut i (viewRows n l))
+    sought-there : (u : ℕ) → w ≡ u → roomOf r (viewRows (r .rows) x) ≡ makeRoom time u (takeOut i (viewRows n l))
     sought-there u a = so .room ∙ rw (v, a)
 
     pub promoted-is : (p : Path) (ttl u a b : ℕ) (o : HintOutcome) (e : NewEntry) (y : List ℕ) (d : Placed) → w ≡ u → a ≡ u → o ≡ heldOutcome p (rowAt i (viewRows n l .rows)) → entryFrom e ≡ update p time ttl (rowAt i (viewRows n l .rows) .entry)
         → b ≡ cond (r .made) 0 2 → viewRows (length (fileNew k (entryFrom e) u b (withoutVictim (r .victim) (viewRows (r .rows) x)) .rows)) y ≡ fileNew k (entryFrom e) u b (withoutVictim (r .victim) (viewRows (r .rows) x)) → d ≡ promotedAs o (r .made) a (r .examined)
         → Placing (promotion k p time ttl u i (viewRows n l)) d y
-    unfolding promotion placeResult soughtRoomOf left
+    unfolding promotion placeResult roomOf left
     promoted-is p ttl u a b o e y d wu au oh eu bc f ds = rw (← (sought-there u wu), ← oh) (go (r .made) refl)
       where
         filed-at : (c : ℕ) → b ≡ c → viewRows (length (fileNew k (update p time ttl (rowAt i (viewRows n l .rows) .entry)) u c left .rows)) y ≡ fileNew k (update p time ttl (rowAt i (viewRows n l .rows) .entry)) u c left
@@ -165,13 +165,13 @@ module _ (k : NodeAddr) (n i : ℕ) (l m : List ℕ) (ho : Holds k n i l) (z : l
     pub grown-is : (p : Path) (ttl u a : ℕ) (stated : Bool) (o : HintOutcome) (e : NewEntry) (y : List ℕ) → w ≡ u → a ≡ u - rowAt i (viewRows n l .rows) .weight → o ≡ heldOutcome p (rowAt i (viewRows n l .rows)) → entryFrom e ≡ update p time ttl (rowAt i (viewRows n l .rows) .entry)
         → r .made || stated ≡ true → viewRows (length (fileNew k (entryFrom e) u 0 (withoutVictim (r .victim) (viewRows (r .rows) x)) .rows)) y ≡ fileNew k (entryFrom e) u 0 (withoutVictim (r .victim) (viewRows (r .rows) x))
         → Placing (growth k p time ttl stated u i (viewRows n l)) (record { outcome = o; «added_weight» = a; segment = Main; unfunded = false; examined = r .examined }) y
-    unfolding growth placeResult soughtRoomOf left
+    unfolding growth placeResult roomOf left
     grown-is p ttl u a stated o e y wu au oh eu h f = rw (← (sought-there u wu), h)
         (record { says = rw (au, oh); state = filed-as k (update p time ttl (rowAt i (viewRows n l .rows) .entry)) (entryFrom e) u u 0 left left y refl eu refl f })
 
     pub goes-back : (p : Path) (ttl u : ℕ) (stated : Bool) (row y : List ℕ) (d : Placed) → w ≡ u → row ≡ cut (40 + i * 1095) 1095 l → r .made || stated ≡ false → viewRows (r .rows + 1) y ≡ fileNew k (rowOf row .entry) (rowOf row .weight) 0 (viewRows (r .rows) x)
         → d ≡ rejectedAs false (r .examined) → Placing (growth k p time ttl stated u i (viewRows n l)) d y
-    unfolding growth rejected placeResult soughtRoomOf left
+    unfolding growth rejected placeResult roomOf left
     goes-back p ttl u stated row y d wu rc h f ds =
         let g : rowOf row ≡ rowAt i (viewRows n l .rows) = ap rowOf rc ∙ sym (row-at n i l (ho .inside)) in
         rw (← (sought-there u wu), h)

@@ -12,7 +12,7 @@ use newkeys::row_weight;
 use paths::path::path_is;
 use raw::numbers::wide;
 use replacing::file_in_room;
-use room::victims::seek_room;
+use room::victims::make_room;
 use stamps::row::BY_USE;
 use stamps::row::PROBATION;
 use stamps::row::is_verified;
@@ -117,7 +117,7 @@ fn promote(
 {
     let e = updated_entry(state, n, i, path, time, ttl);
     remove_row(state, n, i);
-    let room = seek_room(state, n - 1, wide(weight), time);
+    let room = make_room(state, n - 1, wide(weight), time);
     let victim = room.victim;
     let place = place_for(room.made);
     file_in_room(state, room.rows, victim, room.stored, key, e, weight, place);
@@ -173,7 +173,7 @@ fn grow(
     let e = updated_entry(state, n, i, path, time, ttl);
     let saved = save_row(state, n, i);
     remove_row(state, n, i);
-    let room = seek_room(state, n - 1, units, time);
+    let room = make_room(state, n - 1, units, time);
     if room.made | stated {
         let victim = room.victim;
         file_in_room(

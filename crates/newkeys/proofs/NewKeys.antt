@@ -30,9 +30,9 @@ use Rattle.filing.specs.declared.entry.NewEntry.{NewEntry}
 use Rattle.filing.specs.Filings.{entryFrom, Writable}
 use Rattle.stamps.specs.declared.answers.Lowest.{Lowest}
 use Rattle.stamps.specs.declared.answers.Lowest.the-variants.{At, Nothing}
-use Rattle.room.specs.declared.answers.SoughtRoom.{SoughtRoom}
+use Rattle.room.specs.declared.answers.Room.{Room as RoomAnswer}
 use Rattle.room.specs.declared.answers.ProbationRoom.{ProbationRoom}
-use Rattle.room.specs.Rooms.{soughtRoomOf, withoutVictim, Leaves, Without, StampsLeft}
+use Rattle.room.specs.Rooms.{roomOf, withoutVictim, Leaves, Without, StampsLeft}
 use Rattle.room.proofs.Leaving.{without-none}
 use Rattle.replacing.specs.Replacing.{Takes}
 use Rattle.replacing.proofs.Seeking.{victim-seq, over-victim}
@@ -135,17 +135,17 @@ module _ (k : NodeAddr) (p : Path) (time ttl : ℕ) (f : Funding) (n : ℕ) (l :
   unfolding placeNew
   uncovered y r c h = rw c h
 
-  module _ (m y : List ℕ) (w : ℕ) (o : SoughtRoom) (r : Placed) (e : w ≡ pathWeight p) (c : covers f w ≡ true) (q : soughtRoomOf o (viewRows (o .rows) m) ≡ makeRoom time w (viewRows n l)) where
+  module _ (m y : List ℕ) (w : ℕ) (o : RoomAnswer) (r : Placed) (e : w ≡ pathWeight p) (c : covers f w ≡ true) (q : roomOf o (viewRows (o .rows) m) ≡ makeRoom time w (viewRows n l)) where
     covered : covers f (pathWeight p) ≡ true
     covered = subst (λ (x : ℕ). covers f x ≡ true) e c
 
-    room : soughtRoomOf o (viewRows (o .rows) m) ≡ makeRoom time (pathWeight p) (viewRows n l)
-    room = subst (λ (x : ℕ). soughtRoomOf o (viewRows (o .rows) m) ≡ makeRoom time x (viewRows n l)) e q
+    room : roomOf o (viewRows (o .rows) m) ≡ makeRoom time (pathWeight p) (viewRows n l)
+    room = subst (λ (x : ℕ). roomOf o (viewRows (o .rows) m) ≡ makeRoom time x (viewRows n l)) e q
 
     pub covered-made : o .made ≡ true → Placing (placeResult Inserted (pathWeight p) Main false (o .examined) (fileNew k (newEntry p time ttl) (pathWeight p) 0 (withoutVictim (o .victim) (viewRows (o .rows) m)))) r y → Placing (placeNew k p time ttl f (viewRows n l)) r y
-    unfolding placeNew soughtRoomOf
+    unfolding placeNew roomOf
     covered-made d h = rw (covered, ← room, d) h
 
     pub covered-not-made : o .made ≡ false → o .victim ≡ Nothing → Placing (newWithoutRoom f k (newEntry p time ttl) (pathWeight p) (noRoom (viewRows (o .rows) m) (o .examined))) r y → Placing (placeNew k p time ttl f (viewRows n l)) r y
-    unfolding placeNew soughtRoomOf
+    unfolding placeNew roomOf
     covered-not-made d v h = rw (covered, ← room, d, without-none (o .victim) (viewRows (o .rows) m) v) h

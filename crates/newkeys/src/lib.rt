@@ -3,8 +3,8 @@ use coord::coord::Path;
 use coord::node_addr::NodeAddr;
 use filing::entry::new_entry;
 use replacing::file_in_room;
-use room::probation::seek_probation_room;
-use room::victims::seek_room;
+use room::probation::make_probation_room;
+use room::victims::make_room;
 use stamps::answers::Lowest;
 use stamps::row::BY_USE;
 use stamps::row::PROBATION;
@@ -64,7 +64,7 @@ fn new_in_probation(
     ensures { λ r. ⌜ Placing (newInProbation key (newEntry path time ttl) (pathWeight path) unfunded before (viewRows n (now (state .entry)))) r (now (state .exit)) ⌝ }
 {
     let w = row_weight(path);
-    let room = seek_probation_room(state, n);
+    let room = make_probation_room(state, n);
     let victim = room.victim;
     let e = new_entry(path, time, ttl);
     file_in_room(state, n, victim, room.stored, key, e, w, PROBATION);
@@ -142,7 +142,7 @@ pub fn place_new(
     if !funding.covers(w) {
         return new_in_probation(state, n, key, path, time, ttl, true, 0);
     }
-    let room = seek_room(state, n, w, time);
+    let room = make_room(state, n, w, time);
     if room.made {
         let victim = room.victim;
         return new_in_main(

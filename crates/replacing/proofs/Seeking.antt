@@ -20,8 +20,8 @@ use Rattle.rules.proofs.Others.{room-gone, made-free}
 use Rattle.memory.proofs.RowLaws.{view-length}
 use Rattle.stamps.specs.declared.answers.Lowest.{Lowest}
 use Rattle.stamps.specs.declared.answers.Lowest.the-variants.{At, Nothing}
-use Rattle.room.specs.declared.answers.SoughtRoom.{SoughtRoom}
-use Rattle.room.specs.Rooms.{soughtRoomOf, withoutVictim, Leaves, LeftAt, WaitsAlone, Without, StampsLeft}
+use Rattle.room.specs.declared.answers.Room.{Room as RoomAnswer}
+use Rattle.room.specs.Rooms.{roomOf, withoutVictim, Leaves, LeftAt, Without, StampsLeft}
 use Rattle.room.proofs.Sums.{main-visits, probation-visits}
 use Rattle.room.proofs.Files.{shown, laid-out, few, free-in-main, reached-without, without-gone}
 use Rattle.room.proofs.Leaving.{without-none}
@@ -59,29 +59,29 @@ over-victim k n j i w l m wo z h d = record {
 -- ---- after
 
 -- r, and memory m, tell the room that was sought among n rows of memory l
-pub record Sought (l m : List ℕ) (n time w : ℕ) (r : SoughtRoom) : Type 0 where
+pub record Sought (l m : List ℕ) (n time w : ℕ) (r : RoomAnswer) : Type 0 where
   pub size : length m ≡ length l
-  pub room : soughtRoomOf r (viewRows (r .rows) m) ≡ makeRoom time w (viewRows n l)
+  pub room : roomOf r (viewRows (r .rows) m) ≡ makeRoom time w (viewRows n l)
   pub rows : r .rows ≤ n
   pub leaves : Leaves (r .victim) (r .stored) (viewRows n l .rows) (viewRows (r .rows) m .rows)
   pub none : r .made ≡ false → r .victim ≡ Nothing
 
-pub sought : (l m : List ℕ) (n time w : ℕ) (r : SoughtRoom) → length m ≡ length l
-    → (soughtRoomOf r (viewRows (r .rows) m) ≡ makeRoom time w (viewRows n l)) × (r .rows ≤ n) × Leaves (r .victim) (r .stored) (viewRows n l .rows) (viewRows (r .rows) m .rows) × WaitsAlone (r .victim) (viewRows (r .rows) m .rows) × (r .made ≡ false → r .victim ≡ Nothing)
+pub sought : (l m : List ℕ) (n time w : ℕ) (r : RoomAnswer) → length m ≡ length l
+    → (roomOf r (viewRows (r .rows) m) ≡ makeRoom time w (viewRows n l)) × (r .rows ≤ n) × Leaves (r .victim) (r .stored) (viewRows n l .rows) (viewRows (r .rows) m .rows) × (r .made ≡ false → r .victim ≡ Nothing)
     → Sought l m n time w r
-sought l m n time w r z e = record { size = z; room = e .0; rows = e .1; leaves = e .2; none = e .4 }
+sought l m n time w r z e = record { size = z; room = e .0; rows = e .1; leaves = e .2; none = e .3 }
 
-module _ (k : NodeAddr) (n : ℕ) (l m : List ℕ) (time w : ℕ) (r : SoughtRoom) (wo : Without k n l) (so : Sought l m n time w r) where
+module _ (k : NodeAddr) (n : ℕ) (l m : List ℕ) (time w : ℕ) (r : RoomAnswer) (wo : Without k n l) (so : Sought l m n time w r) where
   pub left-state : withoutVictim (r .victim) (viewRows (r .rows) m) ≡ makeRoom time w (viewRows n l) .state
-  unfolding soughtRoomOf
+  unfolding roomOf
   left-state = ap (λ (x : Room). x .state) (so .room)
 
   pub room-made : r .made ≡ makeRoom time w (viewRows n l) .made
-  unfolding soughtRoomOf
+  unfolding roomOf
   room-made = ap (λ (x : Room). x .made) (so .room)
 
   pub room-examined : r .examined ≡ makeRoom time w (viewRows n l) .examined
-  unfolding soughtRoomOf
+  unfolding roomOf
   room-examined = ap (λ (x : Room). x .examined) (so .room)
 
   made : Roomed time w (viewRows n l) (makeRoom time w (viewRows n l))

@@ -10,9 +10,9 @@ use borrow.Author.Tests.{eq-eqb, ne-eqb, ltb-true, ltb-false}
 use Rattle.coord.specs.declared.node_addr.NodeAddr.{NodeAddr}
 use Rattle.rules.specs.Cases.{Every}
 use Rattle.rules.specs.Records.{Row, State, aside, weightBound}
-use Rattle.rules.specs.Rows.{rowAt, atPlace, inMain, keepRows, countRows, mainCount, total, weighRows, withRows, withOnlyRows, zeroRows}
+use Rattle.rules.specs.Rows.{rowAt, atPlace, inMain, keepRows, countRows, mainCount, total, weighRows, withRows, withOnlyRows, withoutRow}
 use Rattle.rules.specs.Sound.{sound}
-use Rattle.rules.specs.Room.{Walk, Chosen, nextVictim, hasRoom, setAside, putBack, chooseVictims, settled, makeRoom, takeOut}
+use Rattle.rules.specs.Room.{Walk, Chosen, nextVictim, hasRoom, setAside, putBack, chooseVictims, settled, makeRoom, takeOut, Room}
 use Rattle.rules.proofs.RowLists.{Core, by-cond, by-maybe, cores, core, every-map, every-mapped, map-cores}
 use Rattle.rules.proofs.SoundTest.{RowOk, sound-is}
 use Rattle.rules.proofs.Moves.{ready}
@@ -23,10 +23,14 @@ use Rattle.sweep.specs.Sweep.{PathFit, PathsFit, keptRows, sweepTest}
 use Rattle.stamps.specs.declared.answers.Lowest.the-variants.{At, Nothing}
 use Rattle.stamps.specs.Walked.{walkFrom}
 use Rattle.room.specs.declared.victims.Chosen.{Chosen as ChosenAnswer}
-use Rattle.room.specs.declared.answers.SoughtRoom.{SoughtRoom}
-use Rattle.room.specs.Rooms.{chosenOf, roomOf, soughtRoomOf, withoutVictim, SetAside, LeftAt, Alone}
+use Rattle.room.specs.declared.answers.Room.{Room as RoomAnswer}
+use Rattle.room.specs.Rooms.{chosenOf, roomOf, withoutVictim, SetAside, LeftAt}
 use Rattle.room.proofs.Choosing.{next-yields}
 use Rattle.room.proofs.Leaving.{left-at, one-aside, back-mains, aside-not-main}
+
+-- room, by what is said of it
+abbrev pub roomAs : Bool → ℕ → State → Room
+roomAs made examined s = record { made = made; state = s; examined = examined }
 
 -- ---- the pass over the rows
 
@@ -41,10 +45,10 @@ unfolding keepRows
 keep-every q [] h = refl
 keep-every q (r ∷ rs) h = let n = not-at aside r (λ e. let z : ⊥ = omega (arith, h .0 .place) in z) in rw n (ap (λ (xs : List Row). r ∷ xs) (keep-every q rs (h .1)))
 
-pub room-there : (now w n R m count stored x : ℕ) (s : State) (b : Bool) → sound R s ≡ true → m ≡ s .maxEntries → count ≡ mainCount s → stored ≡ s .storedWeight → x ≡ min w (weightBound m) → b ≡ ltb count m && leb (stored + x) (weightBound m) → b ≡ true
-    → roomOf (record { made = true; rows = n; examined = 0 }) s ≡ makeRoom now w s
-unfolding roomOf makeRoom settled hasRoom
-room-there now w n R m count stored x s b h em ec es ex t q =
+pub room-there : (now w R m count stored x : ℕ) (s : State) (b : Bool) → sound R s ≡ true → m ≡ s .maxEntries → count ≡ mainCount s → stored ≡ s .storedWeight → x ≡ min w (weightBound m) → b ≡ ltb count m && leb (stored + x) (weightBound m) → b ≡ true
+    → roomAs true 0 s ≡ makeRoom now w s
+unfolding makeRoom settled hasRoom
+room-there now w R m count stored x s b h em ec es ex t q =
     let d = sound-is R s h in
     let f : hasRoom (min w (weightBound (s .maxEntries))) s ≡ true = sym (t ∙ rw (ex, em, ec, es, d .storedWeight)) ∙ q in
     let k : withOnlyRows (keepRows (λ r. not (atPlace aside r)) (s .rows)) s ≡ s = rw (keep-every (s .seq) (s .rows) (d .each)) (sym (only-rows (s .rows) s refl (d .storedWeight) (d .counted)) ∙ rows-same s) in
@@ -52,10 +56,10 @@ room-there now w n R m count stored x s b h em ec es ex t q =
 
 -- ---- the victims leave
 
-pub room-made : (now w n x : ℕ) (s t u : State) (c : ChosenAnswer) → x ≡ min w (weightBound (s .maxEntries)) → chosenOf c t ≡ chooseVictims (suc (mainCount s)) now x (walkFrom s 0) → c .made ≡ true → u ≡ withOnlyRows (keepRows (λ r. not (atPlace aside r)) (t .rows)) t
-    → roomOf (record { made = true; rows = n; examined = c .examined }) u ≡ makeRoom now w s
-unfolding roomOf makeRoom settled chosenOf
-room-made now w n x s t u c ex h m e = rw (← ex, ← h, m, e)
+pub room-made : (now w x : ℕ) (s t u : State) (c : ChosenAnswer) → x ≡ min w (weightBound (s .maxEntries)) → chosenOf c t ≡ chooseVictims (suc (mainCount s)) now x (walkFrom s 0) → c .made ≡ true → u ≡ withOnlyRows (keepRows (λ r. not (atPlace aside r)) (t .rows)) t
+    → roomAs true (c .examined) u ≡ makeRoom now w s
+unfolding makeRoom settled chosenOf
+room-made now w x s t u c ex h m e = rw (← ex, ← h, m, e)
 
 -- ---- what was chosen
 
@@ -137,23 +141,23 @@ waiting now x R s t c h e =
 
 -- ---- the victims go back
 
-pub room-failed : (now w n x : ℕ) (s t u : State) (c : ChosenAnswer) → Waiting s t → s .rowCount ≡ length (t .rows) → x ≡ min w (weightBound (s .maxEntries)) → chosenOf c t ≡ chooseVictims (suc (mainCount s)) now x (walkFrom s 0) → c .made ≡ false → u ≡ withRows (map putBack (t .rows)) t
-    → roomOf (record { made = false; rows = n; examined = c .examined }) u ≡ makeRoom now w s
-unfolding roomOf makeRoom settled chosenOf
-room-failed now w n x s t u c k l ex h m e = rw (← ex, ← h, m, e, only-rows (map putBack (t .rows)) t (length-map (t .rows)) (k .storedWeight) (k .rowCount ∙ l))
+pub room-failed : (now w x : ℕ) (s t u : State) (c : ChosenAnswer) → Waiting s t → s .rowCount ≡ length (t .rows) → x ≡ min w (weightBound (s .maxEntries)) → chosenOf c t ≡ chooseVictims (suc (mainCount s)) now x (walkFrom s 0) → c .made ≡ false → u ≡ withRows (map putBack (t .rows)) t
+    → roomAs false (c .examined) u ≡ makeRoom now w s
+unfolding makeRoom settled chosenOf
+room-failed now w x s t u c k l ex h m e = rw (← ex, ← h, m, e, only-rows (map putBack (t .rows)) t (length-map (t .rows)) (k .storedWeight) (k .rowCount ∙ l))
 
 -- ---- the only victim stays, aside
 
 -- it is what would leave
-pub out-is : (i : ℕ) (s : State) → Alone i (s .rows) → takeOut i s ≡ withOnlyRows (keepRows (λ r. not (atPlace aside r)) (s .rows)) s
+pub out-is : (i : ℕ) (s : State) → keepRows (λ r. not (atPlace aside r)) (s .rows) ≡ withoutRow i (s .rows) → takeOut i s ≡ withOnlyRows (keepRows (λ r. not (atPlace aside r)) (s .rows)) s
 unfolding takeOut
-out-is i s a = rw (a .only)
+out-is i s a = rw a
 
 module _ (count : ℕ) (s t : State) (c : ChosenAnswer) (k : Waiting s t) (e : count ≡ mainCount s) (a : SetAside count c t) (h : count - c .left ≡ 1) where
-  pub waits-alone : Alone (c .last) (t .rows)
+  pub waits-alone : keepRows (λ r. not (atPlace aside r)) (t .rows) ≡ withoutRow (c .last) (t .rows)
   waits-alone =
       let l : c .left < count = omega arith in
-      record { only = one-aside (c .last) (t .rows) (a .last .inside l) (a .last .there l) (omega (arith, back-mains (t .rows), k .mains, a .mains)); paths = k .paths }
+      one-aside (c .last) (t .rows) (a .last .inside l) (a .last .there l) (omega (arith, back-mains (t .rows), k .mains, a .mains))
 
   pub left-aside : (R : ℕ) → sound R s ≡ true → LeftAt (c .last) (c .stored) (s .rows) (t .rows)
   left-aside R d =
@@ -161,10 +165,10 @@ module _ (count : ℕ) (s t : State) (c : ChosenAnswer) (k : Waiting s t) (e : c
       left-at (c .last) (c .stored) (s .rows) (t .rows) (sound-is R s d .rising) (k .same) (a .last .inside l) (aside-not-main (rowAt (c .last) (t .rows)) (a .last .there l)) (a .weighs) (a .light)
 
 -- room that was sought, as room that was made
-pub sought-at : (r : SoughtRoom) (i n : ℕ) (s : State) → r .victim ≡ At i → soughtRoomOf r s ≡ roomOf (record { made = r .made; rows = n; examined = r .examined }) (takeOut i s)
-unfolding soughtRoomOf withoutVictim roomOf
-sought-at r i n s e = rw e
+pub sought-at : (r : RoomAnswer) (i : ℕ) (s : State) → r .victim ≡ At i → roomOf r s ≡ roomAs (r .made) (r .examined) (takeOut i s)
+unfolding roomOf withoutVictim
+sought-at r i s e = rw e
 
-pub sought-none : (r : SoughtRoom) (n : ℕ) (s : State) → r .victim ≡ Nothing → soughtRoomOf r s ≡ roomOf (record { made = r .made; rows = n; examined = r .examined }) s
-unfolding soughtRoomOf withoutVictim roomOf
-sought-none r n s e = rw e
+pub sought-none : (r : RoomAnswer) (s : State) → r .victim ≡ Nothing → roomOf r s ≡ roomAs (r .made) (r .examined) s
+unfolding roomOf withoutVictim
+sought-none r s e = rw e

@@ -3,24 +3,22 @@ use mathlib.Core.Path.{_≡_}
 use Prim.Native.Nat.{ℕ, _+_, _≤_, _<_}
 use mathlib.Core.List.{List}
 use mathlib.Core.Option.{none}
-use mathlib.Core.Bool.{Bool, true, not}
+use mathlib.Core.Bool.{Bool, true}
 use lib.Dec.{ltb, eqb}
 use lib.ListN.{length}
 use Rattle.coord.specs.declared.node_addr.NodeAddr.{NodeAddr}
 use Rattle.types.specs.declared.placed.Segment.{Segment}
 use Rattle.types.specs.declared.placed.Segment.the-variants.{Main, Probation}
 use Rattle.rules.specs.Records.{Row, State, probation, aside}
-use Rattle.rules.specs.Rows.{rowAt, atPlace, inMain, inProbation, find, withoutRow, keepRows, total, weighRows, mainCount, mainWeight}
+use Rattle.rules.specs.Rows.{rowAt, atPlace, inMain, inProbation, find, withoutRow, total, weighRows, mainCount, mainWeight}
 use Rattle.rules.specs.Sound.{sound, ascends}
 use Rattle.rules.specs.Room.{Chosen, Room, probationVisits, takeOut}
 use Rattle.rules.specs.Memory.{capacity, viewRows}
 use Rattle.stamps.specs.declared.answers.Lowest.{Lowest}
 use Rattle.stamps.specs.declared.answers.Lowest.the-variants.{At, Nothing}
 use Rattle.stamps.specs.Walked.{walkFrom}
-use Rattle.sweep.specs.Sweep.{PathsFit}
 use Rattle.room.specs.declared.victims.Chosen.{Chosen as ChosenAnswer}
 use Rattle.room.specs.declared.answers.Room.{Room as RoomAnswer}
-use Rattle.room.specs.declared.answers.SoughtRoom.{SoughtRoom}
 
 -- whether a place belongs to a segment
 abbrev pub placeIn : Segment → ℕ → Bool
@@ -34,9 +32,6 @@ inSegment Probation r = inProbation r
 unfoldable pub chosenOf : ChosenAnswer → State → Chosen
 chosenOf c s = record { made = c .made; walk = walkFrom s (c .examined) }
 
-unfoldable pub roomOf : RoomAnswer → State → Room
-roomOf m s = record { made = m .made; state = s; examined = m .examined }
-
 -- ---- a victim left in place
 
 -- a state without the victim, if there is one
@@ -44,8 +39,8 @@ unfoldable pub withoutVictim : Lowest → State → State
 withoutVictim (At i) s = takeOut i s
 withoutVictim Nothing s = s
 
-unfoldable pub soughtRoomOf : SoughtRoom → State → Room
-soughtRoomOf r s = record { made = r .made; state = withoutVictim (r .victim) s; examined = r .examined }
+unfoldable pub roomOf : RoomAnswer → State → Room
+roomOf r s = record { made = r .made; state = withoutVictim (r .victim) s; examined = r .examined }
 
 -- the main rows fell from count to left; row i was set aside last
 pub record LastAside (count left i : ℕ) (rs : List Row) : Type 0 where
@@ -70,14 +65,6 @@ pub record LeftAt (i w : ℕ) (rs ts : List Row) : Type 0 where
 
 abbrev pub Leaves : Lowest → ℕ → List Row → List Row → Type 0
 Leaves v w rs ts = (i : ℕ) → v ≡ At i → LeftAt i w rs ts
-
--- row i is the only one aside
-pub record Alone (i : ℕ) (rs : List Row) : Type 0 where
-  pub only : keepRows (λ r. not (atPlace aside r)) rs ≡ withoutRow i rs
-  pub paths : PathsFit rs
-
-abbrev pub WaitsAlone : Lowest → List Row → Type 0
-WaitsAlone v rs = (i : ℕ) → v ≡ At i → Alone i rs
 
 -- ---- what a row that is filed meets
 

@@ -1,14 +1,8 @@
 use stamps::answers::Lowest;
 
-// Whether room was made in main, the rows that are left, and the keys taken up.
+// Whether room was made in main, the rows there are, and the keys taken up. A victim that stands alone is left where it is, for the row
+// that takes its place; `stored` is the weight that is stored without it.
 pub struct Room {
-    pub made: bool,
-    pub rows: usize,
-    pub examined: u64,
-}
-
-// Room that was sought in main. A victim that stands alone is left where it is, for the row that takes its place; `stored` is the weight that is stored without it.
-pub struct SoughtRoom {
     pub made: bool,
     pub rows: usize,
     pub victim: Lowest,
@@ -16,7 +10,7 @@ pub struct SoughtRoom {
     pub examined: u64,
 }
 
-// Room that was sought in probation: the victim, left where it is, the weight that is stored without it, and the keys taken up.
+// Room in probation: the victim, left where it is, the weight that is stored without it, and the keys taken up.
 pub struct ProbationRoom {
     pub victim: Lowest,
     pub stored: u64,

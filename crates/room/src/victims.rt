@@ -1,6 +1,5 @@
 // Room in main: victims are set aside, and leave together or go back.
 use crate::answers::Room;
-use crate::answers::SoughtRoom;
 use crate::counts::count_rows;
 use crate::counts::cut_to_bound;
 use crate::counts::has_room;
@@ -22,7 +21,7 @@ ghost use Rattle.rules.specs.Memory.{headSize, capacity, viewRows};
 ghost use Rattle.stamps.specs.declared.answers.Lowest.the-variants.{Nothing};
 ghost use Rattle.stamps.specs.Walked.{walkFrom};
 ghost use Rattle.sweep.specs.Sweep.{PathsFit};
-ghost use Rattle.room.specs.Rooms.{chosenOf, roomOf, soughtRoomOf, SetAside, Leaves, WaitsAlone};
+ghost use Rattle.room.specs.Rooms.{chosenOf, roomOf, roomOf, SetAside, Leaves};
 
 // Where a victim waits; no state at rest has this place.
 const ASIDE: u8 = 3;
@@ -121,16 +120,16 @@ fn drop_aside(state: &mut [u8], n: usize) -> usize
 }
 
 // Room for w in main, with a victim that stands alone left aside. Where there is room nothing is written, and where it can't be made no row leaves.
-pub fn seek_room(state: &mut [u8], n: usize, w: u64, time: u64) -> SoughtRoom
+pub fn make_room(state: &mut [u8], n: usize, w: u64, time: u64) -> Room
     requires { ⌜ (headSize + n * rowSize ≤ length (now state)) × (sound (capacity (now state)) (viewRows n (now state)) ≡ true) × (viewRows n (now state) .seq + total (mainVisits time) (viewRows n (now state) .rows) < 18446744073709551616) ⌝ }
-    ensures { λ r. ⌜ (soughtRoomOf r (viewRows (r .rows) (now (state .exit))) ≡ makeRoom time w (viewRows n (now (state .entry)))) × (r .rows ≤ n) × Leaves (r .victim) (r .stored) (viewRows n (now (state .entry)) .rows) (viewRows (r .rows) (now (state .exit)) .rows) × WaitsAlone (r .victim) (viewRows (r .rows) (now (state .exit)) .rows) × (r .made ≡ false → r .victim ≡ Nothing) ⌝ }
+    ensures { λ r. ⌜ (roomOf r (viewRows (r .rows) (now (state .exit))) ≡ makeRoom time w (viewRows n (now (state .entry)))) × (r .rows ≤ n) × Leaves (r .victim) (r .stored) (viewRows n (now (state .entry)) .rows) (viewRows (r .rows) (now (state .exit)) .rows) × (r .made ≡ false → r .victim ≡ Nothing) ⌝ }
 {
     let max = memory::head::max_entries(state);
     let cut = cut_to_bound(w, max);
     let count = count_rows(state, n, Segment::Main);
     let stored = memory::head::stored_weight(state);
     if has_room(max, count, stored, cut) {
-        return SoughtRoom {
+        return Room {
             made: true,
             rows: n,
             victim: Lowest::Nothing,
@@ -142,7 +141,7 @@ pub fn seek_room(state: &mut [u8], n: usize, w: u64, time: u64) -> SoughtRoom
     let examined = chosen.examined;
     if chosen.made {
         if count - chosen.left == 1 {
-            return SoughtRoom {
+            return Room {
                 made: true,
                 rows: n,
                 victim: Lowest::At(chosen.last),
@@ -151,7 +150,7 @@ pub fn seek_room(state: &mut [u8], n: usize, w: u64, time: u64) -> SoughtRoom
             };
         }
         let rows = drop_aside(state, n);
-        return SoughtRoom {
+        return Room {
             made: true,
             rows,
             victim: Lowest::Nothing,
@@ -160,38 +159,11 @@ pub fn seek_room(state: &mut [u8], n: usize, w: u64, time: u64) -> SoughtRoom
         };
     }
     put_back(state, n);
-    SoughtRoom {
+    Room {
         made: false,
         rows: n,
         victim: Lowest::Nothing,
         stored,
         examined,
-    }
-}
-
-// Room for w in main, and every victim gone.
-pub fn make_room(state: &mut [u8], n: usize, w: u64, time: u64) -> Room
-    requires { ⌜ (headSize + n * rowSize ≤ length (now state)) × (sound (capacity (now state)) (viewRows n (now state)) ≡ true) × (viewRows n (now state) .seq + total (mainVisits time) (viewRows n (now state) .rows) < 18446744073709551616) ⌝ }
-    ensures { λ r. ⌜ (roomOf r (viewRows (r .rows) (now (state .exit))) ≡ makeRoom time w (viewRows n (now (state .entry)))) × (r .rows ≤ n) ⌝ }
-{
-    let sought = seek_room(state, n, w, time);
-    let made = sought.made;
-    let rows = sought.rows;
-    let examined = sought.examined;
-    let victim = sought.victim;
-    match victim {
-        Lowest::Nothing => Room {
-            made,
-            rows,
-            examined,
-        },
-        Lowest::At(i) => {
-            let kept = drop_aside(state, rows);
-            Room {
-                made,
-                rows: kept,
-                examined,
-            }
-        }
     }
 }

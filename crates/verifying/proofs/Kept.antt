@@ -19,7 +19,6 @@ use Rattle.rules.proofs.Moves.{takeOut-sound}
 use Rattle.memory.proofs.RowLaws.{view-length}
 use Rattle.search.specs.declared.answers.Search.the-variants.{At}
 use Rattle.search.specs.ByKey.{searched}
-use Rattle.room.specs.Rooms.{roomOf}
 use Rattle.room.proofs.Settling.{room-there}
 use Rattle.verifying.proofs.Inserting.{out-held}
 
@@ -31,10 +30,10 @@ room-told i w p s b ew e t =
     (and-left _ _ h, and-right (inMain (rowAt i (s .rows))) (hasRoom (min (pathWeight p) (weightBound (s .maxEntries))) (takeOut i s)) h)
 
 room-kept : (R i t w : ℕ) (s : State) → Sound R s → hasRoom (min w (weightBound (s .maxEntries))) (takeOut i s) ≡ true → _≡_ {A = Room} (record { made = true; state = takeOut i s; examined = 0 }) (makeRoom t w (takeOut i s))
-unfolding roomOf hasRoom takeOut withOnlyRows
+unfolding hasRoom takeOut withOnlyRows
 room-kept R i t w s d h =
     let o = takeOut i s in
-    room-there t w 0 R (o .maxEntries) (mainCount o) (o .storedWeight) (min w (weightBound (o .maxEntries))) o _ (is-sound R o (takeOut-sound R i s d)) refl refl refl refl refl h
+    room-there t w R (o .maxEntries) (mainCount o) (o .storedWeight) (min w (weightBound (o .maxEntries))) o _ (is-sound R o (takeOut-sound R i s d)) refl refl refl refl refl h
 
 module _ (R : ℕ) (k : NodeAddr) (p : Path) (t i : ℕ) (s : State) (d : Sound R s) (f : searched k (s .rows) ≡ At i) (h : hasRoom (min (pathWeight p) (weightBound (s .maxEntries))) (takeOut i s) ≡ true) where
   kept : _≡_ {A = Room} (record { made = true; state = takeOut i s; examined = 0 }) (makeRoom t (pathWeight p) (withoutKey k s))

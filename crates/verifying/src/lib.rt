@@ -6,10 +6,10 @@ use filing::entry::new_entry;
 use filing::entry::updated_entry;
 use filing::entry::verified_entry;
 use filing::entry::with_mtu;
-use filing::file::file_new;
 use inplace::has_room_without;
 use inplace::verify_in_place;
 use memory::rows::remove_row;
+use replacing::file_in_room;
 use room::victims::make_room;
 use search::answers::Search;
 use search::keys::search;
@@ -78,7 +78,7 @@ fn take_out(state: &mut [u8], n: usize, at: Search) -> usize
     }
 }
 
-// The key's row out, room sought, and the row filed in main either way.
+// The key's row out, room sought, and the row filed in main either way: over the victim, where one was enough.
 fn file_anew(
     state: &mut [u8],
     n: usize,
@@ -96,7 +96,8 @@ fn file_anew(
     let weight = path.weight();
     let units = weight as u8;
     let room = make_room(state, rows, weight, time);
-    file_new(state, room.rows, key, e, units, BY_USE);
+    let victim = room.victim;
+    file_in_room(state, room.rows, victim, room.stored, key, e, units, BY_USE);
     VerifiedInsert {
         weight: weight,
         examined: room.examined,

@@ -27,8 +27,8 @@ returns c =
     let s = c .before .before .before .before .before .before .before .before in
     uncovered (s .args .key) (s .args .path) (s .args .time) (s .args .ttl) (s .args .funding) (s .args .n) (s .args .state .now) _ _ (ap (covers (s .args .funding)) (sym (c .before .before .before .before .before .before .weight .ensures)) ∙ sym (c .before .before .before .before .before .covers .ensures) ∙ not-true _ (c .before .before .before .before .if1 .taken)) (c .before .before .new-in-probation .ensures)
 
-seek-room-requires : tie.Need-seek-room-requires
-seek-room-requires c κs =
+make-room-requires : tie.Need-make-room-requires
+make-room-requires c κs =
     let s = c .before .before .before .before .before in
     room-asks (s .args .time) (s .args .n) (s .args .state .now) (s .pre .0 .sound) (s .pre .2)
 
@@ -36,7 +36,7 @@ new-in-main-requires : tie.Need-new-in-main-requires
 new-in-main-requires c κs =
     let s = c .before .before .before .before .before .before .before .before .before .before in
     let a = s .args in
-    let o = c .before .before .before .before .seek-room in
+    let o = c .before .before .before .before .make-room in
     let w = c .before .before .before .before .before .before .before .before .weight .result in
     let g = sought (a .state .now) (o .last .0) (a .n) (a .time) w (o .result) (o .kept .0) (o .ensures) in
     (takes (a .key) (a .n) (a .state .now) (o .last .0) (a .time) w (o .result) (s .pre .0) g (made-in-main (a .key) (a .n) (a .state .now) (o .last .0) (a .time) w (o .result) (s .pre .0) g (c .before .if2 .taken)) (s .pre .2), s .pre .1)
@@ -48,17 +48,17 @@ returns-2 : tie.Need-returns-2
 returns-2 c =
     let s = c .before .before .before .before .before .before .before .before .before .before .before .before .before in
     let a = s .args in
-    let o = c .before .before .before .before .before .before .before .seek-room in
+    let o = c .before .before .before .before .before .before .before .make-room in
     covered-made (a .key) (a .path) (a .time) (a .ttl) (a .funding) (a .n) (a .state .now) (o .last .0) _ (c .before .before .before .before .before .before .before .before .before .before .before .weight .result) (o .result) _ (c .before .before .before .before .before .before .before .before .before .before .before .weight .ensures) (sym (c .before .before .before .before .before .before .before .before .before .before .covers .ensures) ∙ not-false _ (c .before .before .before .before .before .before .before .before .before .if1 .left)) (o .ensures .0) (c .before .before .before .before .if2 .taken) (c .before .before .new-in-main .ensures)
 
 new-without-room-requires : tie.Need-new-without-room-requires
 new-without-room-requires c κs =
     let s = c .before .before .before .before .before .before .before .before .before .before in
     let a = s .args in
-    let o = c .before .before .before .before .seek-room in
+    let o = c .before .before .before .before .make-room in
     let w = c .before .before .before .before .before .before .before .before .weight .result in
     let g = sought (a .state .now) (o .last .0) (a .n) (a .time) w (o .result) (o .kept .0) (o .ensures) in
-    let v = o .ensures .4 (c .before .if2 .left) in
+    let v = o .ensures .3 (c .before .if2 .left) in
     let e = examined-few (a .key) (a .n) (a .state .now) (o .last .0) (a .time) w (o .result) (s .pre .0) g in
     (still-without (a .key) (a .n) (a .state .now) (o .last .0) (a .time) w (o .result) (s .pre .0) g v, s .pre .1, stamps-after (a .key) (a .n) (a .state .now) (o .last .0) (a .time) w (o .result) (s .pre .0) g v (s .pre .2), omega (arith, e))
 
@@ -69,8 +69,8 @@ returns-3 : tie.Need-returns-3
 returns-3 c =
     let s = c .before .before .before .before .before .before .before .before .before .before .before .before .before in
     let a = s .args in
-    let o = c .before .before .before .before .before .before .before .seek-room in
-    covered-not-made (a .key) (a .path) (a .time) (a .ttl) (a .funding) (a .n) (a .state .now) (o .last .0) _ (c .before .before .before .before .before .before .before .before .before .before .before .weight .result) (o .result) _ (c .before .before .before .before .before .before .before .before .before .before .before .weight .ensures) (sym (c .before .before .before .before .before .before .before .before .before .before .covers .ensures) ∙ not-false _ (c .before .before .before .before .before .before .before .before .before .if1 .left)) (o .ensures .0) (c .before .before .before .before .if2 .left) (o .ensures .4 (c .before .before .before .before .if2 .left)) (c .before .before .new-without-room .ensures)
+    let o = c .before .before .before .before .before .before .before .make-room in
+    covered-not-made (a .key) (a .path) (a .time) (a .ttl) (a .funding) (a .n) (a .state .now) (o .last .0) _ (c .before .before .before .before .before .before .before .before .before .before .before .weight .result) (o .result) _ (c .before .before .before .before .before .before .before .before .before .before .before .weight .ensures) (sym (c .before .before .before .before .before .before .before .before .before .before .covers .ensures) ∙ not-false _ (c .before .before .before .before .before .before .before .before .before .if1 .left)) (o .ensures .0) (c .before .before .before .before .if2 .left) (o .ensures .3 (c .before .before .before .before .if2 .left)) (c .before .before .new-without-room .ensures)
 
 pub place-new-spec : {M : Type 1} → statement M
 place-new-spec =
@@ -81,7 +81,7 @@ place-new-spec =
     new-in-probation-requires
     same-length
     returns
-    seek-room-requires
+    make-room-requires
     new-in-main-requires
     same-length-2
     returns-2

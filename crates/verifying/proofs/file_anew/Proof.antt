@@ -1,23 +1,30 @@
 use mathlib.Core.Path.{ap}
 use native.Mathlib.Omega.{arith}
 use Rattle.coord.specs.declared.coord.Path.{Path}
+use Rattle.rules.specs.Placement.{withoutKey}
+use Rattle.rules.specs.Memory.{viewRows}
 use Rattle.rules.proofs.Others.{weight-ok}
-use Rattle.room.proofs.Files.{laid-out}
+use Rattle.room.proofs.Files.{laid-out, Reached}
 use Rattle.filing.specs.Filings.{entryFrom}
+use Rattle.replacing.proofs.Seeking.{Sought, sought}
 use Rattle.inplace.specs.Mtu.{mtuOf}
-use Rattle.verifying.proofs.Inserting.{found-within, RoomSought, room-sought, room-asked, row-asked, insert-said, insert-left}
+use Rattle.verifying.proofs.Inserting.{found-within, room-asked, row-asked, insert-said, insert-left}
 use borrow.Author.Needs.{needs}
 use Rattle.verifying.proofs.file_anew.Statement.{statement}
 use Rattle.verifying.proofs.file_anew.Tie as tie
 
--- room was sought, with the key's row out
-sought : (c : tie.After-make-room) → (let a = c .before .before .before .before .before .before .before .before .before .before .args in RoomSought (a .key) (a .path) (a .time) (a .n) (a .state .now) (c .make-room .last .0) (c .make-room .result))
-sought c =
+-- the key's row is out
+key-out : (c : tie.After-take-out) → (let a = c .before .before .before .before .before .args in Reached (a .state .now) (c .take-out .last .0) (c .take-out .result) (withoutKey (a .key) (viewRows (a .n) (a .state .now))))
+key-out c =
+    let s = c .before .before .before .before .before in
+    record { size = c .take-out .kept .0; state = c .take-out .ensures (s .args .key) (s .pre .4) }
+
+-- then room was sought
+room-sought : (c : tie.After-make-room) → (let w = c .before .before in let o = w .before .before .before in Sought (o .take-out .last .0) (c .make-room .last .0) (o .take-out .result) (o .before .before .before .before .before .args .time) (w .weight .result) (c .make-room .result))
+room-sought c =
     let w = c .before .before in
     let o = w .before .before .before in
-    let s = o .before .before .before .before .before in
-    let a = s .args in
-    room-sought (a .key) (a .path) (a .time) (a .n) (o .take-out .result) (w .weight .result) (a .state .now) (o .take-out .last .0) (c .make-room .last .0) (c .make-room .result) (o .take-out .kept .0) (o .take-out .ensures (a .key) (s .pre .4)) (w .weight .ensures) (c .make-room .kept .0) (c .make-room .ensures .0)
+    sought (o .take-out .last .0) (c .make-room .last .0) (o .take-out .result) (o .before .before .before .before .before .args .time) (w .weight .result) (c .make-room .result) (c .make-room .kept .0) (c .make-room .ensures)
 
 verified-entry-of-requires : tie.Need-verified-entry-of-requires
 verified-entry-of-requires c κs =
@@ -39,33 +46,35 @@ cast-units c =
 
 make-room-requires : tie.Need-make-room-requires
 make-room-requires c κs =
-    let o = c .before .before .before .before in
+    let w = c .before in
+    let o = w .before .before .before in
     let s = o .before .before .before .before .before in
     let a = s .args in
-    room-asked (a .key) (a .path) (a .time) (a .n) (a .state .now) (s .pre .0) (o .take-out .last .0) (o .take-out .result) (o .take-out .kept .0) (o .take-out .ensures (a .key) (s .pre .4)) (s .pre .2)
+    room-asked (a .key) (a .path) (a .time) (a .n) (o .take-out .result) (w .weight .result) (a .state .now) (o .take-out .last .0) (s .pre .0) (key-out o) (w .weight .ensures) (s .pre .2)
 
-file-new-requires : tie.Need-file-new-requires
-file-new-requires c κs =
+file-in-room-requires : tie.Need-file-in-room-requires
+file-in-room-requires c κs =
     let r = c .before .before .before in
-    let e = r .before .before .before .before .before .before .before in
+    let w = r .before .before in
+    let o = w .before .before .before in
+    let e = o .before .before in
     let s = e .before .before .before in
     let a = s .args in
-    let x = row-asked (a .key) (a .path) (a .time) (a .n) (a .state .now) (s .pre .0) (r .make-room .last .0) (r .make-room .result) (sought r) (s .pre .2) (s .pre .3) in
-    (x .0 .sound, x .1, x .0 .gone, x .2, omega (arith, ap (λ (p : Path). p .len) (e .verified-entry-of .ensures .1), s .pre .1 .short))
+    (row-asked (a .key) (a .path) (a .time) (a .n) (o .take-out .result) (w .weight .result) (a .state .now) (o .take-out .last .0) (s .pre .0) (key-out o) (w .weight .ensures) (r .make-room .last .0) (r .make-room .result) (room-sought r) (s .pre .2) (s .pre .3), omega (arith, ap (λ (p : Path). p .len) (e .verified-entry-of .ensures .1), s .pre .1 .short))
 
 same-length : tie.Need-same-length
 same-length c = search needs
 
 returns : tie.Need-returns
 returns c =
-    let n = c .before .before in
-    let r = n .before .before .before .before in
+    let f = c .before .before in
+    let r = f .before .before .before .before in
     let w = r .before .before in
-    let e = w .before .before .before .before .before in
+    let o = w .before .before .before in
+    let e = o .before .before in
     let s = e .before .before .before in
     let a = s .args in
-    let l = a .state .now in
-    (insert-said (a .key) (a .path) (a .time) (a .n) (w .weight .result) (mtuOf (a .mtu)) l (r .make-room .last .0) (r .make-room .result) (sought r) (w .weight .ensures), insert-left (a .key) (a .path) (a .time) (a .n) (w .weight .result) (mtuOf (a .mtu)) l (r .make-room .last .0) (n .file-new .last .0) (r .make-room .result) (entryFrom (e .verified-entry-of .result)) (sought r) (w .weight .ensures) (e .verified-entry-of .ensures .0 (a .key) (s .pre .4)) (n .file-new .ensures))
+    (insert-said (a .key) (a .path) (a .time) (a .n) (o .take-out .result) (w .weight .result) (a .state .now) (o .take-out .last .0) (s .pre .0) (key-out o) (w .weight .ensures) (r .make-room .last .0) (r .make-room .result) (room-sought r) (mtuOf (a .mtu)), insert-left (a .key) (a .path) (a .time) (a .n) (o .take-out .result) (w .weight .result) (a .state .now) (o .take-out .last .0) (s .pre .0) (key-out o) (w .weight .ensures) (r .make-room .last .0) (r .make-room .result) (room-sought r) (mtuOf (a .mtu)) (f .file-in-room .last .0) (entryFrom (e .verified-entry-of .result)) (e .verified-entry-of .ensures .0 (a .key) (s .pre .4)) (f .file-in-room .ensures))
 
 pub file-anew-spec : {M : Type 1} → statement M
 file-anew-spec =
@@ -76,6 +85,6 @@ file-anew-spec =
     weight-requires
     cast-units
     make-room-requires
-    file-new-requires
+    file-in-room-requires
     same-length
     returns)

@@ -1,55 +1,130 @@
-use mathlib.Core.Path.{sym, ap, _∙_}
+use mathlib.Core.Path.{_≡_, refl, sym, ap, _∙_}
+use Prim.Native.Nat.{ℕ, min}
 use native.Mathlib.Omega.{arith}
-use borrow.Author.Needs.{needs}
-use Rattle.room.specs.Rooms.{roomOf}
+use Rattle.rules.specs.Records.{weightBound}
+use Rattle.rules.specs.Memory.{viewRows}
+use Rattle.rules.proofs.Addresses.{contradiction}
+use Rattle.rules.proofs.SoundTest.{sound-is}
+use Rattle.memory.proofs.Fields.{same-head}
+use Rattle.memory.proofs.RowLaws.{view-length}
+use Rattle.room.specs.Rooms.{LeftAt}
+use Rattle.room.proofs.Sums.{sound-small}
 use Rattle.room.proofs.Files.{few}
-use Rattle.room.proofs.Settling.{out-is, sought-at, sought-none}
+use Rattle.room.proofs.Leaving.{at-none, at-one}
+use Rattle.room.proofs.Settling.{Waiting, waiting, room-there, room-made, room-failed, out-is, waits-alone, left-aside, sought-at, sought-none}
+use borrow.Author.Needs.{needs}
 use Rattle.room.proofs.victims.make_room.Statement.{statement}
 use Rattle.room.proofs.victims.make_room.Tie as tie
 
-seek-room-requires : tie.Need-seek-room-requires
-seek-room-requires c κs = search needs
+most : (c : tie.After-max-entries) → c .max-entries .result ≡ viewRows (c .before .before .before .args .n) (c .before .before .before .args .state .now) .maxEntries
+most c = c .max-entries .ensures ∙ same-head 0 (c .before .before .before .args .n) (c .before .before .before .args .state .now) .maxEntries
 
-enum-told : tie.Need-enum-told
-enum-told c = search needs
+cut : (c : tie.After-cut-to-bound) → c .cut-to-bound .result ≡ min (c .before .before .before .before .args .w) (weightBound (viewRows (c .before .before .before .before .args .n) (c .before .before .before .before .args .state .now) .maxEntries))
+cut c = c .cut-to-bound .ensures ∙ ap (λ (m : ℕ). min (c .before .before .before .before .args .w) (weightBound m)) (most (c .before))
 
-enum-known-victim : tie.Need-enum-known-victim
-enum-known-victim c = search needs
+-- the victims stand aside
+aside : (c : tie.After-choose-victims) → Waiting (viewRows (c .before .before .before .before .before .before .before .before .before .before .before .before .args .n) (c .before .before .before .before .before .before .before .before .before .before .before .before .args .state .now)) (viewRows (c .before .before .before .before .before .before .before .before .before .before .before .before .args .n) (c .choose-victims .last .0))
+aside c = waiting _ _ _ _ _ (c .choose-victims .result) (c .before .before .before .before .before .before .before .before .before .before .before .before .pre .1) (c .choose-victims .ensures .0)
 
-drop-aside-requires : tie.Need-drop-aside-requires
-drop-aside-requires c κs =
-    let s = c .before .before .before .before .before .before .before .before .before in
-    let h = c .before .before .before .before .before .before .seek-room in
-    let k = h .kept .0 in
-    (omega (arith, few _ _ (s .pre .1), h .ensures .1), omega (arith, s .pre .0, h .ensures .1), h .ensures .3 _ (c .before .before .victim .given .1) .paths)
+max-entries-requires : tie.Need-max-entries-requires
+max-entries-requires c κs = search needs
+
+cut-to-bound-requires : tie.Need-cut-to-bound-requires
+cut-to-bound-requires c κs = omega (arith, most c, sound-small _ _ (c .before .before .before .pre .1) .max)
+
+count-rows-requires : tie.Need-count-rows-requires
+count-rows-requires c κs = search needs
+
+stored-weight-requires : tie.Need-stored-weight-requires
+stored-weight-requires c κs = search needs
+
+has-room-requires : tie.Need-has-room-requires
+has-room-requires c κs =
+    let s = c .before .before .before .before .before .before .before .before in
+    let m = sound-small _ _ (s .pre .1) in
+    (omega (arith, most (c .before .before .before .before .before), m .max), omega (arith, c .stored-weight .ensures, same-head 0 (s .args .n) (s .args .state .now) .storedWeight, m .stored), omega (arith, c .before .before .before .before .cut-to-bound .ensures))
 
 same-length : tie.Need-same-length
 same-length c = search needs
 
 returns : tie.Need-returns
 returns c =
-    let h = c .before .before .before .before .seek-room in
-    (sym (sought-none (h .result) _ _ (c .enum-told .given .1)) ∙ h .ensures .0, h .ensures .1)
+    let s = c .before .before .before .before .before .before .before .before .before .before in
+    let a = s .args in
+    let v = viewRows (a .n) (a .state .now) in
+    (sought-none _ v refl ∙ room-there (a .time) (a .w) _ (c .before .before .before .before .before .before .before .max-entries .result) (c .before .before .before .before .count-rows .result) (c .before .before .stored-weight .result) (c .before .before .before .before .before .before .cut-to-bound .result) v _ (s .pre .1) (most (c .before .before .before .before .before .before .before)) (c .before .before .before .before .count-rows .ensures) (c .before .before .stored-weight .ensures ∙ same-head 0 (a .n) (a .state .now) .storedWeight) (c .before .before .before .before .before .before .cut-to-bound .ensures) (c .before .has-room .ensures) (c .if1 .taken), omega arith, at-none _ _ refl, λ e. contradiction refl e)
+
+choose-victims-requires : tie.Need-choose-victims-requires
+choose-victims-requires c κs =
+    let s = c .before .before .before .before .before .before .before .before .before .before .before in
+    (s .pre .0, s .pre .1, s .pre .2, c .before .before .before .before .before .count-rows .ensures, omega (arith, cut (c .before .before .before .before .before .before .before)))
+
+sub-if3 : tie.Need-sub-if3
+sub-if3 c = omega (arith, c .before .before .before .before .choose-victims .ensures .1 (c .before .if2 .taken) .last .few)
 
 same-length-2 : tie.Need-same-length-2
 same-length-2 c = search needs
 
 returns-2 : tie.Need-returns-2
 returns-2 c =
-    let h = c .before .before .before .before .before .before .before .before .before .seek-room in
-    let d = c .before .before .drop-aside .ensures in
-    let e = c .before .before .before .before .before .victim .given .1 in
-    (ap (roomOf _) (d .1 ∙ sym (out-is _ _ (h .ensures .3 _ e))) ∙ sym (sought-at (h .result) _ _ _ e) ∙ h .ensures .0, omega (arith, d .0, h .ensures .1))
+    let s = c .before .before .before .before .before .before .before .before .before .before .before .before .before .before .before .before .before in
+    let a = s .args in
+    let h = c .before .before .before .before .before .choose-victims in
+    let m = c .before .before .if2 .taken in
+    let v = viewRows (a .n) (a .state .now) in
+    let t = viewRows (a .n) (h .last .0) in
+    let u = waits-alone _ v t (h .result) (aside (c .before .before .before .before .before)) (c .before .before .before .before .before .before .before .before .before .before .before .count-rows .ensures) (h .ensures .1 m) (c .if3 .taken) in
+    let l = left-aside _ v t (h .result) (aside (c .before .before .before .before .before)) (c .before .before .before .before .before .before .before .before .before .before .before .count-rows .ensures) (h .ensures .1 m) (c .if3 .taken) _ (s .pre .1) in
+    (sought-at _ _ t refl ∙ room-made (a .time) (a .w) (c .before .before .before .before .before .before .before .before .before .before .before .before .before .cut-to-bound .result) v t _ (h .result) (cut (c .before .before .before .before .before .before .before .before .before .before .before .before .before)) (h .ensures .0) m (out-is _ t u), omega arith, at-one (λ i. LeftAt i _ _ _) _ _ refl l, λ e. contradiction refl e)
+
+drop-aside-requires : tie.Need-drop-aside-requires
+drop-aside-requires c κs =
+    let s = c .before .before .before .before .before .before .before .before .before .before .before .before .before .before .before .before .before .before in
+    let k = c .before .before .before .before .before .before .choose-victims .kept .0 in
+    (few _ _ (s .pre .1), omega arith, aside (c .before .before .before .before .before .before) .paths)
+
+same-length-3 : tie.Need-same-length-3
+same-length-3 c = search needs
+
+returns-3 : tie.Need-returns-3
+returns-3 c =
+    let a = c .before .before .before .before .before .before .before .before .before .before .before .before .before .before .before .before .before .before .before .before .before .args in
+    let h = c .before .before .before .before .before .before .before .before .before .choose-victims in
+    let d = c .before .before .drop-aside in
+    (sought-none _ _ refl ∙ room-made (a .time) (a .w) (c .before .before .before .before .before .before .before .before .before .before .before .before .before .before .before .before .before .cut-to-bound .result) (viewRows (a .n) (a .state .now)) (viewRows (a .n) (h .last .0)) _ (h .result) (cut (c .before .before .before .before .before .before .before .before .before .before .before .before .before .before .before .before .before)) (h .ensures .0) (c .before .before .before .before .before .before .if2 .taken) (d .ensures .1), d .ensures .0, at-none _ _ refl, λ e. contradiction refl e)
+
+put-back-requires : tie.Need-put-back-requires
+put-back-requires c κs = search needs
+
+same-length-4 : tie.Need-same-length-4
+same-length-4 c = search needs
+
+returns-4 : tie.Need-returns-4
+returns-4 c =
+    let s = c .before .before .before .before .before .before .before .before .before .before .before .before .before .before .before .before .before .before .before in
+    let a = s .args in
+    let h = c .before .before .before .before .before .before .before .choose-victims in
+    let v = viewRows (a .n) (a .state .now) in
+    (sought-none _ _ refl ∙ room-failed (a .time) (a .w) (c .before .before .before .before .before .before .before .before .before .before .before .before .before .before .before .cut-to-bound .result) v (viewRows (a .n) (h .last .0)) _ (h .result) (aside (c .before .before .before .before .before .before .before)) (sound-is _ v (s .pre .1) .counted ∙ view-length (a .n) (a .state .now) ∙ sym (view-length (a .n) (h .last .0))) (cut (c .before .before .before .before .before .before .before .before .before .before .before .before .before .before .before)) (h .ensures .0) (c .before .before .before .before .if2 .left) (c .before .before .put-back .ensures), omega arith, at-none _ _ refl, λ e. refl)
 
 pub make-room-spec : {M : Type 1} → statement M
 make-room-spec =
     tie.close
     (tie.spec
-    seek-room-requires
-    enum-told
-    enum-known-victim
-    drop-aside-requires
+    max-entries-requires
+    cut-to-bound-requires
+    count-rows-requires
+    stored-weight-requires
+    has-room-requires
     same-length
     returns
+    choose-victims-requires
+    sub-if3
     same-length-2
-    returns-2)
+    returns-2
+    drop-aside-requires
+    same-length-3
+    returns-3
+    put-back-requires
+    same-length-4
+    returns-4)

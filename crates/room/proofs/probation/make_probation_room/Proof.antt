@@ -14,8 +14,8 @@ use Rattle.stamps.proofs.Walking.{found-at, found-none}
 use Rattle.room.specs.Rooms.{LeftAt}
 use Rattle.room.proofs.Leaving.{at-none, at-one, without-at, without-none}
 use Rattle.room.proofs.Evicting.{Evicting, Taken, evict-start, evict-ends, room-free, taken}
-use Rattle.room.proofs.probation.seek_probation_room.Statement.{statement}
-use Rattle.room.proofs.probation.seek_probation_room.Tie as tie
+use Rattle.room.proofs.probation.make_probation_room.Statement.{statement}
+use Rattle.room.proofs.probation.make_probation_room.Tie as tie
 
 abbrev Inv-loop : tie.InvT-loop
 Inv-loop state₀ n bound count stored examined₀ state examined = (length state ≡ length state₀) × Evicting (capacity state₀) (viewRows n state₀) count (walkFrom (viewRows n state) examined)
@@ -109,8 +109,8 @@ returns-3 c =
     let t = up (c .before .before .before .before) in
     (ap (λ (s : State). walkFrom s (c .before .before .before .before .before .before .before .before .loop .examined + 1)) (without-at _ _ _ refl) ∙ t .yields (sym (c .before .is-stale .ensures) ∙ c .if2 .left), at-one (λ i. LeftAt i _ _ _) _ _ refl (t .stays _ (c .before .before .before .before .before .before .before .before .before .before .stored-weight .ensures ∙ same-head 0 (a .n) (a .state .now) .storedWeight)))
 
-pub seek-probation-room-spec : {M : Type 1} → statement M
-seek-probation-room-spec =
+pub make-probation-room-spec : {M : Type 1} → statement M
+make-probation-room-spec =
     tie.close
     (tie.spec
     Inv-loop
