@@ -32,7 +32,7 @@ use Rattle.memory.proofs.RowLaws.{view-length, length-without}
 use Rattle.search.specs.declared.answers.Search.the-variants.{At}
 use Rattle.search.specs.ByKey.{searched}
 use Rattle.search.proofs.SearchLaws.{at-found}
-use Rattle.room.proofs.Sums.{sound-small}
+use Rattle.counts.proofs.Sums.{sound-small}
 use Rattle.inplace.specs.Mtu.{mtuOf, givenMtu}
 
 -- ---- row i out, and a row of its key in again

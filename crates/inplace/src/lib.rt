@@ -1,14 +1,14 @@
 // A verified insert of a key whose row is in main, with room there once the row is out: the row is written again where it stands.
 use coord::coord::Path;
+use counts::count_rows;
+use counts::cut_to_bound;
+use counts::has_room;
 use entries::add_times;
 use filing::refile::update_and_refile;
 use memory::head;
 use memory::head::HEAD;
 use memory::head::ROW;
 use memory::row;
-use room::counts::count_rows;
-use room::counts::cut_to_bound;
-use room::counts::has_room;
 use stamps::row::PROBATION;
 use types::entry::PathMtu;
 use types::placed::Segment;

@@ -25,7 +25,7 @@ use Rattle.rules.specs.Memory.{capacity, viewRows}
 use Rattle.rules.proofs.Moves.{probation-evict}
 use Rattle.memory.proofs.RowLaws.{view-length}
 use Rattle.stamps.specs.Walked.{walkFrom}
-use Rattle.room.proofs.Sums.{probation-visits}
+use Rattle.counts.proofs.Sums.{probation-visits}
 use Rattle.filing.specs.declared.entry.NewEntry.{NewEntry}
 use Rattle.filing.specs.Filings.{entryFrom, Writable}
 use Rattle.stamps.specs.declared.answers.Lowest.{Lowest}

@@ -24,7 +24,7 @@ use Rattle.search.specs.declared.answers.Search.the-variants.{At, Absent}
 use Rattle.search.specs.ByKey.{searched}
 use Rattle.search.proofs.SearchLaws.{at-inside}
 use Rattle.frame.proofs.Frame.{found, missing}
-use Rattle.room.proofs.Sums.{closed-without-key}
+use Rattle.counts.proofs.Sums.{closed-without-key}
 use Rattle.room.proofs.Files.{shown, laid-out}
 
 -- ---- the key's row

@@ -1,9 +1,9 @@
 // Number 4: whether main has a place for a verified insert. It is known before anything is written.
 use coord::coord::Path;
 use coord::node_addr::NodeAddr;
+use counts::count_rows;
+use counts::room_can_be_made;
 use memory::head;
-use room::counts::count_rows;
-use room::counts::room_can_be_made;
 use search::answers::Search;
 use search::keys::search;
 use soundness::head::probation_bound;

@@ -22,7 +22,7 @@ use Rattle.stamps.specs.declared.answers.Lowest.{Lowest}
 use Rattle.stamps.specs.declared.answers.Lowest.the-variants.{At, Nothing}
 use Rattle.room.specs.declared.answers.Room.{Room as RoomAnswer}
 use Rattle.room.specs.Rooms.{roomOf, withoutVictim, Leaves, LeftAt, Without, StampsLeft}
-use Rattle.room.proofs.Sums.{main-visits, probation-visits}
+use Rattle.counts.proofs.Sums.{main-visits, probation-visits}
 use Rattle.room.proofs.Files.{shown, laid-out, few, free-in-main, reached-without, without-gone}
 use Rattle.room.proofs.Leaving.{without-none}
 use Rattle.filing.specs.Filings.{Over}

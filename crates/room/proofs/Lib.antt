@@ -1,4 +1,3 @@
-pub mod Sums
 pub mod Places
 pub mod Later
 pub mod Choosing

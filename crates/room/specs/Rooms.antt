@@ -20,15 +20,6 @@ use Rattle.stamps.specs.Walked.{walkFrom}
 use Rattle.room.specs.declared.victims.Chosen.{Chosen as ChosenAnswer}
 use Rattle.room.specs.declared.answers.Room.{Room as RoomAnswer}
 
--- whether a place belongs to a segment
-abbrev pub placeIn : Segment → ℕ → Bool
-placeIn Main p = ltb p probation
-placeIn Probation p = eqb p probation
-
-abbrev pub inSegment : Segment → Row → Bool
-inSegment Main r = inMain r
-inSegment Probation r = inProbation r
-
 unfoldable pub chosenOf : ChosenAnswer → State → Chosen
 chosenOf c s = record { made = c .made; walk = walkFrom s (c .examined) }
 

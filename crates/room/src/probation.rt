@@ -1,6 +1,6 @@
 // Room in probation.
 use crate::answers::ProbationRoom;
-use crate::counts::count_rows;
+use counts::count_rows;
 use soundness::head::probation_bound;
 use stamps::answers::Lowest;
 use stamps::lowest::lowest_stamp;

@@ -1,9 +1,9 @@
 // Room in main: victims are set aside, and leave together or go back.
 use crate::answers::Room;
-use crate::counts::count_rows;
-use crate::counts::cut_to_bound;
-use crate::counts::has_room;
 use coord::node_addr::NodeAddr;
+use counts::count_rows;
+use counts::cut_to_bound;
+use counts::has_room;
 use stamps::answers::Lowest;
 use stamps::row::BY_USE;
 use stamps::walk::next_victim;
@@ -21,7 +21,7 @@ ghost use Rattle.rules.specs.Memory.{headSize, capacity, viewRows};
 ghost use Rattle.stamps.specs.declared.answers.Lowest.the-variants.{Nothing};
 ghost use Rattle.stamps.specs.Walked.{walkFrom};
 ghost use Rattle.sweep.specs.Sweep.{PathsFit};
-ghost use Rattle.room.specs.Rooms.{chosenOf, roomOf, roomOf, SetAside, Leaves};
+ghost use Rattle.room.specs.Rooms.{chosenOf, roomOf, SetAside, Leaves};
 
 // Where a victim waits; no state at rest has this place.
 const ASIDE: u8 = 3;

@@ -5,7 +5,7 @@ use Rattle.rules.specs.Records.{weightBound}
 use Rattle.rules.specs.Memory.{viewRows}
 use Rattle.memory.proofs.Fields.{same-head}
 use Rattle.memory.proofs.RowLaws.{view-length}
-use Rattle.room.proofs.Sums.{sound-small}
+use Rattle.counts.proofs.Sums.{sound-small}
 use Rattle.room.proofs.Files.{laid-out}
 use Rattle.inplace.proofs.InPlace.{stored-few, main-some, room-out, no-main, in-main}
 use Rattle.inplace.proofs.has_room_without.Statement.{statement}

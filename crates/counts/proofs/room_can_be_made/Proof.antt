@@ -5,9 +5,9 @@ use borrow.Author.Needs.{needs}
 use Rattle.rules.specs.Memory.{viewRows}
 use Rattle.memory.proofs.Fields.{same-head}
 use Rattle.memory.proofs.RowLaws.{view-length}
-use Rattle.room.proofs.Sums.{Weighed, weighed-start, weighed-in, weighed-past, weighed-end, sound-small}
-use Rattle.room.proofs.counts.room_can_be_made.Statement.{statement}
-use Rattle.room.proofs.counts.room_can_be_made.Tie as tie
+use Rattle.counts.proofs.Sums.{Weighed, weighed-start, weighed-in, weighed-past, weighed-end, sound-small}
+use Rattle.counts.proofs.room_can_be_made.Statement.{statement}
+use Rattle.counts.proofs.room_can_be_made.Tie as tie
 
 abbrev Inv-loop : tie.InvT-loop
 Inv-loop state n w time max cut count₀ weight₀ i₀ count weight i = Weighed time n i count weight (viewRows n state .rows)

@@ -5,10 +5,10 @@ use borrow.Author.Needs.{needs}
 use Rattle.rules.specs.Rows.{rowAt}
 use Rattle.rules.specs.Memory.{viewRows}
 use Rattle.memory.proofs.RowLaws.{view-length}
-use Rattle.room.specs.Rooms.{inSegment}
-use Rattle.room.proofs.Sums.{Counted, counted-start, counted-fits, counted-turn, placed-in}
-use Rattle.room.proofs.counts.count_rows.Statement.{statement}
-use Rattle.room.proofs.counts.count_rows.Tie as tie
+use Rattle.counts.specs.Segments.{inSegment}
+use Rattle.counts.proofs.Sums.{Counted, counted-start, counted-fits, counted-turn, placed-in}
+use Rattle.counts.proofs.count_rows.Statement.{statement}
+use Rattle.counts.proofs.count_rows.Tie as tie
 
 abbrev Inv-loop : tie.InvT-loop
 Inv-loop state n segment count₀ i₀ count i = Counted (inSegment segment) n i count (viewRows n state .rows)

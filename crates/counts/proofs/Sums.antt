@@ -22,7 +22,7 @@ use Rattle.rules.specs.Room.{takeOut, verifiedInMain, roomCanBeMade, mainVisits
 use Rattle.rules.proofs.RowLists.{find-at, total-without}
 use Rattle.rules.proofs.SoundTest.{sound-is}
 use Rattle.rules.proofs.Sizes.{few-rows, light}
-use Rattle.room.specs.Rooms.{placeIn, inSegment}
+use Rattle.counts.specs.Segments.{placeIn, inSegment}
 
 pub sum-down : (f : Row → ℕ) (k i : ℕ) (rs : List Row) → k ≡ suc i → i < length rs → total f (drop i rs) ≡ f (rowAt i rs) + total f (drop k rs)
 unfolding total

@@ -12,7 +12,7 @@ ghost use Rattle.rules.specs.Rows.{rowSize, rowAt, countRows};
 ghost use Rattle.rules.specs.Sound.{sound};
 ghost use Rattle.rules.specs.Room.{verifiedInMain, roomCanBeMade};
 ghost use Rattle.rules.specs.Memory.{headSize, capacity, viewRows};
-ghost use Rattle.room.specs.Rooms.{placeIn, inSegment};
+ghost use Rattle.counts.specs.Segments.{placeIn, inSegment};
 
 // A weight of one entry: B = 16 × max_entries.
 const UNITS: u64 = 16;

@@ -1,8 +1,8 @@
 use Rattle.rules.specs.Rows.{inMain}
 use Rattle.rules.specs.Room.{verifiedInMain}
 use borrow.Author.Needs.{needs}
-use Rattle.room.proofs.counts.is_verified_in_main.Statement.{statement}
-use Rattle.room.proofs.counts.is_verified_in_main.Tie as tie
+use Rattle.counts.proofs.is_verified_in_main.Statement.{statement}
+use Rattle.counts.proofs.is_verified_in_main.Tie as tie
 
 place-requires : tie.Need-place-requires
 place-requires c κs = search needs

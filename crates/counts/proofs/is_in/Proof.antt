@@ -1,6 +1,6 @@
 use borrow.Author.Needs.{needs}
-use Rattle.room.proofs.counts.is_in.Statement.{statement}
-use Rattle.room.proofs.counts.is_in.Tie as tie
+use Rattle.counts.proofs.is_in.Statement.{statement}
+use Rattle.counts.proofs.is_in.Tie as tie
 
 enum-told : tie.Need-enum-told
 enum-told c = search needs
