@@ -4,7 +4,7 @@ use Prim.Native.Nat.{ℕ, _+_, _*_, _-_, _/_, min}
 use mathlib.Core.Path.{_≡_}
 use mathlib.Core.List.{List, _++_}
 use mathlib.Core.Option.{Option, none, some}
-use mathlib.Core.Bool.{Bool, cond}
+use mathlib.Core.Bool.{cond}
 use lib.Dec.{eqb}
 use lib.ListN.{length, replicate}
 use Rattle.coord.specs.declared.node_addr.NodeAddr.{NodeAddr}
@@ -17,8 +17,7 @@ use Rattle.rules.specs.Rows.{find, rowSize}
 use Rattle.rules.specs.Sound.{sound}
 use Rattle.rules.specs.Calls.{Call, Refused}
 use Rattle.rules.specs.Commands.{reply}
-use Rattle.rules.specs.Lookups.{unexpiredRow}
-use Rattle.rules.specs.Memory.{headSize, entryOffset, placesOffset, coordEntrySize, coordEntriesOf, cut, capacity, view}
+use Rattle.rules.specs.Memory.{headSize, coordEntrySize, coordEntriesOf, cut, capacity, view}
 use Rattle.rules.specs.Lent.{Lent, call}
 
 abbrev pub addressFrom : List ℕ → NodeAddr
@@ -48,10 +47,6 @@ pub record Told (t : Lent) (number : ℕ) (values : List ℕ) (m : List ℕ) : T
 -- the part of the memory that begins at this byte
 abbrev pub PartAt : ℕ → List ℕ → List ℕ → Type 0
 PartAt at m part = cut at (length part) m ≡ part
-
--- a lookup that is done tells the first byte of the path in the key's own row, if it finds one
-abbrev pub PathAt : ℕ → ℕ → NodeAddr → ℕ → List ℕ → Type 0
-PathAt number at k now m = number ≡ 0 → (i : ℕ) → unexpiredRow k now (view m) ≡ some i → at ≡ headSize + i * rowSize + (entryOffset + placesOffset)
 
 -- the row of a key in a sound memory
 unfoldable pub rowHeld : NodeAddr → List ℕ → Option ℕ

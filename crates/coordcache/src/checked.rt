@@ -15,7 +15,8 @@ ghost use Rattle.rules.specs.Refusals.{Fresh};
 ghost use Rattle.rules.specs.Answers.{refusalOf};
 ghost use Rattle.rules.specs.Memory.{capacity, view};
 ghost use Rattle.rules.specs.Lent.{lent, call, gotPart};
-ghost use Rattle.boundary.specs.Exported.{addressFrom, pathFrom, funded, Told, PartAt, PathAt, rowTaken};
+ghost use Rattle.boundary.specs.Exported.{addressFrom, pathFrom, funded, Told, PartAt, rowTaken};
+ghost use Rattle.coordcache.specs.Places.{placeTold};
 
 // 1 if the memory is a sound state, else 0.
 #[no_mangle]
@@ -153,7 +154,7 @@ pub extern "C" fn coord_cache_get(
     values: &mut [u64; 5],
     at: &mut u64,
 ) -> u8
-    ensures { λ r. ⌜ Told (call (now (state .entry)) (Get (addressFrom (now (key .entry))) time)) r (now (values .exit)) (now (state .exit)) × PartAt (now (at .exit)) (now (state .exit)) (gotPart (addressFrom (now (key .entry))) time (now (state .entry))) × PathAt r (now (at .exit)) (addressFrom (now (key .entry))) time (now (state .exit)) ⌝ }
+    ensures { λ r. ⌜ Told (call (now (state .entry)) (Get (addressFrom (now (key .entry))) time)) r (now (values .exit)) (now (state .exit)) × PartAt (now (at .exit)) (now (state .exit)) (gotPart (addressFrom (now (key .entry))) time (now (state .entry))) × (now (at .exit) ≡ placeTold r (now (at .entry)) (addressFrom (now (key .entry))) time (now (state .exit))) ⌝ }
 {
     if !soundness::is_sound(state) {
         return tell(refused(1), values);
@@ -169,7 +170,7 @@ pub extern "C" fn coord_cache_get_and_touch(
     values: &mut [u64; 5],
     at: &mut u64,
 ) -> u8
-    ensures { λ r. ⌜ Told (call (now (state .entry)) (GetAndTouch (addressFrom (now (key .entry))) time)) r (now (values .exit)) (now (state .exit)) × PartAt (now (at .exit)) (now (state .exit)) (gotPart (addressFrom (now (key .entry))) time (now (state .exit))) × PathAt r (now (at .exit)) (addressFrom (now (key .entry))) time (now (state .exit)) ⌝ }
+    ensures { λ r. ⌜ Told (call (now (state .entry)) (GetAndTouch (addressFrom (now (key .entry))) time)) r (now (values .exit)) (now (state .exit)) × PartAt (now (at .exit)) (now (state .exit)) (gotPart (addressFrom (now (key .entry))) time (now (state .exit))) × (now (at .exit) ≡ placeTold r (now (at .entry)) (addressFrom (now (key .entry))) time (now (state .exit))) ⌝ }
 {
     if !soundness::is_sound(state) {
         return tell(refused(1), values);

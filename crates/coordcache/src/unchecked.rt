@@ -11,7 +11,8 @@ ghost use Rattle.rules.specs.Sound.{sound};
 ghost use Rattle.rules.specs.Calls.{Insert, InsertWithTtl, InsertFunded, InsertStated, InsertVerified, InsertVerifiedWithPathMtu, Get, GetAndTouch, Remove, Demote, ClearPathMtu, PurgeExpired, Clear, InvalidateViaNode, InvalidateOtherRoots, Stats, NextExpiry};
 ghost use Rattle.rules.specs.Memory.{capacity, view};
 ghost use Rattle.rules.specs.Lent.{call, gotPart};
-ghost use Rattle.boundary.specs.Exported.{addressFrom, pathFrom, funded, Told, PartAt, PathAt, rowTaken};
+ghost use Rattle.boundary.specs.Exported.{addressFrom, pathFrom, funded, Told, PartAt, rowTaken};
+ghost use Rattle.coordcache.specs.Places.{placeTold};
 
 // Hints: outcome, added weight, segment, unfunded, examined.
 #[no_mangle]
@@ -141,7 +142,7 @@ pub extern "C" fn coord_cache_get_unchecked(
     at: &mut u64,
 ) -> u8
     requires { ⌜ sound (capacity (now state)) (view (now state)) ≡ true ⌝ }
-    ensures { λ r. ⌜ Told (call (now (state .entry)) (Get (addressFrom (now (key .entry))) time)) r (now (values .exit)) (now (state .exit)) × PartAt (now (at .exit)) (now (state .exit)) (gotPart (addressFrom (now (key .entry))) time (now (state .entry))) × PathAt r (now (at .exit)) (addressFrom (now (key .entry))) time (now (state .exit)) ⌝ }
+    ensures { λ r. ⌜ Told (call (now (state .entry)) (Get (addressFrom (now (key .entry))) time)) r (now (values .exit)) (now (state .exit)) × PartAt (now (at .exit)) (now (state .exit)) (gotPart (addressFrom (now (key .entry))) time (now (state .entry))) × (now (at .exit) ≡ placeTold r (now (at .entry)) (addressFrom (now (key .entry))) time (now (state .exit))) ⌝ }
 {
     let k = address(key);
     let place = lookups::get_place(state, k, time);
@@ -158,7 +159,7 @@ pub extern "C" fn coord_cache_get_and_touch_unchecked(
     at: &mut u64,
 ) -> u8
     requires { ⌜ sound (capacity (now state)) (view (now state)) ≡ true ⌝ }
-    ensures { λ r. ⌜ Told (call (now (state .entry)) (GetAndTouch (addressFrom (now (key .entry))) time)) r (now (values .exit)) (now (state .exit)) × PartAt (now (at .exit)) (now (state .exit)) (gotPart (addressFrom (now (key .entry))) time (now (state .exit))) × PathAt r (now (at .exit)) (addressFrom (now (key .entry))) time (now (state .exit)) ⌝ }
+    ensures { λ r. ⌜ Told (call (now (state .entry)) (GetAndTouch (addressFrom (now (key .entry))) time)) r (now (values .exit)) (now (state .exit)) × PartAt (now (at .exit)) (now (state .exit)) (gotPart (addressFrom (now (key .entry))) time (now (state .exit))) × (now (at .exit) ≡ placeTold r (now (at .entry)) (addressFrom (now (key .entry))) time (now (state .exit))) ⌝ }
 {
     let k = address(key);
     let place = lookups::touch_place(state, k, time);

@@ -240,7 +240,8 @@ fn place_main(
     )
 }
 
-// 3. A verified key is Rejected, unless stated and differing. The paths are compared once, and only where a rule asks it.
+// 3. A verified key is Rejected, unless stated and differing. The paths are compared at most once, and not for a verified key that
+// isn't stated.
 pub fn place_held(
     state: &mut [u8],
     n: usize,

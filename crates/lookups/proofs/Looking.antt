@@ -18,7 +18,6 @@ use Rattle.types.specs.declared.answers.TouchAnswer.{TouchAnswer}
 use Rattle.rules.specs.Memory.{capacity, cut, viewRows, view}
 use Rattle.paths.specs.declared.path.PathPlace.{PathPlace}
 use Rattle.rules.specs.Lent.{Bytes, Typed, call, pathPart, foundPart, gotPart}
-use Rattle.rules.proofs.Addresses.{contradiction}
 use Rattle.rules.proofs.SoundTest.{RowOk}
 use Rattle.rules.proofs.RowLists.{every-at}
 use Rattle.rules.proofs.Public.{SoundMemory}
@@ -26,7 +25,7 @@ use Rattle.rules.proofs.SoundKept.{step-sound}
 use Rattle.rules.proofs.LentMemory.{capacity-same, lent-request}
 use Rattle.frame.proofs.Asking.{read-answer, read-memory}
 use Rattle.frame.proofs.Frame.{not-refused}
-use Rattle.lookups.specs.Steps.{StandsAt}
+use Rattle.lookups.specs.Steps.{StandsAt, placeFound}
 
 get-allowed : (l : List ℕ) (k : NodeAddr) (time : ℕ) → sound (capacity l) (view l) ≡ true → refusal (capacity l) (view l) (Asked (Get k time)) ≡ none
 unfolding pathGiven verifiedWrite drawsStamps
@@ -84,7 +83,8 @@ module _ (l : List ℕ) (n : ℕ) (k : NodeAddr) (time : ℕ) (s : SoundMemory l
 -- ---- where the part stands
 
 nothing-stands : (l : List ℕ) (k : NodeAddr) (time : ℕ) (r : PathPlace) → r ≡ record { at = 0; bytes = 0 } → [] ≡ gotPart k time l → unexpiredRow k time (view l) ≡ none → StandsAt k time l (r .at) (r .bytes)
-nothing-stands l k time r e g u = rw e (record { part = g; inside = omega arith; own = λ i q. contradiction {b = true} refl (cc) })
+unfolding placeFound
+nothing-stands l k time r e g u = rw e (record { part = g; inside = omega arith; own = rw u })
 
 pub absent-stands : (l : List ℕ) (n : ℕ) (k : NodeAddr) (time : ℕ) (r : PathPlace) → sound (capacity l) (view l) ≡ true → SoundMemory l n → find k (viewRows n l .rows) ≡ none → r ≡ record { at = 0; bytes = 0 } → StandsAt k time l (r .at) (r .bytes)
 absent-stands l n k time r h s f e = nothing-stands l k time r e (got-absent l n k time h s f) (row-absent l n k time s f)
@@ -92,15 +92,12 @@ absent-stands l n k time r h s f e = nothing-stands l k time r e (got-absent l n
 pub expired-stands : (l : List ℕ) (n : ℕ) (k : NodeAddr) (time i : ℕ) (r : PathPlace) → sound (capacity l) (view l) ≡ true → SoundMemory l n → find k (viewRows n l .rows) ≡ some i → expired time (rowAt i (viewRows n l .rows) .entry) ≡ true → r ≡ record { at = 0; bytes = 0 } → StandsAt k time l (r .at) (r .bytes)
 expired-stands l n k time i r h s f x e = nothing-stands l k time r e (got-expired l n k time i h s f x) (row-expired l n k time s i f x)
 
-same-row : (i j : ℕ) → some i ≡ some j → i ≡ j
-same-row i j e = cc
-
 pub path-stands : (l : List ℕ) (n : ℕ) (k : NodeAddr) (time i : ℕ) (r : PathPlace) → sound (capacity l) (view l) ≡ true → SoundMemory l n → i < n → find k (viewRows n l .rows) ≡ some i → expired time (rowAt i (viewRows n l .rows) .entry) ≡ false
     → r ≡ record { at = 40 + i * 1095 + 17; bytes = rowAt i (viewRows n l .rows) .entry .path .len * 32 } → StandsAt k time l (r .at) (r .bytes)
-unfolding pathPart
+unfolding pathPart placeFound
 path-stands l n k time i r h s j f x e =
     let b = path-short l n i s j in
-    rw e (record { part = got-held l n k time i _ h s f x refl; inside = omega (arith, s .long, b); own = λ m q. ap (λ (y : ℕ). 40 + y * 1095 + 17) (same-row i m (sym (row-held l n k time s i f x) ∙ q)) })
+    rw e (record { part = got-held l n k time i _ h s f x refl; inside = omega (arith, s .long, b); own = rw (row-held l n k time s i f x) })
 
 pub part-from : (at bytes : ℕ) (l p : List ℕ) → cut at bytes l ≡ p → cut at (at + bytes - at) l ≡ p
 part-from at bytes l p e = ap (λ (j : ℕ). cut at j l) (let z : at + bytes - at ≡ bytes = omega arith in z) ∙ e

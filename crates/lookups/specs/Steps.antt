@@ -2,11 +2,11 @@
 use Prim.Native.Nat.{ℕ, _+_, _*_, _≤_}
 use mathlib.Core.Path.{_≡_}
 use mathlib.Core.List.{List}
-use mathlib.Core.Option.{some}
 use mathlib.Core.Bool.{cond}
 use lib.ListN.{length}
 use Rattle.coord.specs.declared.node_addr.NodeAddr.{NodeAddr}
 use Rattle.types.specs.declared.answers.TouchAnswer.{TouchAnswer}
+use Rattle.rules.specs.Cases.{maybe}
 use Rattle.rules.specs.Records.{State}
 use Rattle.rules.specs.Rows.{rowAt, rowSize}
 use Rattle.rules.specs.Entries.{expired, refresh}
@@ -24,18 +24,22 @@ unfoldable pub touchSays : ℕ → ℕ → State → TouchAnswer
 touchSays i now s = cond (expired now (rowAt i (s .rows) .entry)) TouchAnswer.Absent (TouchAnswer.Found (rowAt i (s .rows) .entry .path .len))
 
 -- the first byte of the path in row i
-abbrev pub pathAt : ℕ → ℕ
-pathAt i = headSize + i * rowSize + (entryOffset + placesOffset)
+abbrev pub pathStart : ℕ → ℕ
+pathStart i = headSize + i * rowSize + (entryOffset + placesOffset)
+
+-- the first byte of an unexpired key's path; 0 where there is none
+unfoldable pub placeFound : NodeAddr → ℕ → List ℕ → ℕ
+placeFound k now l = maybe (unexpiredRow k now (view l)) 0 pathStart
 
 -- the part that a lookup hands back stands at these bytes of the memory, in the key's own row; no bytes where nothing is found
 pub record StandsAt (k : NodeAddr) (now : ℕ) (l : List ℕ) (at bytes : ℕ) : Type 0 where
   pub part : cut at bytes l ≡ gotPart k now l
   pub inside : at + bytes ≤ length l
-  pub own : (i : ℕ) → unexpiredRow k now (view l) ≡ some i → at ≡ pathAt i
+  pub own : at ≡ placeFound k now l
 
 -- where the path of row i stands after it; nowhere where the row leaves
 unfoldable pub touchedPlace : ℕ → ℕ → State → PathPlace
 touchedPlace i now s =
     cond (expired now (rowAt i (s .rows) .entry))
     (record { at = 0; bytes = 0 })
-    (record { at = pathAt i; bytes = rowAt i (s .rows) .entry .path .len * coordEntrySize })
+    (record { at = pathStart i; bytes = rowAt i (s .rows) .entry .path .len * coordEntrySize })

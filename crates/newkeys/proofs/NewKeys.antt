@@ -3,7 +3,6 @@ use mathlib.Core.Path.{_≡_, refl, sym, ap, _∙_, subst}
 use Prim.Native.Nat.{ℕ, _+_, _*_, _≤_, _<_}
 use native.Mathlib.Omega.{arith}
 use mathlib.Core.List.{List}
-use mathlib.Core.Option.{none}
 use mathlib.Core.Bool.{Bool, true, false}
 use lib.ListN.{length}
 use Rattle.coord.specs.declared.node_addr.NodeAddr.{NodeAddr}
@@ -16,7 +15,7 @@ use Rattle.types.specs.Values.{covers}
 use Rattle.types.specs.declared.placed.Segment.the-variants.{Main, Probation}
 use Rattle.types.specs.declared.placed.HintOutcome.the-variants.{Inserted}
 use Rattle.rules.specs.Records.{Entry, State}
-use Rattle.rules.specs.Rows.{find, mainWeight, total}
+use Rattle.rules.specs.Rows.{total}
 use Rattle.rules.specs.Sound.{sound}
 use Rattle.rules.specs.Entries.{newEntry}
 use Rattle.rules.specs.Room.{Walk, fileNew, makeRoom, makeProbationRoom, probationVisits}
@@ -29,7 +28,7 @@ use Rattle.counts.proofs.Sums.{probation-visits}
 use Rattle.filing.specs.declared.entry.NewEntry.{NewEntry}
 use Rattle.filing.specs.Filings.{entryFrom, Writable}
 use Rattle.stamps.specs.declared.answers.Lowest.{Lowest}
-use Rattle.stamps.specs.declared.answers.Lowest.the-variants.{At, Nothing}
+use Rattle.stamps.specs.declared.answers.Lowest.the-variants.{Nothing}
 use Rattle.room.specs.declared.answers.Room.{Room as RoomAnswer}
 use Rattle.room.specs.declared.answers.ProbationRoom.{ProbationRoom}
 use Rattle.room.specs.Rooms.{roomOf, withoutVictim, Leaves, Without, StampsLeft}

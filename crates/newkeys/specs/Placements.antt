@@ -11,9 +11,9 @@ use Rattle.coord.specs.declared.coord.Path.{Path}
 use Rattle.types.specs.declared.placed.HintOutcome.{HintOutcome}
 use Rattle.types.specs.declared.placed.HintOutcome.the-variants.{Inserted, Rejected}
 use Rattle.types.specs.declared.placed.Placed.{Placed}
-use Rattle.rules.specs.Records.{State, byUse, probation, mainBound}
+use Rattle.rules.specs.Records.{State, byUse, probation}
 use Rattle.rules.specs.Room.{Room, takeOut, fileNew, makeRoom}
-use Rattle.rules.specs.Rows.{rowAt, mainCount}
+use Rattle.rules.specs.Rows.{rowAt}
 use Rattle.rules.specs.Sound.{sound}
 use Rattle.rules.specs.Entries.{update}
 use Rattle.rules.specs.Placement.{PlaceResult, placeResult, rejected, heldOutcome}

@@ -16,7 +16,7 @@ ghost use Rattle.rules.specs.Memory.{capacity, viewRows, view};
 ghost use Rattle.rules.specs.Lent.{call};
 ghost use Rattle.placement.specs.Hints.{Places, Stands};
 
-// The row of a key, or how many rows there are without one.
+// The key's row or, where it has none, how many rows there are.
 pub enum KeyRow {
     At(usize),
     New(usize),
@@ -40,7 +40,7 @@ fn find_key(state: &mut [u8], n: usize, key: NodeAddr, time: u64) -> KeyRow
     }
 }
 
-// All four calls: refused by 2 or 3, or placed. A path is a thousand bytes and passed by value, so few functions lie between this
+// All four calls, and only with what such a call gives: refused by 2 or 3, or placed. A path is a thousand bytes and passed by value, so few functions lie between this
 // one and those that write it.
 pub fn hint(
     state: &mut [u8],

@@ -9,7 +9,7 @@ use Rattle.stamps.specs.declared.answers.Lowest.the-variants.{At, Nothing}
 use Rattle.room.specs.Rooms.{Without}
 use Rattle.filing.specs.Filings.{Over}
 
--- n rows, from which the victim leaves for a row of key k, or one of which is free; w is the weight that is stored without a victim
+-- n rows, from which the victim leaves for a row of key k, or one of which is free; w is the weight that is stored without the victim's row
 pub record Takes (k : NodeAddr) (v : Lowest) (w n : ℕ) (l : List ℕ) : Type 0 where
   pub free : v ≡ Nothing → Without k n l × (n < capacity l)
   pub over : (i : ℕ) → v ≡ At i → Over k n i w l

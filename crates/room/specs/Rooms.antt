@@ -3,14 +3,11 @@ use mathlib.Core.Path.{_≡_}
 use Prim.Native.Nat.{ℕ, _+_, _≤_, _<_}
 use mathlib.Core.List.{List}
 use mathlib.Core.Option.{none}
-use mathlib.Core.Bool.{Bool, true}
-use lib.Dec.{ltb, eqb}
+use mathlib.Core.Bool.{true}
 use lib.ListN.{length}
 use Rattle.coord.specs.declared.node_addr.NodeAddr.{NodeAddr}
-use Rattle.types.specs.declared.placed.Segment.{Segment}
-use Rattle.types.specs.declared.placed.Segment.the-variants.{Main, Probation}
 use Rattle.rules.specs.Records.{Row, State, probation, aside}
-use Rattle.rules.specs.Rows.{rowAt, atPlace, inMain, inProbation, find, withoutRow, total, weighRows, mainCount, mainWeight}
+use Rattle.rules.specs.Rows.{rowAt, atPlace, inMain, find, withoutRow, total, weighRows, mainCount, mainWeight}
 use Rattle.rules.specs.Sound.{sound, ascends}
 use Rattle.rules.specs.Room.{Chosen, Room, probationVisits, takeOut}
 use Rattle.rules.specs.Memory.{capacity, viewRows}

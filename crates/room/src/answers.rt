@@ -1,7 +1,7 @@
 use stamps::answers::Lowest;
 
-// Whether room was made in main, the rows there are, and the keys taken up. A victim that stands alone is left where it is, for the row
-// that takes its place; `stored` is the weight that is stored without it.
+// Whether room was made in main, the rows there are, and the keys taken up. Where one victim is enough, it is left where it
+// is, counted among the rows, for the row that takes its place; `stored` is then the weight that is stored without it.
 pub struct Room {
     pub made: bool,
     pub rows: usize,

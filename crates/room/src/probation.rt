@@ -19,7 +19,8 @@ ghost use Rattle.rules.specs.Memory.{headSize, capacity, viewRows};
 ghost use Rattle.stamps.specs.Walked.{walkFrom};
 ghost use Rattle.room.specs.Rooms.{withoutVictim, Leaves};
 
-// Where probation rows ≥ Q the lowest stamp is taken up, and restamped if stale. The first that is not is the victim, and the only one, since a sound state has at most Q; it is left for the row that takes its place.
+// Where probation rows ≥ Q the lowest stamp is taken up, and restamped if stale. The first that is not is the victim, and the only one,
+// since a sound state has at most Q; it is left for the row that takes its place.
 pub fn make_probation_room(state: &mut [u8], n: usize) -> ProbationRoom
     requires { ⌜ (headSize + n * rowSize ≤ length (now state)) × (sound (capacity (now state)) (viewRows n (now state)) ≡ true) × (viewRows n (now state) .seq + total probationVisits (viewRows n (now state) .rows) < 18446744073709551616) ⌝ }
     ensures { λ r. ⌜ (walkFrom (withoutVictim (r .victim) (viewRows n (now (state .exit)))) (r .examined) ≡ makeProbationRoom (viewRows n (now (state .entry)))) × Leaves (r .victim) (r .stored) (viewRows n (now (state .entry)) .rows) (viewRows n (now (state .exit)) .rows) ⌝ }

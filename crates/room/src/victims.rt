@@ -1,4 +1,5 @@
-// Room in main: victims are set aside, and leave together or go back.
+// Room in main. Victims are set aside: one alone is left for the row that takes its place, several leave together, and without room
+// all go back.
 use crate::answers::Room;
 use coord::node_addr::NodeAddr;
 use counts::count_rows;
@@ -119,7 +120,8 @@ fn drop_aside(state: &mut [u8], n: usize) -> usize
     sweep::sweep_rows(state, n, sweep::ASIDE, 0, none)
 }
 
-// Room for w in main, with a victim that stands alone left aside. Where there is room nothing is written, and where it can't be made no row leaves.
+// Room for w in main; where one victim is enough, it is left aside. Where there is room nothing is written, and where it can't be made
+// no row leaves.
 pub fn make_room(state: &mut [u8], n: usize, w: u64, time: u64) -> Room
     requires { ⌜ (headSize + n * rowSize ≤ length (now state)) × (sound (capacity (now state)) (viewRows n (now state)) ≡ true) × (viewRows n (now state) .seq + total (mainVisits time) (viewRows n (now state) .rows) < 18446744073709551616) ⌝ }
     ensures { λ r. ⌜ (roomOf r (viewRows (r .rows) (now (state .exit))) ≡ makeRoom time w (viewRows n (now (state .entry)))) × (r .rows ≤ n) × Leaves (r .victim) (r .stored) (viewRows n (now (state .entry)) .rows) (viewRows (r .rows) (now (state .exit)) .rows) × (r .made ≡ false → r .victim ≡ Nothing) ⌝ }

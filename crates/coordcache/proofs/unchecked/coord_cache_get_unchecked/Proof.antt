@@ -19,7 +19,7 @@ tell-requires c κs = search needs
 returns : tie.Need-returns
 returns c =
     let s = c .before .before .before .before .before .before in
-    got-told (s .args .state .now) _ _ (s .args .time) (c .before .before .before .get-place .result) (c .before .before .part-reply .result) _ _ _ (s .pre) (c .before .before .before .before .address .ensures .0) (c .before .before .before .get-place .ensures .0) (c .before .before .before .get-place .ensures .1) (c .before .before .part-reply .ensures) (c .tell .ensures .0) (c .tell .ensures .1) refl
+    got-told (s .args .state .now) _ _ (s .args .time) (c .before .before .before .get-place .result) (c .before .before .part-reply .result) _ _ (s .args .at .now) _ (s .pre) (c .before .before .before .before .address .ensures .0) (c .before .before .before .get-place .ensures .0) (c .before .before .before .get-place .ensures .1) (c .before .before .part-reply .ensures) (c .tell .ensures .0) (c .tell .ensures .1) refl
 
 pub coord-cache-get-unchecked-spec : {M : Type 1} → statement M
 coord-cache-get-unchecked-spec =
