@@ -78,7 +78,7 @@ uint8_t coord_cache_insert_verified_with_path_mtu(uint8_t *state, size_t len, co
 uint8_t coord_cache_insert_verified_with_path_mtu_unchecked(uint8_t *state, size_t len, const uint8_t key[16], const uint8_t *path,
                                                             size_t path_len, uint64_t time, uint16_t mtu, uint64_t values[5]);
 
-/* Lookups. values: 1 if found, elements of the path. The path stands in the state itself, in the key's row, from byte *at on, until the
+/* Lookups. values: 1 if found, how many elements the path has. The path stands in the state itself, in the key's row, from byte *at on, until the
  * next call that writes. Where nothing is found *at is 0, and where the call is refused it is left as it was. */
 uint8_t coord_cache_get(const uint8_t *state, size_t len, const uint8_t key[16], uint64_t time, uint64_t values[5], uint64_t *at);
 uint8_t coord_cache_get_unchecked(const uint8_t *state, size_t len, const uint8_t key[16], uint64_t time, uint64_t values[5],
@@ -87,7 +87,7 @@ uint8_t coord_cache_get_and_touch(uint8_t *state, size_t len, const uint8_t key[
 uint8_t coord_cache_get_and_touch_unchecked(uint8_t *state, size_t len, const uint8_t key[16], uint64_t time, uint64_t values[5],
                                             uint64_t *at);
 
-/* values: 1 if found. The bytes of the row that left go into row; where none was found, row is not written. */
+/* values: 1 if found. The bytes of the row that left go into row; where none was found, or the call is refused, row is left as it was. */
 uint8_t coord_cache_remove(uint8_t *state, size_t len, const uint8_t key[16], uint64_t values[5], uint8_t row[1095]);
 uint8_t coord_cache_remove_unchecked(uint8_t *state, size_t len, const uint8_t key[16], uint64_t values[5], uint8_t row[1095]);
 

@@ -229,7 +229,7 @@ impl State {
         self.stored(done(got), at)
     }
 
-    /// "1 if found, elements of the path. The path stands in the state itself, in the key's row, from byte *at on".
+    /// "1 if found, how many elements the path has. The path stands in the state itself, in the key's row, from byte *at on".
     #[inline]
     fn stored(&self, values: Values, at: u64) -> Option<&Path> {
         (values[0] == 1).then(|| Path::of(&self.0[at as usize..][..values[1] as usize * ELEMENT]))
