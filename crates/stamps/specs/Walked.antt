@@ -1,9 +1,11 @@
 -- The code's answers in the rules' terms.
 use Prim.Native.Nat.{ℕ}
+use mathlib.Core.List.{List}
 use mathlib.Core.Option.{Option, none, some}
 use mathlib.Core.Bool.{cond, _&&_, _||_}
 use lib.Dec.{ltb, eqb}
-use Rattle.rules.specs.Records.{State}
+use Rattle.rules.specs.Records.{Row, State}
+use Rattle.rules.specs.Rows.{rowAt, atPlace}
 use Rattle.rules.specs.Room.{Walk, Sought}
 use Rattle.stamps.specs.declared.answers.Lowest.{Lowest}
 use Rattle.stamps.specs.declared.answers.Lowest.the-variants.{At, Nothing}
@@ -32,3 +34,7 @@ bestRow Unstamped = none
 unfoldable pub lowerBest : Best → ℕ → ℕ → ℕ → Best
 lowerBest (Stamped j g p) i f q = cond (ltb g f || (eqb g f && ltb p q)) (Stamped j g p) (Stamped i f q)
 lowerBest Unstamped i f q = Stamped i f q
+
+-- row i against the best so far, if it is at place p
+unfoldable pub lowerRow : ℕ → ℕ → List Row → Best → Best
+lowerRow p i rs b = cond (atPlace p (rowAt i rs)) (lowerBest b i (rowAt i rs .stampFirst) (rowAt i rs .stampSeq)) b

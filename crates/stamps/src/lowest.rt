@@ -1,11 +1,15 @@
 // The lowest stamp of a place.
 use crate::answers::Lowest;
+use crate::answers::LowestOfMain;
+use crate::row::BY_USE;
+use crate::row::PARKED;
 ghost use mathlib.Core.Path.{_≡_};
 ghost use Prim.Native.Nat.{_+_, _*_, _≤_, _<_};
 ghost use lib.ListN.{length};
+ghost use Rattle.rules.specs.Records.{byUse, parked};
 ghost use Rattle.rules.specs.Rows.{rowSize, lowestStamp};
 ghost use Rattle.rules.specs.Memory.{headSize, viewRows};
-ghost use Rattle.stamps.specs.Walked.{lowerBest, bestRow, lowestOf};
+ghost use Rattle.stamps.specs.Walked.{lowerBest, lowerRow, bestRow, lowestOf};
 
 // The row with the lowest stamp so far, and that stamp.
 enum Best {
@@ -45,6 +49,19 @@ fn row_of(best: Best) -> Lowest
     }
 }
 
+// Row i against the best so far, if it is at this place.
+fn lower_row(state: &[u8], n: usize, i: usize, place: u8, best: Best) -> Best
+    requires { ⌜ (i < n) × (headSize + n * rowSize ≤ length (now state)) ⌝ }
+    ensures { λ r. ⌜ r ≡ lowerRow place i (viewRows n (now (state .entry)) .rows) best ⌝ }
+{
+    if memory::row::place(state, n, i) != place {
+        return best;
+    }
+    let first = memory::row::stamp_first(state, n, i);
+    let seq = memory::row::stamp_seq(state, n, i);
+    lower_of(best, i, first, seq)
+}
+
 // From the last row to the first, so that equal stamps go to the lower key.
 pub fn lowest_stamp(state: &[u8], n: usize, place: u8) -> Lowest
     requires { ⌜ headSize + n * rowSize ≤ length (now state) ⌝ }
@@ -54,11 +71,26 @@ pub fn lowest_stamp(state: &[u8], n: usize, place: u8) -> Lowest
     let mut i = n;
     while 0 < i {
         i -= 1;
-        if memory::row::place(state, n, i) == place {
-            let first = memory::row::stamp_first(state, n, i);
-            let seq = memory::row::stamp_seq(state, n, i);
-            best = lower_of(best, i, first, seq);
-        }
+        best = lower_row(state, n, i, place, best);
     }
     row_of(best)
+}
+
+// The lowest stamps of both places of main, in one pass.
+pub fn lowest_of_main(state: &[u8], n: usize) -> LowestOfMain
+    requires { ⌜ headSize + n * rowSize ≤ length (now state) ⌝ }
+    ensures { λ r. ⌜ (lowestOf (r .parked) ≡ lowestStamp parked (viewRows n (now (state .entry)) .rows)) × (lowestOf (r .by_use) ≡ lowestStamp byUse (viewRows n (now (state .entry)) .rows)) ⌝ }
+{
+    let mut parked = Best::Nothing;
+    let mut by_use = Best::Nothing;
+    let mut i = n;
+    while 0 < i {
+        i -= 1;
+        parked = lower_row(state, n, i, PARKED, parked);
+        by_use = lower_row(state, n, i, BY_USE, by_use);
+    }
+    LowestOfMain {
+        parked: row_of(parked),
+        by_use: row_of(by_use),
+    }
 }

@@ -1,9 +1,9 @@
 // Seeking a victim.
 use crate::answers::Lowest;
 use crate::answers::Victim;
+use crate::lowest::lowest_of_main;
 use crate::lowest::lowest_stamp;
 use crate::row::BY_USE;
-use crate::row::PARKED;
 use crate::row::is_stale;
 use crate::row::is_verified;
 use crate::row::park;
@@ -11,46 +11,61 @@ use crate::row::restamp;
 ghost use mathlib.Core.Path.{_≡_};
 ghost use Prim.Native.Nat.{_+_, _*_, _≤_, _<_};
 ghost use lib.ListN.{length};
-ghost use Rattle.rules.specs.Rows.{rowSize};
+ghost use Rattle.rules.specs.Records.{byUse};
+ghost use Rattle.rules.specs.Rows.{rowSize, lowestStamp};
 ghost use Rattle.rules.specs.Room.{visitsLeft, returnLapsed, nextVictim};
 ghost use Rattle.rules.specs.Memory.{headSize, viewRows};
-ghost use Rattle.stamps.specs.Walked.{walkFrom, soughtOf};
+ghost use Rattle.stamps.specs.Walked.{lowestOf, walkFrom, soughtOf};
 
-// Parked rows with until < now return to ByUse, lowest stamp first; how many they were.
-fn return_lapsed(state: &mut [u8], n: usize, time: u64) -> u64
+// The parked rows that returned, and the row that is taken up after them.
+struct Returned {
+    rows: u64,
+    next: Lowest,
+}
+
+// Parked rows with until < now return to ByUse, lowest stamp first. The pass that finds none also finds the lowest ByUse stamp.
+fn return_lapsed(state: &mut [u8], n: usize, time: u64) -> Returned
     requires { ⌜ (headSize + n * rowSize ≤ length (now state)) × (viewRows n (now state) .seq + visitsLeft time (walkFrom (viewRows n (now state)) 0) < 18446744073709551616) ⌝ }
-    ensures { λ r. ⌜ walkFrom (viewRows n (now (state .exit))) r ≡ returnLapsed (visitsLeft time (walkFrom (viewRows n (now (state .entry))) 0)) time (walkFrom (viewRows n (now (state .entry))) 0) ⌝ }
+    ensures { λ r. ⌜ (walkFrom (viewRows n (now (state .exit))) (r .rows) ≡ returnLapsed (visitsLeft time (walkFrom (viewRows n (now (state .entry))) 0)) time (walkFrom (viewRows n (now (state .entry))) 0)) × (lowestOf (r .next) ≡ lowestStamp byUse (viewRows n (now (state .exit)) .rows)) ⌝ }
 {
-    let mut returned: u64 = 0;
+    let mut rows: u64 = 0;
     loop {
-        match lowest_stamp(state, n, PARKED) {
-            Lowest::Nothing => return returned,
+        let lowest = lowest_of_main(state, n);
+        let parked = lowest.parked;
+        let next = lowest.by_use;
+        match parked {
+            Lowest::Nothing => return Returned { rows, next },
             Lowest::At(i) => {
                 if time <= memory::row::stamp_first(state, n, i) {
-                    return returned;
+                    return Returned { rows, next };
                 }
                 restamp(state, n, i);
-                returned += 1;
+                rows += 1;
             }
         }
     }
 }
 
-// The walk over ByUse ends at the first entry that is neither restamped nor parked, and yields it.
+// The walk over ByUse ends at the first entry that is neither restamped nor parked, and yields it. Each row that is taken up costs one
+// pass over the rows.
 pub fn next_victim(state: &mut [u8], n: usize, time: u64) -> Victim
     requires { ⌜ (headSize + n * rowSize ≤ length (now state)) × (viewRows n (now state) .seq + visitsLeft time (walkFrom (viewRows n (now state)) 0) < 18446744073709551616) ⌝ }
     ensures { λ r. ⌜ soughtOf r (viewRows n (now (state .exit))) ≡ nextVictim time (walkFrom (viewRows n (now (state .entry))) 0) ⌝ }
 {
-    let mut examined = return_lapsed(state, n, time);
+    let returned = return_lapsed(state, n, time);
+    let mut examined = returned.rows;
+    let mut next = returned.next;
     let found = loop {
-        match lowest_stamp(state, n, BY_USE) {
+        match next {
             Lowest::Nothing => break Lowest::Nothing,
             Lowest::At(i) => {
                 examined += 1;
                 if is_stale(state, n, i) {
                     restamp(state, n, i);
+                    next = lowest_stamp(state, n, BY_USE);
                 } else if is_verified(state, n, i, time) {
                     park(state, n, i);
+                    next = lowest_stamp(state, n, BY_USE);
                 } else {
                     break Lowest::At(i);
                 }

@@ -17,32 +17,29 @@ use Rattle.stamps.proofs.walk.return_lapsed.Statement.{statement}
 use Rattle.stamps.proofs.walk.return_lapsed.Tie as tie
 
 abbrev Inv-loop : tie.InvT-loop
-Inv-loop state₀ n time returned₀ state returned = (length state ≡ length state₀) × Going (waking time) time (walkFrom (viewRows n state₀) 0) (walkFrom (viewRows n state) returned)
+Inv-loop state₀ n time rows₀ state rows = (length state ≡ length state₀) × Going (waking time) time (walkFrom (viewRows n state₀) 0) (walkFrom (viewRows n state) rows)
 
 abbrev μ-loop : tie.MeasureT-loop
-μ-loop state₀ n time returned₀ state returned = total (mainVisits time) (viewRows n state .rows)
+μ-loop state₀ n time rows₀ state rows = total (mainVisits time) (viewRows n state .rows)
 
 -- the row that was found
-row : (c : tie.After-i Inv-loop μ-loop) → lowestStamp parked (viewRows (c .before .before .before .before .before .before .args .n) (c .before .before .before .before .loop .state) .rows) ≡ some (c .i .given .0 .0)
-row c = found-at _ _ _ (c .before .before .lowest-stamp .ensures) (c .i .given .1)
+row : (c : tie.After-parked Inv-loop μ-loop) → lowestStamp parked (viewRows (c .before .before .before .before .before .before .args .n) (c .before .before .before .before .loop .state) .rows) ≡ some (c .parked .given .0 .0)
+row c = found-at _ _ _ (c .before .before .lowest-of-main .ensures .0) (c .parked .given .1)
 
-inside : (c : tie.After-i Inv-loop μ-loop) → c .i .given .0 .0 < c .before .before .before .before .before .before .args .n
+inside : (c : tie.After-parked Inv-loop μ-loop) → c .parked .given .0 .0 < c .before .before .before .before .before .before .args .n
 inside c = rw view-length at (lowest-at parked _ _ (row c) .inside)
 
 -- a turn
 turn : (c : tie.Else1 Inv-loop μ-loop) →
-    let p = c .before .before .before .before in
-    let q = p .before .before .before .before in
-    let s = q .before .before .args in
-    let v = viewRows (s .n) (q .loop .state) in
-    Turn (waking (s .time)) (s .time) (p .i .given .0 .0) (q .loop .returned) v (restamp (p .i .given .0 .0) v)
+    let v = viewRows (c .before .before .before .before .before .before .before .before .before .before .args .n) (c .before .before .before .before .before .before .before .before .loop .state) in
+    Turn (waking (c .before .before .before .before .before .before .before .before .before .before .args .time)) (c .before .before .before .before .before .before .before .before .before .before .args .time) (c .before .before .before .before .parked .given .0 .0) (c .before .before .before .before .before .before .before .before .loop .rows) v (restamp (c .before .before .before .before .parked .given .0 .0) v)
 turn c = lapsed-turn _ _ _ _ (row (c .before .before .before .before)) (rw (c .before .stamp-first .ensures) at (c .if1 .left))
 
 loop-holds : tie.Need-loop-holds Inv-loop μ-loop
 loop-holds c = (refl, going-start (waking (c .before .args .time)) (c .before .args .time) (walkFrom (viewRows (c .before .args .n) (c .before .args .state .now)) 0))
 
-lowest-stamp-requires : tie.Need-lowest-stamp-requires Inv-loop μ-loop
-lowest-stamp-requires c κs = omega arith
+lowest-of-main-requires : tie.Need-lowest-of-main-requires Inv-loop μ-loop
+lowest-of-main-requires c κs = omega arith
 
 enum-told : tie.Need-enum-told Inv-loop μ-loop
 enum-told c = search needs
@@ -54,10 +51,10 @@ returns : tie.Need-returns Inv-loop μ-loop
 returns c =
     let l = c .before .before .before .before .loop in
     let s = c .before .before .before .before .before .before .args in
-    lapsed-ends (s .time) (l .returned) (walkFrom (viewRows (s .n) (s .state .now)) 0) (viewRows (s .n) (l .state)) (found-none _ _ (c .before .before .lowest-stamp .ensures) (c .enum-told .given .1)) (l .inv .1)
+    (lapsed-ends (s .time) (l .rows) (walkFrom (viewRows (s .n) (s .state .now)) 0) (viewRows (s .n) (l .state)) (found-none _ _ (c .before .before .lowest-of-main .ensures .0) (c .enum-told .given .1)) (l .inv .1), c .before .before .lowest-of-main .ensures .1)
 
-enum-known-i : tie.Need-enum-known-i Inv-loop μ-loop
-enum-known-i c = search needs
+enum-known-parked : tie.Need-enum-known-parked Inv-loop μ-loop
+enum-known-parked c = search needs
 
 stamp-first-requires : tie.Need-stamp-first-requires Inv-loop μ-loop
 stamp-first-requires c κs =
@@ -71,8 +68,7 @@ returns-2 : tie.Need-returns-2 Inv-loop μ-loop
 returns-2 c =
     let l = c .before .before .before .before .before .before .before .before .loop in
     let s = c .before .before .before .before .before .before .before .before .before .before .args in
-    let p = c .before .before .before .before in
-    lapsed-rests (s .time) (p .i .given .0 .0) (l .returned) (walkFrom (viewRows (s .n) (s .state .now)) 0) (viewRows (s .n) (l .state)) (row p) (rw (c .before .stamp-first .ensures) at (c .if1 .taken)) (l .inv .1)
+    (lapsed-rests (s .time) (c .before .before .before .before .parked .given .0 .0) (l .rows) (walkFrom (viewRows (s .n) (s .state .now)) 0) (viewRows (s .n) (l .state)) (row (c .before .before .before .before)) (rw (c .before .stamp-first .ensures) at (c .if1 .taken)) (l .inv .1), c .before .before .before .before .before .before .lowest-of-main .ensures .1)
 
 restamp-requires : tie.Need-restamp-requires Inv-loop μ-loop
 restamp-requires c κs =
@@ -81,8 +77,8 @@ restamp-requires c κs =
     let l = c .before .before .before .before .before .before .before .before .before .loop in
     (i, omega arith, omega (arith, t .less, l .inv .1 .paced .stamps))
 
-add-returned : tie.Need-add-returned Inv-loop μ-loop
-add-returned c =
+add-rows : tie.Need-add-rows Inv-loop μ-loop
+add-rows c =
     let t = turn (c .before .before .before .before) in
     let l = c .before .before .before .before .before .before .before .before .before .before .before .before .loop in
     omega (arith, t .less, l .inv .1 .paced .left)
@@ -98,7 +94,7 @@ loop-again c =
     let s = c .before .before .before .before .before .before .before .before .before .before .before .before .before .before .args in
     let t = turn (c .before .before .before .before) in
     let k = c .before .before .restamp .kept .0 in
-    (omega arith, going-on (waking (s .time)) (s .time) _ (l .returned) (walkFrom (viewRows (s .n) (s .state .now)) 0) (viewRows (s .n) (l .state)) _ _ t (c .before .before .restamp .ensures) (l .inv .1))
+    (omega arith, going-on (waking (s .time)) (s .time) _ (l .rows) (walkFrom (viewRows (s .n) (s .state .now)) 0) (viewRows (s .n) (l .state)) _ _ t (c .before .before .restamp .ensures) (l .inv .1))
 
 pub return-lapsed-spec : {M : Type 1} → statement M
 return-lapsed-spec =
@@ -107,15 +103,15 @@ return-lapsed-spec =
     Inv-loop
     μ-loop
     loop-holds
-    lowest-stamp-requires
+    lowest-of-main-requires
     enum-told
     same-length
     returns
-    enum-known-i
+    enum-known-parked
     stamp-first-requires
     same-length-2
     returns-2
     restamp-requires
-    add-returned
+    add-rows
     loop-less
     loop-again)
