@@ -14,8 +14,8 @@ ghost use Rattle.rules.specs.Room.{verifiedInMain, roomCanBeMade};
 ghost use Rattle.rules.specs.Memory.{headSize, capacity, viewRows};
 ghost use Rattle.counts.specs.Segments.{placeIn, inSegment};
 
-// A weight of one entry: B = 16 × max_entries.
-const UNITS: u64 = 16;
+// What B allows for each entry: B = 16 × max_entries.
+const ADDRS_PER_ENTRY: u64 = 16;
 
 // Whether a place belongs to a segment.
 fn is_in(place: u8, segment: Segment) -> bool
@@ -46,7 +46,7 @@ pub fn cut_to_bound(w: u64, max: u64) -> u64
     requires { ⌜ max ≤ 1024 ⌝ }
     ensures { λ r. ⌜ r ≡ min w (weightBound max) ⌝ }
 {
-    let bound = UNITS * max;
+    let bound = ADDRS_PER_ENTRY * max;
     if w < bound { w } else { bound }
 }
 
@@ -55,7 +55,7 @@ pub fn has_room(max: u64, count: u64, stored: u64, w: u64) -> bool
     requires { ⌜ (max ≤ 1024) × (stored ≤ 262144) × (w ≤ weightBound max) ⌝ }
     ensures { λ r. ⌜ r ≡ ltb count max && leb (stored + w) (weightBound max) ⌝ }
 {
-    (count < max) & (stored + w <= UNITS * max)
+    (count < max) & (stored + w <= ADDRS_PER_ENTRY * max)
 }
 
 fn is_verified_in_main(state: &[u8], n: usize, i: usize, time: u64) -> bool

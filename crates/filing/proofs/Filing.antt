@@ -62,6 +62,11 @@ in-order r w i s a h m e =
     let o = absent-insert r (s .rows) i a h in
     (sym o, omega (arith, total-insert (λ (x : Row). cond (ltb (x .place) 2) (x .weight) 0) r (s .rows)), sym (ap length o ∙ one-longer i r (s .rows) (absent-inside (r .key) (s .rows) i h)))
 
+-- a new stored weight leaves seq as it was
+pub same-seq : (v : ℕ) (s t : State) → t ≡ withStoredWeight v s → t .seq ≡ s .seq
+unfolding withStoredWeight
+same-seq v s t e = ap (λ (x : State). x .seq) e
+
 pub filed : (k : NodeAddr) (e : Entry) (w p i v q : ℕ) (r : Row) (s t u x : State) → ascends (s .rows) ≡ true → searched k (s .rows) ≡ Absent i → s .storedWeight ≡ mainWeight s → v ≡ s .storedWeight + cond (ltb p 2) w 0 → q ≡ s .seq + 1
     → t ≡ withStoredWeight v s → u ≡ withSeq q t → r ≡ record { key = k; entry = e; place = p; stampFirst = e .lastUsed; stampSeq = q; weight = w } → x ≡ inserted i r u → x ≡ fileNew k e w p s
 unfolding fileNew inserted withStoredWeight withSeq

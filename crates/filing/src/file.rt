@@ -77,9 +77,8 @@ pub fn file_new(state: &mut [u8], n: usize, key: NodeAddr, e: NewEntry, weight: 
 {
     let i = index_for(state, n, key);
     let stored = stored_with(state, weight, place);
-    let seq = head::seq(state) + 1;
     head::set_stored_weight(state, n, stored);
-    head::set_seq(state, n, seq);
+    let seq = head::next_key(state, n);
     let path = e.path;
     insert_row(
         state,
@@ -118,9 +117,8 @@ pub fn file_over(
     ensures { λ _. ⌜ viewRows n (now (state .exit)) ≡ fileNew key (entryFrom e) weight place (takeOut i (viewRows n (now (state .entry)))) ⌝ }
 {
     let j = index_without(state, n, i, key);
-    let next = head::seq(state) + 1;
     head::set_stored_weight(state, n, weight_with(stored, weight, place));
-    head::set_seq(state, n, next);
+    let next = head::next_key(state, n);
     head::set_row_count(state, n, n as u64);
     let path = e.path;
     exchange_row(

@@ -25,7 +25,7 @@ fn update_at(state: &mut [u8], n: usize, i: usize, path: Path, time: u64, ttl: u
 }
 
 // Row i gets this weight, and is stamped with last_used.
-fn refile_at(state: &mut [u8], n: usize, i: usize, weight: u8)
+fn refile(state: &mut [u8], n: usize, i: usize, weight: u8)
     requires { ⌜ (i < n) × (headSize + n * rowSize ≤ length (now state)) × (viewRows n (now state) .seq < 18446744073709551615) ⌝ }
     ensures { λ _. ⌜ viewRows n (now (state .exit)) ≡ refile (rowAt i (viewRows n (now (state .entry)) .rows) .entry) weight i (viewRows n (now (state .entry))) ⌝ }
 {
@@ -33,7 +33,7 @@ fn refile_at(state: &mut [u8], n: usize, i: usize, weight: u8)
     stamps::row::restamp(state, n, i);
 }
 
-pub fn update_and_refile(
+pub fn update_in_place(
     state: &mut [u8],
     n: usize,
     i: usize,
@@ -46,5 +46,5 @@ pub fn update_and_refile(
     ensures { λ _. ⌜ viewRows n (now (state .exit)) ≡ refile (update path time ttl (rowAt i (viewRows n (now (state .entry)) .rows) .entry)) weight i (viewRows n (now (state .entry))) ⌝ }
 {
     update_at(state, n, i, path, time, ttl);
-    refile_at(state, n, i, weight);
+    refile(state, n, i, weight);
 }

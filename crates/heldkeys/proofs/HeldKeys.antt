@@ -23,7 +23,7 @@ use Rattle.rules.specs.Rows.{rowAt, find, inMain, inProbation, atPlace, mainCou
 use Rattle.rules.specs.Sound.{sound}
 use Rattle.rules.specs.Entries.{verified, update}
 use Rattle.rules.specs.Room.{refile, refiled, stamp, raised, fileNew, takeOut, makeRoom}
-use Rattle.rules.specs.Placement.{placeResult, rejected, heldOutcome, staysVerified, placeProbation, placeMain, placeHeld}
+use Rattle.rules.specs.Placement.{placeResult, rejected, heldOutcome, staysVerified, promote, placeProbation, grow, placeMain, placeHeld}
 use Rattle.rules.specs.Memory.{cut, rowOf, capacity, viewRows}
 use Rattle.rules.proofs.Addresses.{contradiction}
 use Rattle.rules.proofs.SoundTest.{RowOk}
@@ -41,7 +41,7 @@ use Rattle.room.proofs.Leaving.{without-none}
 use Rattle.room.proofs.Files.{shown, laid-out, free-in-probation, reached-without, filed}
 use Rattle.filing.specs.declared.entry.NewEntry.{NewEntry}
 use Rattle.filing.specs.Filings.{entryFrom, Writable}
-use Rattle.newkeys.specs.Placements.{Placing, Holds, rejectedAs, promotedAs, promotion, growth}
+use Rattle.newkeys.specs.Placements.{Placing, Holds, rejectedAs, promotedAs}
 use Rattle.replacing.specs.Replacing.{Takes}
 use Rattle.replacing.proofs.Seeking.{Sought, free-main, free-state, still-without, takes}
 use Rattle.newkeys.proofs.NewKeys.{filed-as, left-as-is}
@@ -151,8 +151,8 @@ module _ (k : NodeAddr) (n i : ℕ) (l m : List ℕ) (ho : Holds k n i l) (z : l
 
     pub promoted-is : (p : Path) (ttl u a b : ℕ) (o : HintOutcome) (e : NewEntry) (y : List ℕ) (d : Placed) → w ≡ u → a ≡ u → o ≡ heldOutcome p (rowAt i (viewRows n l .rows)) → entryFrom e ≡ update p time ttl (rowAt i (viewRows n l .rows) .entry)
         → b ≡ cond (r .made) 0 2 → viewRows (length (fileNew k (entryFrom e) u b (withoutVictim (r .victim) (viewRows (r .rows) x)) .rows)) y ≡ fileNew k (entryFrom e) u b (withoutVictim (r .victim) (viewRows (r .rows) x)) → d ≡ promotedAs o (r .made) a (r .examined)
-        → Placing (promotion k p time ttl u i (viewRows n l)) d y
-    unfolding promotion placeResult roomOf left
+        → Placing (promote k p time ttl u i (viewRows n l)) d y
+    unfolding promote placeResult roomOf left
     promoted-is p ttl u a b o e y d wu au oh eu bc f ds = rw (← (sought-there u wu), ← oh) (go (r .made) refl)
       where
         filed-at : (c : ℕ) → b ≡ c → viewRows (length (fileNew k (update p time ttl (rowAt i (viewRows n l .rows) .entry)) u c left .rows)) y ≡ fileNew k (update p time ttl (rowAt i (viewRows n l .rows) .entry)) u c left
@@ -164,14 +164,14 @@ module _ (k : NodeAddr) (n i : ℕ) (l m : List ℕ) (ho : Holds k n i l) (z : l
 
     pub grown-is : (p : Path) (ttl u a : ℕ) (stated : Bool) (o : HintOutcome) (e : NewEntry) (y : List ℕ) → w ≡ u → a ≡ u - rowAt i (viewRows n l .rows) .weight → o ≡ heldOutcome p (rowAt i (viewRows n l .rows)) → entryFrom e ≡ update p time ttl (rowAt i (viewRows n l .rows) .entry)
         → r .made || stated ≡ true → viewRows (length (fileNew k (entryFrom e) u 0 (withoutVictim (r .victim) (viewRows (r .rows) x)) .rows)) y ≡ fileNew k (entryFrom e) u 0 (withoutVictim (r .victim) (viewRows (r .rows) x))
-        → Placing (growth k p time ttl stated u i (viewRows n l)) (record { outcome = o; «added_weight» = a; segment = Main; unfunded = false; examined = r .examined }) y
-    unfolding growth placeResult roomOf left
+        → Placing (grow k p time ttl stated u i (viewRows n l)) (record { outcome = o; «added_weight» = a; segment = Main; unfunded = false; examined = r .examined }) y
+    unfolding grow placeResult roomOf left
     grown-is p ttl u a stated o e y wu au oh eu h f = rw (← (sought-there u wu), h)
         (record { says = rw (au, oh); state = filed-as k (update p time ttl (rowAt i (viewRows n l .rows) .entry)) (entryFrom e) u u 0 left left y refl eu refl f })
 
     pub goes-back : (p : Path) (ttl u : ℕ) (stated : Bool) (row y : List ℕ) (d : Placed) → w ≡ u → row ≡ cut (40 + i * 1095) 1095 l → r .made || stated ≡ false → viewRows (r .rows + 1) y ≡ fileNew k (rowOf row .entry) (rowOf row .weight) 0 (viewRows (r .rows) x)
-        → d ≡ rejectedAs false (r .examined) → Placing (growth k p time ttl stated u i (viewRows n l)) d y
-    unfolding growth rejected placeResult roomOf left
+        → d ≡ rejectedAs false (r .examined) → Placing (grow k p time ttl stated u i (viewRows n l)) d y
+    unfolding grow rejected placeResult roomOf left
     goes-back p ttl u stated row y d wu rc h f ds =
         let g : rowOf row ≡ rowAt i (viewRows n l .rows) = ap rowOf rc ∙ sym (row-at n i l (ho .inside)) in
         rw (← (sought-there u wu), h)
@@ -192,11 +192,11 @@ module _ (k : NodeAddr) (p : Path) (time ttl : ℕ) (f : Funding) (i : ℕ) (s :
       rw c1 (subst (λ (x : ℕ). Placing (placeResult (heldOutcome p (rowAt i (s .rows))) 0 Probation false 0 (refile (update p time ttl (rowAt i (s .rows) .entry)) x i s)) d y) e h)
 
   pub probation-covered : (w v : ℕ) (d : Placed) (y : List ℕ) → w ≡ max (pathWeight p) (rowAt i (s .rows) .weight) → v ≡ w → covers f v ≡ true
-      → Placing (promotion k p time ttl w i s) d y → Placing (placeProbation k p time ttl f i s) d y
-  unfolding placeProbation promotion
+      → Placing (promote k p time ttl w i s) d y → Placing (placeProbation k p time ttl f i s) d y
+  unfolding placeProbation promote
   probation-covered w v d y e a c h =
       let c1 : covers f (max (pathWeight p) (rowAt i (s .rows) .weight)) ≡ true = subst (λ (x : ℕ). covers f x ≡ true) (a ∙ e) c in
-      rw c1 (subst (λ (x : ℕ). Placing (promotion k p time ttl x i s) d y) e h)
+      rw c1 (subst (λ (x : ℕ). Placing (promote k p time ttl x i s) d y) e h)
 
   -- 5
   module _ (stated : Bool) where
@@ -217,12 +217,12 @@ module _ (k : NodeAddr) (p : Path) (time ttl : ℕ) (f : Funding) (i : ℕ) (s :
         let c1 : covers f (pathWeight p - rowAt i (s .rows) .weight) ≡ false = subst (λ (z : ℕ). covers f z ≡ false) (added-is w b a e x g) c in
         rw (c0, c1) (record { says = r; state = subst (λ (z : State). viewRows (length (z .rows)) l ≡ z) (sym q) (left-as-is n l) })
 
-    pub main-grows : (w b a : ℕ) (d : Placed) (y : List ℕ) → w ≡ pathWeight p → b ≡ rowAt i (s .rows) .weight → b < w → a ≡ w - b → covers f a ≡ true → Placing (growth k p time ttl stated w i s) d y → Placing (placeMain k p time ttl f stated i s) d y
-    unfolding placeMain growth
+    pub main-grows : (w b a : ℕ) (d : Placed) (y : List ℕ) → w ≡ pathWeight p → b ≡ rowAt i (s .rows) .weight → b < w → a ≡ w - b → covers f a ≡ true → Placing (grow k p time ttl stated w i s) d y → Placing (placeMain k p time ttl f stated i s) d y
+    unfolding placeMain grow
     main-grows w b a d y e x h g c r =
         let c0 : leb (pathWeight p) (rowAt i (s .rows) .weight) ≡ false = lt-leb (pathWeight p) (rowAt i (s .rows) .weight) (omega (arith, e, x)) in
         let c1 : covers f (pathWeight p - rowAt i (s .rows) .weight) ≡ true = subst (λ (z : ℕ). covers f z ≡ true) (added-is w b a e x g) c in
-        rw (c0, c1) (subst (λ (z : ℕ). Placing (growth k p time ttl stated z i s) d y) e r)
+        rw (c0, c1) (subst (λ (z : ℕ). Placing (grow k p time ttl stated z i s) d y) e r)
 
     -- 3
     pub held-rejected : (n : ℕ) (l : List ℕ) (b : Bool) (d : Placed) → s ≡ viewRows n l → b ≡ staysVerified p time stated (rowAt i (s .rows)) → b ≡ true → d ≡ rejectedAs false 0 → Placing (placeHeld k p time ttl f stated i s) d l

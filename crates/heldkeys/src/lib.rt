@@ -4,7 +4,7 @@ use coord::node_addr::NodeAddr;
 use filing::entry::updated_entry;
 use filing::file::file_again;
 use filing::file::save_row;
-use filing::refile::update_and_refile;
+use filing::refile::update_in_place;
 use memory::row;
 use memory::rows::remove_row;
 use newkeys::reject;
@@ -29,11 +29,11 @@ ghost use Rattle.rules.specs.Rows.{rowAt, inMain};
 ghost use Rattle.rules.specs.Sound.{sound};
 ghost use Rattle.rules.specs.Entries.{update};
 ghost use Rattle.rules.specs.Room.{refile};
-ghost use Rattle.rules.specs.Placement.{placeResult, heldOutcome, placeProbation, placeMain, placeHeld};
+ghost use Rattle.rules.specs.Placement.{placeResult, heldOutcome, promote, placeProbation, grow, placeMain, placeHeld};
 ghost use Rattle.rules.specs.Refusals.{lastSeq};
 ghost use Rattle.rules.specs.Memory.{capacity, viewRows};
 ghost use Rattle.filing.specs.Filings.{Writable};
-ghost use Rattle.newkeys.specs.Placements.{Placing, Holds, promotedAs, promotion, growth};
+ghost use Rattle.newkeys.specs.Placements.{Placing, Holds, promotedAs};
 
 // Unchanged where the paths are the same, else Changed.
 fn outcome_of(same: bool) -> HintOutcome
@@ -61,7 +61,7 @@ fn refile_held(
     requires { ⌜ (sound (capacity (now state)) (viewRows n (now state)) ≡ true) × (i < n) × Writable path × (viewRows n (now state) .seq ≤ lastSeq) × (outcome ≡ heldOutcome path (rowAt i (viewRows n (now state) .rows))) ⌝ }
     ensures { λ r. ⌜ Placing (placeResult (heldOutcome path (rowAt i (viewRows n (now (state .entry)) .rows))) 0 segment false 0 (refile (update path time ttl (rowAt i (viewRows n (now (state .entry)) .rows) .entry)) weight i (viewRows n (now (state .entry))))) r (now (state .exit)) ⌝ }
 {
-    update_and_refile(state, n, i, path, time, ttl, weight);
+    update_in_place(state, n, i, path, time, ttl, weight);
     Placed {
         outcome: outcome,
         added_weight: 0,
@@ -113,7 +113,7 @@ fn promote(
     outcome: HintOutcome,
 ) -> Placed
     requires { ⌜ Holds key n i (now state) × Writable path × (viewRows n (now state) .seq ≤ lastSeq) × (inMain (rowAt i (viewRows n (now state) .rows)) ≡ false) × (outcome ≡ heldOutcome path (rowAt i (viewRows n (now state) .rows))) ⌝ }
-    ensures { λ r. ⌜ Placing (promotion key path time ttl weight i (viewRows n (now (state .entry)))) r (now (state .exit)) ⌝ }
+    ensures { λ r. ⌜ Placing (promote key path time ttl weight i (viewRows n (now (state .entry)))) r (now (state .exit)) ⌝ }
 {
     let e = updated_entry(state, n, i, path, time, ttl);
     remove_row(state, n, i);
@@ -168,7 +168,7 @@ fn grow(
     outcome: HintOutcome,
 ) -> Placed
     requires { ⌜ Holds key n i (now state) × Writable path × (viewRows n (now state) .seq ≤ lastSeq) × (inMain (rowAt i (viewRows n (now state) .rows)) ≡ true) × (units ≡ weight) × (added ≡ weight - rowAt i (viewRows n (now state) .rows) .weight) × (outcome ≡ heldOutcome path (rowAt i (viewRows n (now state) .rows))) ⌝ }
-    ensures { λ r. ⌜ Placing (growth key path time ttl stated weight i (viewRows n (now (state .entry)))) r (now (state .exit)) ⌝ }
+    ensures { λ r. ⌜ Placing (grow key path time ttl stated weight i (viewRows n (now (state .entry)))) r (now (state .exit)) ⌝ }
 {
     let e = updated_entry(state, n, i, path, time, ttl);
     let saved = save_row(state, n, i);

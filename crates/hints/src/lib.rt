@@ -2,7 +2,7 @@
 // and public.
 use coord::coord::Path;
 use coord::node_addr::NodeAddr;
-use placement::hint;
+use placement::place_hint;
 use types::answers::HintAnswer;
 use types::placed::Funding;
 ghost use mathlib.Core.Path.{_≡_};
@@ -18,7 +18,7 @@ pub fn insert_unchecked(state: &mut [u8], key: NodeAddr, path: Path, time: u64) 
     ensures { λ r. ⌜ (hintSaid r ≡ call (now (state .entry)) (Insert key path time) .answer) × (now (state .exit) ≡ call (now (state .entry)) (Insert key path time) .memory) ⌝ }
 {
     let default_ttl = memory::head::default_ttl(state);
-    hint(
+    place_hint(
         state,
         key,
         path,
@@ -48,7 +48,7 @@ pub fn insert_with_ttl_unchecked(
     requires { ⌜ sound (capacity (now state)) (view (now state)) ≡ true ⌝ }
     ensures { λ r. ⌜ (hintSaid r ≡ call (now (state .entry)) (InsertWithTtl key path time ttl) .answer) × (now (state .exit) ≡ call (now (state .entry)) (InsertWithTtl key path time ttl) .memory) ⌝ }
 {
-    hint(state, key, path, time, ttl, Funding::Uncharged, false)
+    place_hint(state, key, path, time, ttl, Funding::Uncharged, false)
 }
 
 pub fn insert_with_ttl(
@@ -77,7 +77,7 @@ pub fn insert_funded_unchecked(
     ensures { λ r. ⌜ (hintSaid r ≡ call (now (state .entry)) (InsertFunded key path time funding) .answer) × (now (state .exit) ≡ call (now (state .entry)) (InsertFunded key path time funding) .memory) ⌝ }
 {
     let default_ttl = memory::head::default_ttl(state);
-    hint(state, key, path, time, default_ttl, funding, false)
+    place_hint(state, key, path, time, default_ttl, funding, false)
 }
 
 pub fn insert_funded(
@@ -108,7 +108,7 @@ pub fn insert_stated_unchecked(
 {
     let default_ttl = memory::head::default_ttl(state);
     let stated = path.starts_at(key);
-    hint(state, key, path, time, default_ttl, funding, stated)
+    place_hint(state, key, path, time, default_ttl, funding, stated)
 }
 
 pub fn insert_stated(

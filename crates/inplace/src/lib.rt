@@ -4,10 +4,8 @@ use counts::count_rows;
 use counts::cut_to_bound;
 use counts::has_room;
 use entries::add_times;
-use filing::refile::update_and_refile;
+use filing::refile::update_in_place;
 use memory::head;
-use memory::head::HEAD;
-use memory::head::ROW;
 use memory::row;
 use stamps::row::PROBATION;
 use types::entry::PathMtu;
@@ -46,21 +44,17 @@ fn mark_verified(state: &mut [u8], n: usize, i: usize, time: u64)
     ensures { λ _. ⌜ viewRows n (now (state .exit)) ≡ rewrite (markVerified time) i (viewRows n (now (state .entry))) ⌝ }
 {
     let until = add_times(time, VERIFIED_TTL_MS);
-    raw::numbers::write_u8(state, HEAD + i * ROW + 1068, VERIFIED);
-    raw::numbers::write_u64(state, HEAD + i * ROW + 1069, until);
+    row::set_source(state, n, i, VERIFIED, until);
 }
 
 // Row i's entry gets the MTU, if one is given.
-fn set_mtu(state: &mut [u8], n: usize, i: usize, mtu: PathMtu)
+fn set_given_mtu(state: &mut [u8], n: usize, i: usize, mtu: PathMtu)
     requires { ⌜ (i < n) × (headSize + n * rowSize ≤ length (now state)) ⌝ }
     ensures { λ _. ⌜ viewRows n (now (state .exit)) ≡ rewrite (givenMtu mtu) i (viewRows n (now (state .entry))) ⌝ }
 {
     match mtu {
         PathMtu::Unknown => {}
-        PathMtu::Known(m) => {
-            raw::numbers::write_u8(state, HEAD + i * ROW + 1065, SOME_MTU);
-            raw::numbers::write_u16(state, HEAD + i * ROW + 1066, m);
-        }
+        PathMtu::Known(m) => row::set_mtu(state, n, i, SOME_MTU, m),
     }
 }
 
@@ -115,8 +109,8 @@ pub fn verify_in_place(
 {
     let ttl = head::default_ttl(state);
     let stored = stored_without(state, n, i) + raw::numbers::wide(weight);
-    update_and_refile(state, n, i, path, time, ttl, weight);
+    update_in_place(state, n, i, path, time, ttl, weight);
     mark_verified(state, n, i, time);
-    set_mtu(state, n, i, mtu);
+    set_given_mtu(state, n, i, mtu);
     head::set_stored_weight(state, n, stored);
 }

@@ -12,7 +12,7 @@ use Rattle.rules.specs.Records.{Row, State}
 use Rattle.rules.specs.Rows.{rowAt, atPlace, inMain, find, changeRow, withRows}
 use Rattle.rules.specs.Sound.{sound}
 use Rattle.rules.specs.Entries.{markHint}
-use Rattle.rules.specs.Room.{refile, stamp, raised, refiled}
+use Rattle.rules.specs.Room.{refile, restamp, stamp, raised, refiled}
 use Rattle.rules.specs.Lookups.{rewrite, withEntry, demoted, holds}
 use Rattle.rules.specs.Calls.{Demote, KeyHeld, pathGiven, verifiedWrite, drawsStamps}
 use Rattle.rules.specs.Refusals.{refusal, Asked, seqSpent, perform, gives}
@@ -21,41 +21,26 @@ use Rattle.rules.specs.Lent.{Bytes, call}
 use Rattle.rules.proofs.RowLists.{length-change}
 use Rattle.rules.proofs.Refused.{refused-three, refused-only-one}
 use Rattle.rules.proofs.Public.{SoundMemory, RefusedCall, call-refused}
-use Rattle.memory.specs.Edits.{withSeq, stampedAs}
 use Rattle.frame.proofs.Frame.{done-with}
-use Rattle.memory.proofs.Changes.{change-at, change-twice, row-changed}
+use Rattle.memory.proofs.Changes.{change-at, change-twice}
 use Rattle.keyed.specs.Steps.{demotedAt}
 
 -- ---- demote
 
-used-kept : (i : ℕ) (s : State) → i < length (s .rows) → rowAt i (rewrite markHint i s .rows) .entry .lastUsed ≡ rowAt i (s .rows) .entry .lastUsed
-unfolding rewrite withRows withEntry markHint
-used-kept i s h = ap (λ (r : Row). r .entry .lastUsed) (row-changed (λ r. withEntry (markHint (r .entry)) r) i (s .rows) h)
-
-seq-kept : (i : ℕ) (s : State) → rewrite markHint i s .seq + 1 ≡ s .seq + 1
-unfolding rewrite withRows
-seq-kept i s = refl
-
-row-refiled : (q : ℕ) (r : Row) → r .place ≡ 1 → stampedAs 0 (r .entry .lastUsed) q (withEntry (markHint (r .entry)) r) ≡ refiled q (markHint (r .entry)) (r .weight) r
-unfolding stampedAs withEntry markHint refiled inMain
-row-refiled q r p = rw (lt-ltb (r .place) 2 (omega arith))
-
-refile-is : (i : ℕ) (s : State) → rowAt i (s .rows) .place ≡ 1
-    → withRows (changeRow (stampedAs 0 (rowAt i (s .rows) .entry .lastUsed) (s .seq + 1)) i (withSeq (s .seq + 1) (rewrite markHint i s) .rows)) (withSeq (s .seq + 1) (rewrite markHint i s)) ≡ demotedAt i s
-unfolding demotedAt atPlace refile stamp raised rewrite withRows withSeq
-refile-is i s p =
+restamped : (i : ℕ) (s : State) → rowAt i (s .rows) .place ≡ 1 → restamp i (rewrite markHint i s) ≡ demotedAt i s
+unfolding demotedAt atPlace refile restamp stamp raised refiled inMain rewrite withRows withEntry
+restamped i s p =
     let r = rowAt i (s .rows) in
-    let e : changeRow (stampedAs 0 (r .entry .lastUsed) (s .seq + 1)) i (changeRow (λ x. withEntry (markHint (x .entry)) x) i (s .rows)) ≡ changeRow (refiled (s .seq + 1) (markHint (r .entry)) (r .weight)) i (s .rows) =
-    change-twice (λ x. withEntry (markHint (x .entry)) x) (stampedAs 0 (r .entry .lastUsed) (s .seq + 1)) i (s .rows) ∙ change-at _ (refiled (s .seq + 1) (markHint (r .entry)) (r .weight)) i (s .rows) (row-refiled (s .seq + 1) r p) in
+    let q = s .seq + 1 in
+    let f : Row → Row = λ x. withEntry (markHint (x .entry)) x in
+    let g : Row → Row = λ x. refiled q (x .entry) (x .weight) x in
+    let e : changeRow g i (changeRow f i (s .rows)) ≡ changeRow (refiled q (markHint (r .entry)) (r .weight)) i (s .rows) =
+    change-twice f g i (s .rows) ∙ change-at _ (refiled q (markHint (r .entry)) (r .weight)) i (s .rows) refl in
     rw (eq-eqb (r .place) 1 p) (rw e)
 
--- a parked row's bytes: a hint, seq raised, place ByUse, stamped with last_used
-pub demoted-parked : (i used q : ℕ) (s t u x : State) → i < length (s .rows) → rowAt i (s .rows) .place ≡ 1 → t ≡ rewrite markHint i s → used ≡ rowAt i (t .rows) .entry .lastUsed → q ≡ t .seq + 1 → u ≡ withSeq q t
-    → x ≡ withRows (changeRow (stampedAs 0 used q) i (u .rows)) u → x ≡ demotedAt i s
-demoted-parked i used q s t u x h p et eu eq ew ex =
-    let a : used ≡ rowAt i (s .rows) .entry .lastUsed = eu ∙ ap (λ (y : State). rowAt i (y .rows) .entry .lastUsed) et ∙ used-kept i s h in
-    let b : q ≡ s .seq + 1 = eq ∙ ap (λ (y : State). y .seq + 1) et ∙ seq-kept i s in
-    ex ∙ ap (λ (y : State). withRows (changeRow (stampedAs 0 used q) i (y .rows)) y) (ew ∙ ap (withSeq q) et) ∙ rw (a, b) (refile-is i s p)
+-- a parked row becomes a hint, and is refiled
+pub demoted-parked : (i : ℕ) (s t x : State) → rowAt i (s .rows) .place ≡ 1 → t ≡ rewrite markHint i s → x ≡ restamp i t → x ≡ demotedAt i s
+demoted-parked i s t x p et ex = ex ∙ ap (restamp i) et ∙ restamped i s p
 
 pub demoted-in-place : (i : ℕ) (s x : State) → (rowAt i (s .rows) .place ≡ 1 → ⊥) → x ≡ rewrite markHint i s → x ≡ demotedAt i s
 unfolding demotedAt atPlace

@@ -51,11 +51,8 @@ fn demote_at(state: &mut [u8], n: usize, i: usize)
 {
     let place = memory::row::place(state, n, i);
     memory::row::mark_hint(state, n, i);
-    if place == 1 {
-        let seq = memory::head::seq(state) + 1;
-        let used = memory::row::last_used(state, n, i);
-        memory::head::set_seq(state, n, seq);
-        memory::row::set_stamp(state, n, i, 0, used, seq);
+    if place == stamps::row::PARKED {
+        stamps::row::restamp(state, n, i);
     }
 }
 

@@ -14,9 +14,8 @@ use Rattle.rules.specs.Memory.{cut, leNumber, leBytes, coordEntriesOf, coordEnt
 use Rattle.coord.specs.declared.coord.CoordEntry.{CoordEntry}
 use Rattle.rules.specs.Lent.{Small}
 use Rattle.rules.proofs.ViewLaws.{num-le, length-le}
-use Rattle.rules.specs.Entries.{markHint, dropMtu}
 use Rattle.raw.proofs.StoreLaws.{take-sets-le, drop-sets-ge, take-sets-in, drop-sets-add, sets-more, cut-else, cut-same, cut-cut}
-use Rattle.memory.specs.Edits.{withSeq, withStoredWeight, withRowCount, stampedAs, withWeight, withTimes}
+use Rattle.memory.specs.Edits.{withSeq, withStoredWeight, withRowCount, stampedAs, withWeight, withTimes, withSource, withMtu}
 
 -- ---- what is read of a row
 
@@ -130,37 +129,37 @@ times-view l n i u x hu hx h k =
     rw (e, two-stores l (40 + i * 1095 + 1049) 8 u 8 x)
     (entry-store (withTimes u x) 1033 (leBytes 8 u ++ leBytes 8 x) (rw length-append (omega (arith, length-le 8 u, length-le 8 x))) (times-entry u x hu hx) n i l h k)
 
-hint-entry : (e : List ℕ) → length e ≡ 1061 → entryOf (sets e 1052 (leBytes 1 1 ++ leBytes 8 0)) ≡ markHint (entryOf e)
-unfolding entryOf markHint
-hint-entry e h =
-    let vs : List ℕ = leBytes 1 1 ++ leBytes 8 0 in
-    let s = stored e (leBytes 1 1) (leBytes 8 0) 1052 1 8 (length-le 1 1) (length-le 8 0) (omega arith) in
+source-entry : (v u : ℕ) → Small 1 v → Small 8 u → (e : List ℕ) → length e ≡ 1061 → entryOf (sets e 1052 (leBytes 1 v ++ leBytes 8 u)) ≡ withSource v u (entryOf e)
+unfolding entryOf withSource
+source-entry v u hv hu e h =
+    let vs : List ℕ = leBytes 1 v ++ leBytes 8 u in
+    let s = stored e (leBytes 1 v) (leBytes 8 u) 1052 1 8 (length-le 1 v) (length-le 8 u) (omega arith) in
     let b : (k w : ℕ) → k + w ≤ 1052 → cut k w (sets e 1052 vs) ≡ cut k w e = λ k w q. cut-else e vs 1052 k w (inl q) in
-    rw (path-store e vs 1052 (omega arith), b 1025 8 (omega arith), b 1033 8 (omega arith), b 1041 8 (omega arith), b 1049 1 (omega arith), b 1050 2 (omega arith), s .0, s .1, num-le 1 1 (omega arith), num-le 8 0 (omega arith))
+    rw (path-store e vs 1052 (omega arith), b 1025 8 (omega arith), b 1033 8 (omega arith), b 1041 8 (omega arith), b 1049 1 (omega arith), b 1050 2 (omega arith), s .0, s .1, num-le 1 v hv, num-le 8 u hu)
 
-pub hint-view : (l : List ℕ) (n i : ℕ) → i < n → 40 + n * 1095 ≤ length l
-    → viewRows n (sets (sets l (40 + i * 1095 + 1068) (leBytes 1 1)) (40 + i * 1095 + 1069) (leBytes 8 0)) ≡ rewrite markHint i (viewRows n l)
-hint-view l n i h k =
+pub source-view : (l : List ℕ) (n i v u : ℕ) → Small 1 v → Small 8 u → i < n → 40 + n * 1095 ≤ length l
+    → viewRows n (sets (sets l (40 + i * 1095 + 1068) (leBytes 1 v)) (40 + i * 1095 + 1069) (leBytes 8 u)) ≡ rewrite (withSource v u) i (viewRows n l)
+source-view l n i v u hv hu h k =
     let e : 40 + i * 1095 + 1069 ≡ 40 + i * 1095 + 1068 + 1 = omega arith in
-    rw (e, two-stores l (40 + i * 1095 + 1068) 1 1 8 0)
-    (entry-store markHint 1052 (leBytes 1 1 ++ leBytes 8 0) (rw length-append (omega (arith, length-le 1 1, length-le 8 0))) hint-entry n i l h k)
+    rw (e, two-stores l (40 + i * 1095 + 1068) 1 v 8 u)
+    (entry-store (withSource v u) 1052 (leBytes 1 v ++ leBytes 8 u) (rw length-append (omega (arith, length-le 1 v, length-le 8 u))) (source-entry v u hv hu) n i l h k)
 
-mtu-entry : (e : List ℕ) → length e ≡ 1061 → entryOf (sets e 1049 (leBytes 1 0 ++ leBytes 2 0)) ≡ dropMtu (entryOf e)
-unfolding entryOf dropMtu
-mtu-entry e h =
-    let vs : List ℕ = leBytes 1 0 ++ leBytes 2 0 in
-    let n : length vs ≡ 3 = length-append (leBytes 1 0) (leBytes 2 0) ∙ omega (arith, length-le 1 0, length-le 2 0) in
-    let s = stored e (leBytes 1 0) (leBytes 2 0) 1049 1 2 (length-le 1 0) (length-le 2 0) (omega arith) in
+mtu-entry : (v m : ℕ) → Small 1 v → Small 2 m → (e : List ℕ) → length e ≡ 1061 → entryOf (sets e 1049 (leBytes 1 v ++ leBytes 2 m)) ≡ withMtu v m (entryOf e)
+unfolding entryOf withMtu
+mtu-entry v m hv hm e h =
+    let vs : List ℕ = leBytes 1 v ++ leBytes 2 m in
+    let n : length vs ≡ 3 = length-append (leBytes 1 v) (leBytes 2 m) ∙ omega (arith, length-le 1 v, length-le 2 m) in
+    let s = stored e (leBytes 1 v) (leBytes 2 m) 1049 1 2 (length-le 1 v) (length-le 2 m) (omega arith) in
     let b : (k w : ℕ) → k + w ≤ 1049 → cut k w (sets e 1049 vs) ≡ cut k w e = λ k w q. cut-else e vs 1049 k w (inl q) in
     let a : (k w : ℕ) → 1052 ≤ k → cut k w (sets e 1049 vs) ≡ cut k w e = λ k w q. cut-else e vs 1049 k w (inr (omega arith)) in
-    rw (path-store e vs 1049 (omega arith), b 1025 8 (omega arith), b 1033 8 (omega arith), b 1041 8 (omega arith), s .0, s .1, a 1052 1 (omega arith), a 1053 8 (omega arith), num-le 1 0 (omega arith), num-le 2 0 (omega arith))
+    rw (path-store e vs 1049 (omega arith), b 1025 8 (omega arith), b 1033 8 (omega arith), b 1041 8 (omega arith), s .0, s .1, a 1052 1 (omega arith), a 1053 8 (omega arith), num-le 1 v hv, num-le 2 m hm)
 
-pub mtu-view : (l : List ℕ) (n i : ℕ) → i < n → 40 + n * 1095 ≤ length l
-    → viewRows n (sets (sets l (40 + i * 1095 + 1065) (leBytes 1 0)) (40 + i * 1095 + 1066) (leBytes 2 0)) ≡ rewrite dropMtu i (viewRows n l)
-mtu-view l n i h k =
+pub mtu-view : (l : List ℕ) (n i v m : ℕ) → Small 1 v → Small 2 m → i < n → 40 + n * 1095 ≤ length l
+    → viewRows n (sets (sets l (40 + i * 1095 + 1065) (leBytes 1 v)) (40 + i * 1095 + 1066) (leBytes 2 m)) ≡ rewrite (withMtu v m) i (viewRows n l)
+mtu-view l n i v m hv hm h k =
     let e : 40 + i * 1095 + 1066 ≡ 40 + i * 1095 + 1065 + 1 = omega arith in
-    rw (e, two-stores l (40 + i * 1095 + 1065) 1 0 2 0)
-    (entry-store dropMtu 1049 (leBytes 1 0 ++ leBytes 2 0) (rw length-append (omega (arith, length-le 1 0, length-le 2 0))) mtu-entry n i l h k)
+    rw (e, two-stores l (40 + i * 1095 + 1065) 1 v 2 m)
+    (entry-store (withMtu v m) 1049 (leBytes 1 v ++ leBytes 2 m) (rw length-append (omega (arith, length-le 1 v, length-le 2 m))) (mtu-entry v m hv hm) n i l h k)
 
 place-row : (p : ℕ) → Small 1 p → (c : List ℕ) → length c ≡ 1095 → rowOf (sets c 1077 (leBytes 1 p)) ≡ stampedAs p (rowOf c .stampFirst) (rowOf c .stampSeq) (rowOf c)
 unfolding rowOf stampedAs

@@ -26,6 +26,12 @@ withWeight w r = record { key = r .key; entry = r .entry; place = r .place; stam
 unfoldable pub withTimes : ℕ → ℕ → Entry → Entry
 withTimes used expires e = record { path = e .path; createdAt = e .createdAt; lastUsed = used; expiresAt = expires; mtuMark = e .mtuMark; mtu = e .mtu; source = e .source; verifiedUntil = e .verifiedUntil }
 
+unfoldable pub withSource : ℕ → ℕ → Entry → Entry
+withSource source until e = record { path = e .path; createdAt = e .createdAt; lastUsed = e .lastUsed; expiresAt = e .expiresAt; mtuMark = e .mtuMark; mtu = e .mtu; source = source; verifiedUntil = until }
+
+unfoldable pub withMtu : ℕ → ℕ → Entry → Entry
+withMtu mark m e = record { path = e .path; createdAt = e .createdAt; lastUsed = e .lastUsed; expiresAt = e .expiresAt; mtuMark = mark; mtu = m; source = e .source; verifiedUntil = e .verifiedUntil }
+
 -- of a memory l with n rows, m has the same head, the same bytes past them, and these j rows in front
 pub record OnlyRows (n j : ℕ) (rs : List Row) (l m : List ℕ) : Type 0 where
   pub size : length m ≡ length l

@@ -1,6 +1,6 @@
 // The head's five numbers, and R.
 ghost use mathlib.Core.Path.{_≡_};
-ghost use Prim.Native.Nat.{_≤_};
+ghost use Prim.Native.Nat.{_+_, _≤_, _<_};
 ghost use lib.ListN.{length};
 ghost use Rattle.rules.specs.Memory.{headSize, capacity, viewRows};
 ghost use Rattle.memory.specs.Edits.{withSeq, withStoredWeight, withRowCount};
@@ -60,6 +60,16 @@ pub fn set_seq(state: &mut [u8], n: usize, v: u64)
     ensures { λ _. ⌜ viewRows n (now (state .exit)) ≡ withSeq v (viewRows n (now (state .entry))) ⌝ }
 {
     raw::numbers::write_u64(state, 16, v);
+}
+
+// The seq of a new stamp: raised by 1, and used.
+pub fn next_key(state: &mut [u8], n: usize) -> u64
+    requires { ⌜ (headSize ≤ length (now state)) × (viewRows n (now state) .seq < 18446744073709551615) ⌝ }
+    ensures { λ r. ⌜ (r ≡ viewRows n (now (state .entry)) .seq + 1) × (viewRows n (now (state .exit)) ≡ withSeq r (viewRows n (now (state .entry)))) ⌝ }
+{
+    let next = seq(state) + 1;
+    set_seq(state, n, next);
+    next
 }
 
 pub fn set_stored_weight(state: &mut [u8], n: usize, v: u64)

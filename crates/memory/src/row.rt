@@ -8,7 +8,7 @@ ghost use Rattle.rules.specs.Rows.{rowSize, rowAt, changeRow, withRows};
 ghost use Rattle.rules.specs.Entries.{markHint, dropMtu};
 ghost use Rattle.rules.specs.Lookups.{rewrite};
 ghost use Rattle.rules.specs.Memory.{headSize, viewRows};
-ghost use Rattle.memory.specs.Edits.{stampedAs, withWeight, withTimes};
+ghost use Rattle.memory.specs.Edits.{stampedAs, withWeight, withTimes, withSource, withMtu};
 
 pub fn path_len(state: &[u8], n: usize, i: usize) -> u8
     requires { ⌜ (i < n) × (headSize + n * rowSize ≤ length (now state)) ⌝ }
@@ -103,13 +103,30 @@ pub fn set_times(state: &mut [u8], n: usize, i: usize, used: u64, expires: u64)
     raw::numbers::write_u64(state, HEAD + i * ROW + 1057, expires);
 }
 
+// The entry's source and verified_until.
+pub fn set_source(state: &mut [u8], n: usize, i: usize, source: u8, until: u64)
+    requires { ⌜ (i < n) × (headSize + n * rowSize ≤ length (now state)) ⌝ }
+    ensures { λ _. ⌜ viewRows n (now (state .exit)) ≡ rewrite (withSource source until) i (viewRows n (now (state .entry))) ⌝ }
+{
+    raw::numbers::write_u8(state, HEAD + i * ROW + 1068, source);
+    raw::numbers::write_u64(state, HEAD + i * ROW + 1069, until);
+}
+
 // The entry becomes a hint.
 pub fn mark_hint(state: &mut [u8], n: usize, i: usize)
     requires { ⌜ (i < n) × (headSize + n * rowSize ≤ length (now state)) ⌝ }
     ensures { λ _. ⌜ viewRows n (now (state .exit)) ≡ rewrite markHint i (viewRows n (now (state .entry))) ⌝ }
 {
-    raw::numbers::write_u8(state, HEAD + i * ROW + 1068, 1);
-    raw::numbers::write_u64(state, HEAD + i * ROW + 1069, 0);
+    set_source(state, n, i, 1, 0);
+}
+
+// The entry's MTU, and the mark that it has one.
+pub fn set_mtu(state: &mut [u8], n: usize, i: usize, mark: u8, mtu: u16)
+    requires { ⌜ (i < n) × (headSize + n * rowSize ≤ length (now state)) ⌝ }
+    ensures { λ _. ⌜ viewRows n (now (state .exit)) ≡ rewrite (withMtu mark mtu) i (viewRows n (now (state .entry))) ⌝ }
+{
+    raw::numbers::write_u8(state, HEAD + i * ROW + 1065, mark);
+    raw::numbers::write_u16(state, HEAD + i * ROW + 1066, mtu);
 }
 
 // The entry's MTU goes.
@@ -117,8 +134,7 @@ pub fn drop_mtu(state: &mut [u8], n: usize, i: usize)
     requires { ⌜ (i < n) × (headSize + n * rowSize ≤ length (now state)) ⌝ }
     ensures { λ _. ⌜ viewRows n (now (state .exit)) ≡ rewrite dropMtu i (viewRows n (now (state .entry))) ⌝ }
 {
-    raw::numbers::write_u8(state, HEAD + i * ROW + 1065, 0);
-    raw::numbers::write_u16(state, HEAD + i * ROW + 1066, 0);
+    set_mtu(state, n, i, 0, 0);
 }
 
 // The row's place and stamp.

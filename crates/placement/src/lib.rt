@@ -22,8 +22,8 @@ pub enum KeyRow {
     New(usize),
 }
 
-// 1. The key's row. An expired one is removed, and the key is new.
-fn find_key(state: &mut [u8], n: usize, key: NodeAddr, time: u64) -> KeyRow
+// 1. An expired row of the key is removed, and the key is new; where its row is, if it has one.
+fn remove_expired(state: &mut [u8], n: usize, key: NodeAddr, time: u64) -> KeyRow
     requires { ⌜ sound (capacity (now state)) (viewRows n (now state)) ≡ true ⌝ }
     ensures { λ r. ⌜ Stands r key time n (now (state .entry)) (now (state .exit)) ⌝ }
 {
@@ -40,9 +40,9 @@ fn find_key(state: &mut [u8], n: usize, key: NodeAddr, time: u64) -> KeyRow
     }
 }
 
-// All four calls, and only with what such a call gives: refused by 2 or 3, or placed. A path is a thousand bytes and passed by value, so few functions lie between this
-// one and those that write it.
-pub fn hint(
+// A hint of one of the four calls, with the operands that such a call gives: refused by 2 or 3, or placed. A path is a thousand bytes and
+// passed by value, so few functions lie between this one and those that write it.
+pub fn place_hint(
     state: &mut [u8],
     key: NodeAddr,
     path: Path,
@@ -59,7 +59,7 @@ pub fn hint(
         return HintAnswer::Refused(number);
     }
     let n = memory::head::row_count(state) as usize;
-    let at = find_key(state, n, key, time);
+    let at = remove_expired(state, n, key, time);
     match at {
         KeyRow::At(i) => {
             HintAnswer::Placed(place_held(state, n, i, key, path, time, ttl, funding, stated))

@@ -22,7 +22,7 @@ use Rattle.rules.specs.Records.{Entry, State, byUse, parked, probation}
 use Rattle.rules.specs.Rows.{atPlace, find, inMain, rowAt, withOnlyRows, withRows, zeroRows}
 use Rattle.rules.specs.Entries.{dropMtu, expired, markHint, markVerified, newEntry, refresh, setMtu, update}
 use Rattle.rules.specs.Room.{Room, fileNew, makeProbationRoom, makeRoom, takeOut}
-use Rattle.rules.specs.Placement.{PlaceResult, insertVerified, newInProbation, newWithoutRoom, placeHeld, placeHint, placeMain, placeNew, placeProbation, placeResult, rejected, staysVerified, verifiedEntry, withoutKey}
+use Rattle.rules.specs.Placement.{PlaceResult, grow, insertVerified, newInProbation, newWithoutRoom, placeHeld, placeHint, placeMain, placeNew, placeProbation, placeResult, promote, rejected, staysVerified, verifiedEntry, withoutKey}
 use Rattle.rules.specs.Lookups.{clearPathMtu, demoted, rewrite, sweep, touched, withEntry}
 use Rattle.rules.specs.Calls.{Call, Clear, ClearPathMtu, Demote, Get, GetAndTouch, Insert, InsertFunded, InsertStated, InsertVerified, InsertVerifiedWithPathMtu, InsertWithTtl, InvalidateOtherRoots, InvalidateViaNode, NextExpiry, PurgeExpired, Remove, Stats, drawsStamps, pathGiven}
 use Rattle.rules.specs.Refusals.{Step, badPath, fresh, gives, hinted, perform, seqSpent, step, sweeps, verifies}
@@ -140,7 +140,7 @@ module _ (R B : ℕ) (l : R * 1095 ≤ B) (k : NodeAddr) (kf : AddrFits k) where
         (λ x. probation-keeps s e w true 0 f h)
 
     placeProbation-keeps : (s : State) (i : ℕ) → i < length (s .rows) → Sized B s → KeepsSize (placeProbation k p now ttl fu i s)
-    unfolding placeProbation placeResult
+    unfolding placeProbation promote placeResult
     placeProbation-keeps s i il h =
         let r = rowAt i (s .rows) in
         let w = max (pathWeight p) (r .weight) in
@@ -153,7 +153,7 @@ module _ (R B : ℕ) (l : R * 1095 ≤ B) (k : NodeAddr) (kf : AddrFits k) where
         (λ x g. refile-sized B e w i s f h)
 
     placeMain-keeps : (s : State) (st : Bool) (i : ℕ) → i < length (s .rows) → Sized B s → KeepsSize (placeMain k p now ttl fu st i s)
-    unfolding placeMain placeResult rejected
+    unfolding placeMain grow placeResult rejected
     placeMain-keeps s st i il h =
         let r = rowAt i (s .rows) in
         let w = pathWeight p in

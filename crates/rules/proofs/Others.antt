@@ -24,7 +24,7 @@ use Rattle.rules.specs.Rows.{atPlace, changeRow, find, inMain, inProbati
 use Rattle.rules.specs.Sound.{fromVerified}
 use Rattle.rules.specs.Entries.{expired, newEntry, update, verified}
 use Rattle.rules.specs.Room.{Room, Walk, fileNew, makeProbationRoom, makeRoom, raised, refile, refiled, stamp, takeOut}
-use Rattle.rules.specs.Placement.{PlaceResult, heldOutcome, newInProbation, newWithoutRoom, placeHeld, placeHint, placeMain, placeNew, placeProbation, placeResult, rejected, staysVerified}
+use Rattle.rules.specs.Placement.{PlaceResult, grow, heldOutcome, newInProbation, newWithoutRoom, placeHeld, placeHint, placeMain, placeNew, placeProbation, placeResult, promote, rejected, staysVerified}
 use Rattle.rules.specs.Demand.{accountPlaced}
 use Rattle.rules.proofs.Addresses.{contradiction}
 use Rattle.rules.proofs.RowLists.{Core, Unique, by-cond, by-maybe, core, cores, every-at, every-change, every-insert, every-map, every-without, find-at, find-none, look, look-change, look-insert, look-without, of-cores, rising-unique, to-cores, total-without, total-without-le, without-gone}
@@ -309,7 +309,7 @@ module _ {R : ℕ} (k : NodeAddr) (p : Path) (now ttl : ℕ) (f : Funding) (a i 
       rw (m .maxEntries) (omega (arith, m .mains, h .mains))
 
   placeProbation-kept : inMain (rowAt i (s .rows)) ≡ false → Kept R k now f a s (placeProbation k p now ttl f i s)
-  unfolding placeProbation
+  unfolding placeProbation promote
   placeProbation-kept m =
       let r = rowAt i (s .rows) in
       let w = max (pathWeight p) (r .weight) in
@@ -328,7 +328,7 @@ module _ {R : ℕ} (k : NodeAddr) (p : Path) (now ttl : ℕ) (f : Funding) (a i 
       (λ q. refiled-kept s o 0 Probation false e w i key (refile-sound R e w i s h l ok (λ y. update-hint p now ttl (r .entry)) (λ y. contradiction y m)) (λ y. contradiction t y) own (rw (held-books p r 0 a) (omega arith)) (covers-zero f))
 
   placeMain-kept : (st : Bool) → inMain (rowAt i (s .rows)) ≡ true → Kept R k now f a s (placeMain k p now ttl f st i s)
-  unfolding placeMain rejected accountPlaced
+  unfolding placeMain grow rejected accountPlaced
   placeMain-kept st m =
       let r = rowAt i (s .rows) in
       let w = pathWeight p in

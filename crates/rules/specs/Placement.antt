@@ -64,36 +64,46 @@ heldOutcome p r = cond (samePath (r .entry .path) p) Unchanged Changed
 unfoldable pub staysVerified : Path → ℕ → Bool → Row → Bool
 staysVerified p now stated r = verified now (r .entry) && not (stated && not (samePath (r .entry .path) p))
 
--- 4. in probation: max(weight, old) covered, taken out, updated, and with room made filed in main at that charge,
--- or without room back in probation at that weight; not covered, updated, weight the larger, refiled
+-- 4. in probation. Covered at this charge: taken out, updated, and with room made filed in main at that charge, which is the added
+-- weight, or without room back in probation at that weight with 0 added
+unfoldable pub promote : NodeAddr → Path → ℕ → ℕ → ℕ → ℕ → State → PlaceResult
+promote k p now ttl charge i s =
+    let r = rowAt i (s .rows) in
+    let e = update p now ttl (r .entry) in
+    let o = heldOutcome p r in
+    let m = makeRoom now charge (takeOut i s) in
+    let promoted = placeResult o charge Main false (m .examined) (fileNew k e charge byUse (m .state)) in
+    let stays = placeResult o 0 Probation false (m .examined) (fileNew k e charge probation (m .state)) in
+    cond (m .made) promoted stays
+
+-- where max(weight, old) is covered; where not: updated, weight the larger, refiled
 unfoldable pub placeProbation : NodeAddr → Path → ℕ → ℕ → Funding → ℕ → State → PlaceResult
 placeProbation k p now ttl f i s =
     let r = rowAt i (s .rows) in
     let w = max (pathWeight p) (r .weight) in
-    let e = update p now ttl (r .entry) in
-    let o = heldOutcome p r in
-    let m = makeRoom now w (takeOut i s) in
-    let promoted = placeResult o w Main false (m .examined) (fileNew k e w byUse (m .state)) in
-    let stays = placeResult o 0 Probation false (m .examined) (fileNew k e w probation (m .state)) in
-    let uncovered = placeResult o 0 Probation false 0 (refile e w i s) in
-    cond (covers f w) (cond (m .made) promoted stays) uncovered
+    let covered = promote k p now ttl w i s in
+    let uncovered = placeResult (heldOutcome p r) 0 Probation false 0 (refile (update p now ttl (r .entry)) w i s) in
+    cond (covers f w) covered uncovered
 
--- 5. in main: weight ≤ old, updated, old weight kept, refiled; growth not covered, Rejected, unfunded;
--- growth: row out, room sought; without room an unstated one goes back unchanged but newly stamped, Rejected;
--- otherwise updated and filed at the new weight, added = weight − old
+-- 5. in main. Growth to this weight: row out, room sought; without room an unstated one goes back unchanged but newly stamped,
+-- Rejected; otherwise updated and filed at the new weight, added = weight − old
+unfoldable pub grow : NodeAddr → Path → ℕ → ℕ → Bool → ℕ → ℕ → State → PlaceResult
+grow k p now ttl stated w i s =
+    let r = rowAt i (s .rows) in
+    let m = makeRoom now w (takeOut i s) in
+    let goesBack = rejected false (m .examined) (fileNew k (r .entry) (r .weight) byUse (m .state)) in
+    let grows = placeResult (heldOutcome p r) (w - r .weight) Main false (m .examined) (fileNew k (update p now ttl (r .entry)) w byUse (m .state)) in
+    cond (m .made || stated) grows goesBack
+
+-- where weight ≤ old: updated, old weight kept, refiled; growth not covered: Rejected, unfunded
 unfoldable pub placeMain : NodeAddr → Path → ℕ → ℕ → Funding → Bool → ℕ → State → PlaceResult
 placeMain k p now ttl f stated i s =
     let r = rowAt i (s .rows) in
     let w = pathWeight p in
-    let e = update p now ttl (r .entry) in
-    let o = heldOutcome p r in
-    let m = makeRoom now w (takeOut i s) in
-    let noGrowth = placeResult o 0 Main false 0 (refile e (r .weight) i s) in
-    let goesBack = rejected false (m .examined) (fileNew k (r .entry) (r .weight) byUse (m .state)) in
-    let grows = placeResult o (w - r .weight) Main false (m .examined) (fileNew k e w byUse (m .state)) in
+    let noGrowth = placeResult (heldOutcome p r) 0 Main false 0 (refile (update p now ttl (r .entry)) (r .weight) i s) in
+    let covered = grow k p now ttl stated w i s in
     let uncovered = rejected true 0 s in
-    cond (leb w (r .weight)) noGrowth
-    (cond (covers f (w - r .weight)) (cond (m .made || stated) grows goesBack) uncovered)
+    cond (leb w (r .weight)) noGrowth (cond (covers f (w - r .weight)) covered uncovered)
 
 unfoldable pub placeHeld : NodeAddr → Path → ℕ → ℕ → Funding → Bool → ℕ → State → PlaceResult
 placeHeld k p now ttl f stated i s =

@@ -43,8 +43,7 @@ pub fn draw_stamp(state: &mut [u8], n: usize, i: usize, place: u8, first: u64)
     requires { ⌜ (i < n) × (headSize + n * rowSize ≤ length (now state)) × (viewRows n (now state) .seq < 18446744073709551615) ⌝ }
     ensures { λ _. ⌜ viewRows n (now (state .exit)) ≡ stamp (stampedAs place first) i (viewRows n (now (state .entry))) ⌝ }
 {
-    let seq = memory::head::seq(state) + 1;
-    memory::head::set_seq(state, n, seq);
+    let seq = memory::head::next_key(state, n);
     memory::row::set_stamp(state, n, i, place, first, seq);
 }
 

@@ -94,10 +94,19 @@ fn file_anew(
     let e = verified_entry_of(state, n, at, path, time, mtu);
     let rows = take_out(state, n, at);
     let weight = path.weight();
-    let units = weight as u8;
+    let row_weight = weight as u8;
     let room = make_room(state, rows, weight, time);
     let victim = room.victim;
-    file_in_room(state, room.rows, victim, room.stored, key, e, units, BY_USE);
+    file_in_room(
+        state,
+        room.rows,
+        victim,
+        room.stored,
+        key,
+        e,
+        row_weight,
+        BY_USE,
+    );
     VerifiedInsert {
         weight: weight,
         examined: room.examined,

@@ -93,6 +93,8 @@ fn all() -> Result<(), String> {
             table.row(max, line.name, &measure(line, max, rounds, share)?);
         }
     }
+    println!();
+    table.notes();
     match write {
         Some(file) => table.write(&file).map_err(|e| format!("{file}: {e}")),
         None => Ok(()),

@@ -24,7 +24,7 @@ pub trait Cache: Sized {
 }
 
 /// The rows that the memory has at a limit: coordrun's at its own, else all.
-fn rows(max: usize) -> usize {
+pub fn rows(max: usize) -> usize {
     if max == 8 { 24 } else { 1024 }
 }
 

@@ -10,8 +10,8 @@ use Rattle.hints.proofs.insert_funded_unchecked.Tie as tie
 default-ttl-requires : tie.Need-default-ttl-requires
 default-ttl-requires c κs = head-there (c .before .before .args .state .now) (c .before .before .pre)
 
-hint-requires : tie.Need-hint-requires
-hint-requires c κs = search needs
+place-hint-requires : tie.Need-place-hint-requires
+place-hint-requires c κs = search needs
 
 same-length : tie.Need-same-length
 same-length c = search needs
@@ -19,8 +19,8 @@ same-length c = search needs
 returns : tie.Need-returns
 returns c =
     let a = c .before .before .before .before .before .before .before .args in
-    c .before .before .hint .ensures (InsertFunded (a .key) (a .path) (a .time) (a .funding)) (inserts-funded (a .key) (a .path) (a .time) (c .before .before .before .before .default-ttl .result) (a .funding) (view (a .state .now)) (c .before .before .before .before .default-ttl .ensures ∙ shown-ttl (a .state .now)))
+    c .before .before .place-hint .ensures (InsertFunded (a .key) (a .path) (a .time) (a .funding)) (inserts-funded (a .key) (a .path) (a .time) (c .before .before .before .before .default-ttl .result) (a .funding) (view (a .state .now)) (c .before .before .before .before .default-ttl .ensures ∙ shown-ttl (a .state .now)))
 
 pub insert-funded-unchecked-spec : {M : Type 1} → statement M
 insert-funded-unchecked-spec =
-    tie.close (tie.spec default-ttl-requires hint-requires same-length returns)
+    tie.close (tie.spec default-ttl-requires place-hint-requires same-length returns)

@@ -13,8 +13,8 @@ default-ttl-requires c κs = head-there (c .before .before .args .state .now) (c
 starts-at-requires : tie.Need-starts-at-requires
 starts-at-requires c κs = search needs
 
-hint-requires : tie.Need-hint-requires
-hint-requires c κs = search needs
+place-hint-requires : tie.Need-place-hint-requires
+place-hint-requires c κs = search needs
 
 same-length : tie.Need-same-length
 same-length c = search needs
@@ -22,8 +22,8 @@ same-length c = search needs
 returns : tie.Need-returns
 returns c =
     let a = c .before .before .before .before .before .before .before .before .args in
-    c .before .before .hint .ensures (InsertStated (a .key) (a .path) (a .time) (a .funding)) (inserts-stated (a .key) (a .path) (a .time) (c .before .before .before .before .before .default-ttl .result) (a .funding) (c .before .before .before .before .starts-at .result) (view (a .state .now)) (c .before .before .before .before .before .default-ttl .ensures ∙ shown-ttl (a .state .now)) (c .before .before .before .before .starts-at .ensures))
+    c .before .before .place-hint .ensures (InsertStated (a .key) (a .path) (a .time) (a .funding)) (inserts-stated (a .key) (a .path) (a .time) (c .before .before .before .before .before .default-ttl .result) (a .funding) (c .before .before .before .before .starts-at .result) (view (a .state .now)) (c .before .before .before .before .before .default-ttl .ensures ∙ shown-ttl (a .state .now)) (c .before .before .before .before .starts-at .ensures))
 
 pub insert-stated-unchecked-spec : {M : Type 1} → statement M
 insert-stated-unchecked-spec =
-    tie.close (tie.spec default-ttl-requires starts-at-requires hint-requires same-length returns)
+    tie.close (tie.spec default-ttl-requires starts-at-requires place-hint-requires same-length returns)

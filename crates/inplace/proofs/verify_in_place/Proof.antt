@@ -28,8 +28,8 @@ add-stored c =
     let l = s .args .state .now in
     record { fits = omega (arith, t .stored-without .ensures, stored-few (capacity l) (s .args .i) (viewRows n l) (s .pre .0), c .wide .ensures .1) }
 
-update-and-refile-requires : tie.Need-update-and-refile-requires
-update-and-refile-requires c κs =
+update-in-place-requires : tie.Need-update-in-place-requires
+update-in-place-requires c κs =
     let s = c .before .before .before .before .before .before .before in
     (s .pre .1, laid-out (s .args .n) (s .args .state .now) (s .pre .0), s .pre .3, s .pre .4)
 
@@ -37,14 +37,14 @@ mark-verified-requires : tie.Need-mark-verified-requires
 mark-verified-requires c κs =
     let u = c .before .before .before in
     let s = u .before .before .before .before .before .before .before .before in
-    (s .pre .1, omega (arith, laid-out (s .args .n) (s .args .state .now) (s .pre .0), u .update-and-refile .kept .0))
+    (s .pre .1, omega (arith, laid-out (s .args .n) (s .args .state .now) (s .pre .0), u .update-in-place .kept .0))
 
-set-mtu-requires : tie.Need-set-mtu-requires
-set-mtu-requires c κs =
+set-given-mtu-requires : tie.Need-set-given-mtu-requires
+set-given-mtu-requires c κs =
     let m = c .before .before .before in
     let u = m .before .before .before .before in
     let s = u .before .before .before .before .before .before .before .before in
-    (s .pre .1, omega (arith, laid-out (s .args .n) (s .args .state .now) (s .pre .0), u .update-and-refile .kept .0, m .mark-verified .kept .0))
+    (s .pre .1, omega (arith, laid-out (s .args .n) (s .args .state .now) (s .pre .0), u .update-in-place .kept .0, m .mark-verified .kept .0))
 
 set-stored-weight-requires : tie.Need-set-stored-weight-requires
 set-stored-weight-requires c κs =
@@ -52,7 +52,7 @@ set-stored-weight-requires c κs =
     let m = g .before .before .before .before in
     let u = m .before .before .before .before in
     let s = u .before .before .before .before .before .before .before .before in
-    omega (arith, laid-out (s .args .n) (s .args .state .now) (s .pre .0), u .update-and-refile .kept .0, m .mark-verified .kept .0, g .set-mtu .kept .0)
+    omega (arith, laid-out (s .args .n) (s .args .state .now) (s .pre .0), u .update-in-place .kept .0, m .mark-verified .kept .0, g .set-given-mtu .kept .0)
 
 same-length : tie.Need-same-length
 same-length c = search needs
@@ -70,7 +70,7 @@ returns c =
     let a = s .args in
     let n = a .n in
     let l = a .state .now in
-    λ k f. verified-back (capacity l) k (a .path) (a .time) (d .default-ttl .result) (a .i) (a .weight) (t .stored-without .result + w .wide .result) (a .mtu) (viewRows n l) (viewRows n (u .update-and-refile .last .0)) (viewRows n (m .mark-verified .last .0)) (viewRows n (g .set-mtu .last .0)) (viewRows n (x .set-stored-weight .last .0)) (shown n l (s .pre .0)) f (s .pre .2) (d .default-ttl .ensures ∙ same-head 0 n l .defaultTtl) (rw (t .stored-without .ensures, w .wide .ensures .0)) (u .update-and-refile .ensures) (m .mark-verified .ensures) (g .set-mtu .ensures) (x .set-stored-weight .ensures)
+    λ k f. verified-back (capacity l) k (a .path) (a .time) (d .default-ttl .result) (a .i) (a .weight) (t .stored-without .result + w .wide .result) (a .mtu) (viewRows n l) (viewRows n (u .update-in-place .last .0)) (viewRows n (m .mark-verified .last .0)) (viewRows n (g .set-given-mtu .last .0)) (viewRows n (x .set-stored-weight .last .0)) (shown n l (s .pre .0)) f (s .pre .2) (d .default-ttl .ensures ∙ same-head 0 n l .defaultTtl) (rw (t .stored-without .ensures, w .wide .ensures .0)) (u .update-in-place .ensures) (m .mark-verified .ensures) (g .set-given-mtu .ensures) (x .set-stored-weight .ensures)
 
 pub verify-in-place-spec : {M : Type 1} → statement M
 verify-in-place-spec =
@@ -80,9 +80,9 @@ verify-in-place-spec =
     stored-without-requires
     wide-requires
     add-stored
-    update-and-refile-requires
+    update-in-place-requires
     mark-verified-requires
-    set-mtu-requires
+    set-given-mtu-requires
     set-stored-weight-requires
     same-length
     returns)

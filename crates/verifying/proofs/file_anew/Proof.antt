@@ -39,8 +39,8 @@ take-out-requires c κs =
 weight-requires : tie.Need-weight-requires
 weight-requires c κs = search needs
 
-cast-units : tie.Need-cast-units
-cast-units c =
+cast-row-weight : tie.Need-cast-row-weight
+cast-row-weight c =
     let s = c .before .before .before .before .before .before .before .before in
     record { fits = omega (arith, c .weight .ensures, weight-ok (s .args .path) (record { long = s .pre .1 .long; short = s .pre .1 .short })) }
 
@@ -83,7 +83,7 @@ file-anew-spec =
     verified-entry-of-requires
     take-out-requires
     weight-requires
-    cast-units
+    cast-row-weight
     make-room-requires
     file-in-room-requires
     same-length

@@ -1,51 +1,18 @@
-use Rattle.memory.proofs.Fields.{mtu-view}
+use Rattle.rules.specs.Entries.{dropMtu}
+use Rattle.memory.specs.Edits.{withMtu}
 use borrow.Author.Needs.{needs}
 use Rattle.memory.proofs.row.drop_mtu.Statement.{statement}
 use Rattle.memory.proofs.row.drop_mtu.Tie as tie
 
-mul-write-u8 : tie.Need-mul-write-u8
-mul-write-u8 c = search needs
-
-add-write-u8 : tie.Need-add-write-u8
-add-write-u8 c = search needs
-
-add-write-u8-2 : tie.Need-add-write-u8-2
-add-write-u8-2 c = search needs
-
-write-u8-requires : tie.Need-write-u8-requires
-write-u8-requires c κs = search needs
-
-mul-write-u16 : tie.Need-mul-write-u16
-mul-write-u16 c = search needs
-
-add-write-u16 : tie.Need-add-write-u16
-add-write-u16 c = search needs
-
-add-write-u16-2 : tie.Need-add-write-u16-2
-add-write-u16-2 c = search needs
-
-write-u16-requires : tie.Need-write-u16-requires
-write-u16-requires c κs = search needs
+set-mtu-requires : tie.Need-set-mtu-requires
+set-mtu-requires c κs = search needs
 
 same-length : tie.Need-same-length
 same-length c = search needs
 
 returns : tie.Need-returns
-returns c =
-    let s = c .before .before .before .before .before .before .before .before .before in
-    rw (c .before .before .write-u16 .ensures, c .before .before .before .before .before .before .write-u8 .ensures) (mtu-view (s .args .state .now) (s .args .n) (s .args .i) (s .pre .0) (s .pre .1))
+unfolding dropMtu withMtu
+returns c = c .before .before .set-mtu .ensures
 
 pub drop-mtu-spec : {M : Type 1} → statement M
-drop-mtu-spec =
-    tie.close
-    (tie.spec
-    mul-write-u8
-    add-write-u8
-    add-write-u8-2
-    write-u8-requires
-    mul-write-u16
-    add-write-u16
-    add-write-u16-2
-    write-u16-requires
-    same-length
-    returns)
+drop-mtu-spec = tie.close (tie.spec set-mtu-requires same-length returns)

@@ -2,8 +2,8 @@ use Rattle.heldkeys.proofs.HeldKeys.{row-there, out-asks}
 use Rattle.placement.proofs.Placed.{search-asks, holds-found, held-here, new-expired, new-missing}
 use native.Mathlib.Omega.{arith}
 use borrow.Author.Needs.{needs}
-use Rattle.placement.proofs.find_key.Statement.{statement}
-use Rattle.placement.proofs.find_key.Tie as tie
+use Rattle.placement.proofs.remove_expired.Statement.{statement}
+use Rattle.placement.proofs.remove_expired.Tie as tie
 
 search-requires : tie.Need-search-requires
 search-requires c κs = search-asks (c .before .before .args .n) (c .before .before .args .state .now) (c .before .before .pre)
@@ -54,8 +54,8 @@ returns-3 c =
     let s = c .before .before .before .before .before in
     new-missing (s .args .key) (s .args .n) _ (s .args .state .now) (c .before .before .search .result) (s .pre) (c .before .before .search .ensures) (s .args .time) (c .enum-told .given .1)
 
-pub find-key-spec : {M : Type 1} → statement M
-find-key-spec =
+pub remove-expired-spec : {M : Type 1} → statement M
+remove-expired-spec =
     tie.close
     (tie.spec
     search-requires

@@ -2,8 +2,8 @@ use native.Mathlib.Omega.{arith}
 use Rattle.rules.specs.Memory.{viewRows}
 use Rattle.filing.proofs.Refiling.{weighed-seq, weighed-refiled}
 use borrow.Author.Needs.{needs}
-use Rattle.filing.proofs.refile.refile_at.Statement.{statement}
-use Rattle.filing.proofs.refile.refile_at.Tie as tie
+use Rattle.filing.proofs.refile.refile.Statement.{statement}
+use Rattle.filing.proofs.refile.refile.Tie as tie
 
 set-weight-requires : tie.Need-set-weight-requires
 set-weight-requires c κs = search needs
@@ -25,5 +25,5 @@ returns c =
     let a = w1 .before .before .before .args in
     weighed-refiled (a .weight) (a .i) (viewRows (a .n) (a .state .now)) (viewRows (a .n) (w1 .set-weight .last .0)) _ (w1 .set-weight .ensures) (w2 .restamp .ensures)
 
-pub refile-at-spec : {M : Type 1} → statement M
-refile-at-spec = tie.close (tie.spec set-weight-requires restamp-requires same-length returns)
+pub refile-spec : {M : Type 1} → statement M
+refile-spec = tie.close (tie.spec set-weight-requires restamp-requires same-length returns)

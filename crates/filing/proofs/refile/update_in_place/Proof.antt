@@ -4,14 +4,14 @@ use Rattle.rules.specs.Memory.{viewRows}
 use Rattle.memory.proofs.RowLaws.{view-length}
 use Rattle.filing.proofs.Refiling.{rewritten-seq, rewritten-refiled}
 use borrow.Author.Needs.{needs}
-use Rattle.filing.proofs.refile.update_and_refile.Statement.{statement}
-use Rattle.filing.proofs.refile.update_and_refile.Tie as tie
+use Rattle.filing.proofs.refile.update_in_place.Statement.{statement}
+use Rattle.filing.proofs.refile.update_in_place.Tie as tie
 
 update-at-requires : tie.Need-update-at-requires
 update-at-requires c κs = search needs
 
-refile-at-requires : tie.Need-refile-at-requires
-refile-at-requires c κs =
+refile-requires : tie.Need-refile-requires
+refile-requires c κs =
     let w = c .before .before .before in
     let s = w .before .before .before in
     let a = s .args in
@@ -27,8 +27,8 @@ returns c =
     let s = w1 .before .before .before in
     let a = s .args in
     let n = a .n in
-    rewritten-refiled (update (a .path) (a .time) (a .ttl)) (a .weight) (a .i) (viewRows n (a .state .now)) (viewRows n (w1 .update-at .last .0)) _ (omega (arith, view-length n (a .state .now), s .pre .0)) (w1 .update-at .ensures) (w2 .refile-at .ensures)
+    rewritten-refiled (update (a .path) (a .time) (a .ttl)) (a .weight) (a .i) (viewRows n (a .state .now)) (viewRows n (w1 .update-at .last .0)) _ (omega (arith, view-length n (a .state .now), s .pre .0)) (w1 .update-at .ensures) (w2 .refile .ensures)
 
-pub update-and-refile-spec : {M : Type 1} → statement M
-update-and-refile-spec =
-    tie.close (tie.spec update-at-requires refile-at-requires same-length returns)
+pub update-in-place-spec : {M : Type 1} → statement M
+update-in-place-spec =
+    tie.close (tie.spec update-at-requires refile-requires same-length returns)

@@ -1,0 +1,58 @@
+use Prim.Native.Nat.{ℕ, _<_}
+use native.Mathlib.Omega.{arith}
+use Rattle.rules.specs.Lent.{Small}
+use Rattle.rules.proofs.Sizes.{small1}
+use Rattle.memory.proofs.Fields.{mtu-view}
+use borrow.Author.Needs.{needs}
+use Rattle.memory.proofs.row.set_mtu.Statement.{statement}
+use Rattle.memory.proofs.row.set_mtu.Tie as tie
+
+small2 : (v : ℕ) → v < 65536 → Small 2 v
+small2 v h = omega arith
+
+mul-write-u8 : tie.Need-mul-write-u8
+mul-write-u8 c = search needs
+
+add-write-u8 : tie.Need-add-write-u8
+add-write-u8 c = search needs
+
+add-write-u8-2 : tie.Need-add-write-u8-2
+add-write-u8-2 c = search needs
+
+write-u8-requires : tie.Need-write-u8-requires
+write-u8-requires c κs = search needs
+
+mul-write-u16 : tie.Need-mul-write-u16
+mul-write-u16 c = search needs
+
+add-write-u16 : tie.Need-add-write-u16
+add-write-u16 c = search needs
+
+add-write-u16-2 : tie.Need-add-write-u16-2
+add-write-u16-2 c = search needs
+
+write-u16-requires : tie.Need-write-u16-requires
+write-u16-requires c κs = search needs
+
+same-length : tie.Need-same-length
+same-length c = search needs
+
+returns : tie.Need-returns
+returns c =
+    let s = c .before .before .before .before .before .before .before .before .before in
+    rw (c .before .before .write-u16 .ensures, c .before .before .before .before .before .before .write-u8 .ensures) (mtu-view (s .args .state .now) (s .args .n) (s .args .i) (s .args .mark) (s .args .mtu) (small1 (s .args .mark) (s .fits .mark .fits)) (small2 (s .args .mtu) (s .fits .mtu .fits)) (s .pre .0) (s .pre .1))
+
+pub set-mtu-spec : {M : Type 1} → statement M
+set-mtu-spec =
+    tie.close
+    (tie.spec
+    mul-write-u8
+    add-write-u8
+    add-write-u8-2
+    write-u8-requires
+    mul-write-u16
+    add-write-u16
+    add-write-u16-2
+    write-u16-requires
+    same-length
+    returns)
