@@ -121,7 +121,7 @@ choosing-start now w R count stored s h ec es =
     record { same = refl; led = start-led now s (ready d); mains = ec; loads = e; small = omega (arith, es, sound-small R s h .stored) }
 
 -- room for w, as the code tests it
-room-test : (now w : ℕ) (s : State) (count stored m : ℕ) (v : Walk) (b : Bool) → Choosing now w s count stored v → m ≡ s .maxEntries → b ≡ ltb count m && leb (stored + w) (weightBound m) → hasRoom w (v .state) ≡ b
+pub room-test : (now w : ℕ) (s : State) (count stored m : ℕ) (v : Walk) (b : Bool) → Choosing now w s count stored v → m ≡ s .maxEntries → b ≡ ltb count m && leb (stored + w) (weightBound m) → hasRoom w (v .state) ≡ b
 unfolding hasRoom
 room-test now w s count stored m v b g em h = sym (h ∙ rw (g .mains, g .loads, em, ← g .led .maxEntries))
 

@@ -45,6 +45,11 @@ unfolding keepRows
 keep-every q [] h = refl
 keep-every q (r ∷ rs) h = let n = not-at aside r (λ e. let z : ⊥ = omega (arith, h .0 .place) in z) in rw n (ap (λ (xs : List Row). r ∷ xs) (keep-every q rs (h .1)))
 
+-- no room for x, as the code tests it
+pub full : (R m count stored x : ℕ) (s : State) (b : Bool) → sound R s ≡ true → m ≡ s .maxEntries → count ≡ mainCount s → stored ≡ s .storedWeight → b ≡ ltb count m && leb (stored + x) (weightBound m) → b ≡ false → hasRoom x s ≡ false
+unfolding hasRoom
+full R m count stored x s b h em ec es t q = sym (t ∙ rw (em, ec, es, sound-is R s h .storedWeight)) ∙ q
+
 pub room-there : (now w R m count stored x : ℕ) (s : State) (b : Bool) → sound R s ≡ true → m ≡ s .maxEntries → count ≡ mainCount s → stored ≡ s .storedWeight → x ≡ min w (weightBound m) → b ≡ ltb count m && leb (stored + x) (weightBound m) → b ≡ true
     → roomAs true 0 s ≡ makeRoom now w s
 unfolding makeRoom settled hasRoom

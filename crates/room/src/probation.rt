@@ -1,13 +1,11 @@
 // Room in probation.
 use crate::answers::ProbationRoom;
-use counts::count_rows;
 use soundness::head::probation_bound;
 use stamps::answers::Lowest;
 use stamps::lowest::lowest_stamp;
 use stamps::row::PROBATION;
 use stamps::row::is_stale;
 use stamps::row::restamp;
-use types::placed::Segment;
 ghost use mathlib.Core.Path.{_≡_};
 ghost use mathlib.Core.Bool.{true};
 ghost use Prim.Native.Nat.{_+_, _*_, _≤_, _<_};
@@ -26,7 +24,8 @@ pub fn make_probation_room(state: &mut [u8], n: usize) -> ProbationRoom
     ensures { λ r. ⌜ (walkFrom (withoutVictim (r .victim) (viewRows n (now (state .exit)))) (r .examined) ≡ makeProbationRoom (viewRows n (now (state .entry)))) × Leaves (r .victim) (r .stored) (viewRows n (now (state .entry)) .rows) (viewRows n (now (state .exit)) .rows) ⌝ }
 {
     let bound = probation_bound(memory::head::max_entries(state));
-    let count = count_rows(state, n, Segment::Probation);
+    let lowest = lowest_stamp(state, n, PROBATION);
+    let count = lowest.count;
     let stored = memory::head::stored_weight(state);
     if count < bound {
         return ProbationRoom {
@@ -35,10 +34,11 @@ pub fn make_probation_room(state: &mut [u8], n: usize) -> ProbationRoom
             examined: 0,
         };
     }
+    let mut victim = lowest.row;
     let mut examined: u64 = 0;
     loop {
-        let victim = lowest_stamp(state, n, PROBATION);
         match victim {
+            // Not reached, since Q is at least 1.
             Lowest::Nothing => {
                 return ProbationRoom {
                     victim,
@@ -50,6 +50,8 @@ pub fn make_probation_room(state: &mut [u8], n: usize) -> ProbationRoom
                 examined += 1;
                 if is_stale(state, n, i) {
                     restamp(state, n, i);
+                    let again = lowest_stamp(state, n, PROBATION);
+                    victim = again.row;
                 } else {
                     return ProbationRoom {
                         victim,

@@ -2,13 +2,13 @@
 // all go back.
 use crate::answers::Room;
 use coord::node_addr::NodeAddr;
-use counts::count_rows;
 use counts::cut_to_bound;
 use counts::has_room;
 use stamps::answers::Lowest;
+use stamps::answers::LowestOfMain;
+use stamps::lowest::lowest_of_main;
 use stamps::row::BY_USE;
 use stamps::walk::next_victim;
-use types::placed::Segment;
 ghost use mathlib.Core.Path.{_≡_};
 ghost use mathlib.Core.Bool.{true, false, not};
 ghost use mathlib.Core.List.{map};
@@ -17,10 +17,10 @@ ghost use lib.ListN.{length};
 ghost use Rattle.rules.specs.Records.{weightBound, aside};
 ghost use Rattle.rules.specs.Rows.{rowSize, atPlace, changeRow, keepRows, withRows, withOnlyRows, total, mainCount};
 ghost use Rattle.rules.specs.Sound.{sound};
-ghost use Rattle.rules.specs.Room.{mainVisits, atNewPlace, putBack, chooseVictims, makeRoom};
+ghost use Rattle.rules.specs.Room.{mainVisits, hasRoom, atNewPlace, putBack, chooseVictims, makeRoom};
 ghost use Rattle.rules.specs.Memory.{headSize, capacity, viewRows};
 ghost use Rattle.stamps.specs.declared.answers.Lowest.the-variants.{Nothing};
-ghost use Rattle.stamps.specs.Walked.{walkFrom};
+ghost use Rattle.stamps.specs.Walked.{walkFrom, MainIs};
 ghost use Rattle.sweep.specs.Sweep.{PathsFit};
 ghost use Rattle.room.specs.Rooms.{chosenOf, roomOf, SetAside, Leaves};
 
@@ -46,27 +46,19 @@ fn set_place(state: &mut [u8], n: usize, i: usize, place: u8)
     memory::row::set_stamp(state, n, i, place, first, seq);
 }
 
-// Victims are set aside while there is no room for w, or until none is left; count is the number of main rows.
-fn choose_victims(state: &mut [u8], n: usize, count: u64, w: u64, time: u64) -> Chosen
-    requires { ⌜ (headSize + n * rowSize ≤ length (now state)) × (sound (capacity (now state)) (viewRows n (now state)) ≡ true) × (viewRows n (now state) .seq + total (mainVisits time) (viewRows n (now state) .rows) < 18446744073709551616) × (count ≡ mainCount (viewRows n (now state))) × (w ≤ weightBound (viewRows n (now state) .maxEntries)) ⌝ }
-    ensures { λ r. ⌜ (chosenOf r (viewRows n (now (state .exit))) ≡ chooseVictims (suc (mainCount (viewRows n (now (state .entry))))) time w (walkFrom (viewRows n (now (state .entry))) 0)) × (r .made ≡ true → SetAside count r (viewRows n (now (state .exit)))) ⌝ }
+// Victims are set aside until there is room for w, or none is left. There is none at the start, and `lowest` is of the rows at the start.
+fn choose_victims(state: &mut [u8], n: usize, lowest: LowestOfMain, w: u64, time: u64) -> Chosen
+    requires { ⌜ (headSize + n * rowSize ≤ length (now state)) × (sound (capacity (now state)) (viewRows n (now state)) ≡ true) × (viewRows n (now state) .seq + total (mainVisits time) (viewRows n (now state) .rows) < 18446744073709551616) × MainIs lowest (viewRows n (now state) .rows) × (w ≤ weightBound (viewRows n (now state) .maxEntries)) × (hasRoom w (viewRows n (now state)) ≡ false) ⌝ }
+    ensures { λ r. ⌜ (chosenOf r (viewRows n (now (state .exit))) ≡ chooseVictims (suc (mainCount (viewRows n (now (state .entry))))) time w (walkFrom (viewRows n (now (state .entry))) 0)) × (r .made ≡ true → SetAside (lowest .count) r (viewRows n (now (state .exit)))) ⌝ }
 {
     let max = memory::head::max_entries(state);
     let mut stored = memory::head::stored_weight(state);
-    let mut left = count;
+    let mut left = lowest.count;
+    let mut main = lowest;
     let mut last = n;
     let mut examined: u64 = 0;
     loop {
-        if has_room(max, left, stored, w) {
-            return Chosen {
-                made: true,
-                left,
-                stored,
-                last,
-                examined,
-            };
-        }
-        let sought = next_victim(state, n, time);
+        let sought = next_victim(state, n, time, main);
         examined += sought.examined;
         let found = sought.found;
         match found {
@@ -84,6 +76,16 @@ fn choose_victims(state: &mut [u8], n: usize, count: u64, w: u64, time: u64) -> 
                 stored -= raw::numbers::wide(memory::row::weight(state, n, i));
                 set_place(state, n, i, ASIDE);
                 last = i;
+                if has_room(max, left, stored, w) {
+                    return Chosen {
+                        made: true,
+                        left,
+                        stored,
+                        last,
+                        examined,
+                    };
+                }
+                main = lowest_of_main(state, n);
             }
         }
     }
@@ -128,7 +130,8 @@ pub fn make_room(state: &mut [u8], n: usize, w: u64, time: u64) -> Room
 {
     let max = memory::head::max_entries(state);
     let cut = cut_to_bound(w, max);
-    let count = count_rows(state, n, Segment::Main);
+    let lowest = lowest_of_main(state, n);
+    let count = lowest.count;
     let stored = memory::head::stored_weight(state);
     if has_room(max, count, stored, cut) {
         return Room {
@@ -139,7 +142,7 @@ pub fn make_room(state: &mut [u8], n: usize, w: u64, time: u64) -> Room
             examined: 0,
         };
     }
-    let chosen = choose_victims(state, n, count, cut, time);
+    let chosen = choose_victims(state, n, lowest, cut, time);
     let examined = chosen.examined;
     if chosen.made {
         if count - chosen.left == 1 {

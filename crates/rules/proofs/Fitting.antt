@@ -1,14 +1,14 @@
 -- Every call keeps a state that fits its memory.
-use mathlib.Core.Path.{_≡_, refl, sym, ap, _∙_, subst}
-use Prim.Native.Nat.{ℕ, zero, suc, _+_, _*_, _-_, _/_, _≤_, _<_, min, max}
+use mathlib.Core.Path.{_≡_, refl, subst}
+use Prim.Native.Nat.{ℕ, zero, suc, _+_, _*_, _-_, _≤_, _<_, max}
 use native.Mathlib.Omega.{arith}
-use mathlib.Core.List.{List, [], _∷_, _++_, map}
+use mathlib.Core.List.{List, [], _∷_, _++_}
 use mathlib.Core.Option.{Option, none, some}
-use mathlib.Core.Bool.{Bool, true, false, cond, _&&_, _||_, not}
-use lib.Dec.{ltb, leb, eqb}
-use lib.ListN.{length, take, drop, replicate, length-append, length-drop, length-replicate}
+use mathlib.Core.Bool.{Bool, true, false, _&&_, _||_, not}
+use lib.Dec.{leb}
+use lib.ListN.{length, take, replicate, length-append, length-replicate}
 use lib.Seq.{length-take-le}
-use borrow.Author.Tests.{eqb-false, ltb-false, ltb-true}
+use borrow.Author.Tests.{ltb-false}
 use Rattle.coord.specs.declared.coord.CoordEntry.{CoordEntry}
 use Rattle.coord.specs.declared.coord.Path.{Path}
 use Rattle.coord.specs.declared.node_addr.NodeAddr.{NodeAddr}

@@ -1,12 +1,11 @@
 -- Placement on a sound state: it stays sound; what it does to other keys and to its own key's charge; what it charges; how much it examines.
-use Prim.Native.Nat.{ℕ, zero, suc, _+_, _-_, _*_, _<_, _≤_, min, max}
-use mathlib.Core.Path.{_≡_, refl, sym, _∙_, ap, subst}
-use mathlib.Core.List.{List, [], _∷_}
-use mathlib.Core.Option.{Option, none, some}
-use mathlib.Core.Bool.{Bool, true, false, cond, _&&_, _||_, not}
+use Prim.Native.Nat.{ℕ, _+_, _-_, _*_, _<_, _≤_, max}
+use mathlib.Core.Path.{_≡_, refl, sym, _∙_}
+use mathlib.Core.Option.{some}
+use mathlib.Core.Bool.{Bool, true, false, cond, _||_}
 use lib.Dec.{ltb, leb, eqb, leb·zero}
 use lib.ListN.{length}
-use borrow.Author.Tests.{eq-eqb, ne-eqb, eqb-true, eqb-false, ltb-true, ltb-false, leb-true, leb-false}
+use borrow.Author.Tests.{eq-eqb, ne-eqb, eqb-true, ltb-true, ltb-false, leb-true, leb-false}
 use native.Mathlib.Omega.{arith}
 use Rattle.coord.specs.declared.coord.Path.{Path}
 use Rattle.coord.specs.declared.node_addr.NodeAddr.{NodeAddr}

@@ -1,3 +1,4 @@
 pub mod Stamping
 pub mod Searching
+pub mod Counting
 pub mod Walking

@@ -4,8 +4,7 @@ use Prim.Native.Nat.{ℕ, suc, _+_, _≤_, _<_}
 use native.Mathlib.Omega.{arith}
 use mathlib.Core.List.{List}
 use mathlib.Core.Option.{Option, none, some}
-use mathlib.Core.Bool.{Bool, true, false, cond, _&&_, _||_}
-use lib.Dec.{ltb, eqb}
+use mathlib.Core.Bool.{Bool, true, false, cond}
 use lib.ListN.{length, drop, drop-of-length-le}
 use Rattle.rules.specs.Cases.{maybe}
 use Rattle.rules.specs.Records.{Row}

@@ -4,13 +4,16 @@ use mathlib.Core.List.{List}
 use mathlib.Core.Option.{Option, none, some}
 use mathlib.Core.Bool.{cond, _&&_, _||_}
 use lib.Dec.{ltb, eqb}
-use Rattle.rules.specs.Records.{Row, State}
-use Rattle.rules.specs.Rows.{rowAt, atPlace}
+use mathlib.Core.Path.{_≡_}
+use Rattle.rules.specs.Records.{Row, State, byUse, parked}
+use Rattle.rules.specs.Rows.{rowAt, atPlace, inMain, lowestStamp, countRows}
 use Rattle.rules.specs.Room.{Walk, Sought}
 use Rattle.stamps.specs.declared.answers.Lowest.{Lowest}
 use Rattle.stamps.specs.declared.answers.Lowest.the-variants.{At, Nothing}
 use Rattle.stamps.specs.declared.lowest.Best.{Best}
 use Rattle.stamps.specs.declared.lowest.Best.the-variants.{Row as Stamped, Nothing as Unstamped}
+use Rattle.stamps.specs.declared.answers.LowestStamp.{LowestStamp}
+use Rattle.stamps.specs.declared.answers.LowestOfMain.{LowestOfMain}
 use Rattle.stamps.specs.declared.answers.Victim.{Victim}
 
 unfoldable pub lowestOf : Lowest → Option ℕ
@@ -38,3 +41,14 @@ lowerBest Unstamped i f q = Stamped i f q
 -- row i against the best so far, if it is at place p
 unfoldable pub lowerRow : ℕ → ℕ → List Row → Best → Best
 lowerRow p i rs b = cond (atPlace p (rowAt i rs)) (lowerBest b i (rowAt i rs .stampFirst) (rowAt i rs .stampSeq)) b
+
+-- ---- what one pass finds
+
+pub record LowestIs (p : ℕ) (m : LowestStamp) (rs : List Row) : Type 0 where
+  pub row : lowestOf (m .row) ≡ lowestStamp p rs
+  pub count : m .count ≡ countRows (atPlace p) rs
+
+pub record MainIs (m : LowestOfMain) (rs : List Row) : Type 0 where
+  pub parked : lowestOf (m .parked) ≡ lowestStamp parked rs
+  pub byUse : lowestOf (m .«by_use») ≡ lowestStamp byUse rs
+  pub count : m .count ≡ countRows inMain rs

@@ -1,15 +1,16 @@
 // The lowest stamp of a place.
 use crate::answers::Lowest;
 use crate::answers::LowestOfMain;
+use crate::answers::LowestStamp;
 use crate::row::BY_USE;
 use crate::row::PARKED;
+use crate::row::PROBATION;
 ghost use mathlib.Core.Path.{_≡_};
 ghost use Prim.Native.Nat.{_+_, _*_, _≤_, _<_};
 ghost use lib.ListN.{length};
-ghost use Rattle.rules.specs.Records.{byUse, parked};
-ghost use Rattle.rules.specs.Rows.{rowSize, lowestStamp};
+ghost use Rattle.rules.specs.Rows.{rowSize};
 ghost use Rattle.rules.specs.Memory.{headSize, viewRows};
-ghost use Rattle.stamps.specs.Walked.{lowerBest, lowerRow, bestRow, lowestOf};
+ghost use Rattle.stamps.specs.Walked.{lowerBest, lowerRow, bestRow, lowestOf, LowestIs, MainIs};
 
 // The row with the lowest stamp so far, and that stamp.
 enum Best {
@@ -63,34 +64,42 @@ fn lower_row(state: &[u8], n: usize, i: usize, place: u8, best: Best) -> Best
 }
 
 // From the last row to the first, so that equal stamps go to the lower key.
-pub fn lowest_stamp(state: &[u8], n: usize, place: u8) -> Lowest
+pub fn lowest_stamp(state: &[u8], n: usize, place: u8) -> LowestStamp
     requires { ⌜ headSize + n * rowSize ≤ length (now state) ⌝ }
-    ensures { λ r. ⌜ lowestOf r ≡ lowestStamp place (viewRows n (now (state .entry)) .rows) ⌝ }
+    ensures { λ r. ⌜ LowestIs place r (viewRows n (now (state .entry)) .rows) ⌝ }
 {
     let mut best = Best::Nothing;
+    let mut count: u64 = 0;
     let mut i = n;
     while 0 < i {
         i -= 1;
         best = lower_row(state, n, i, place, best);
+        count += (memory::row::place(state, n, i) == place) as u64;
     }
-    row_of(best)
+    LowestStamp {
+        row: row_of(best),
+        count,
+    }
 }
 
-// The lowest stamps of both places of main, in one pass.
+// Both places of main, in one pass.
 pub fn lowest_of_main(state: &[u8], n: usize) -> LowestOfMain
     requires { ⌜ headSize + n * rowSize ≤ length (now state) ⌝ }
-    ensures { λ r. ⌜ (lowestOf (r .parked) ≡ lowestStamp parked (viewRows n (now (state .entry)) .rows)) × (lowestOf (r .by_use) ≡ lowestStamp byUse (viewRows n (now (state .entry)) .rows)) ⌝ }
+    ensures { λ r. ⌜ MainIs r (viewRows n (now (state .entry)) .rows) ⌝ }
 {
     let mut parked = Best::Nothing;
     let mut by_use = Best::Nothing;
+    let mut count: u64 = 0;
     let mut i = n;
     while 0 < i {
         i -= 1;
         parked = lower_row(state, n, i, PARKED, parked);
         by_use = lower_row(state, n, i, BY_USE, by_use);
+        count += (memory::row::place(state, n, i) < PROBATION) as u64;
     }
     LowestOfMain {
         parked: row_of(parked),
         by_use: row_of(by_use),
+        count,
     }
 }

@@ -1,5 +1,6 @@
 // Seeking a victim.
 use crate::answers::Lowest;
+use crate::answers::LowestOfMain;
 use crate::answers::Victim;
 use crate::lowest::lowest_of_main;
 use crate::lowest::lowest_stamp;
@@ -15,24 +16,24 @@ ghost use Rattle.rules.specs.Records.{byUse};
 ghost use Rattle.rules.specs.Rows.{rowSize, lowestStamp};
 ghost use Rattle.rules.specs.Room.{visitsLeft, returnLapsed, nextVictim};
 ghost use Rattle.rules.specs.Memory.{headSize, viewRows};
-ghost use Rattle.stamps.specs.Walked.{lowestOf, walkFrom, soughtOf};
+ghost use Rattle.stamps.specs.Walked.{lowestOf, walkFrom, soughtOf, MainIs};
 
-// The parked rows that returned, and the row that is taken up after them.
+// How many parked rows returned, and the row that the walk takes up next, if any.
 struct Returned {
     rows: u64,
     next: Lowest,
 }
 
-// Parked rows with until < now return to ByUse, lowest stamp first. The pass that finds none also finds the lowest ByUse stamp.
-fn return_lapsed(state: &mut [u8], n: usize, time: u64) -> Returned
-    requires { ⌜ (headSize + n * rowSize ≤ length (now state)) × (viewRows n (now state) .seq + visitsLeft time (walkFrom (viewRows n (now state)) 0) < 18446744073709551616) ⌝ }
+// Parked rows with until < now return to ByUse, lowest stamp first. `lowest` is of the rows as they are; the pass that finds none lapsed
+// has also found the lowest ByUse stamp.
+fn return_lapsed(state: &mut [u8], n: usize, time: u64, lowest: LowestOfMain) -> Returned
+    requires { ⌜ (headSize + n * rowSize ≤ length (now state)) × (viewRows n (now state) .seq + visitsLeft time (walkFrom (viewRows n (now state)) 0) < 18446744073709551616) × MainIs lowest (viewRows n (now state) .rows) ⌝ }
     ensures { λ r. ⌜ (walkFrom (viewRows n (now (state .exit))) (r .rows) ≡ returnLapsed (visitsLeft time (walkFrom (viewRows n (now (state .entry))) 0)) time (walkFrom (viewRows n (now (state .entry))) 0)) × (lowestOf (r .next) ≡ lowestStamp byUse (viewRows n (now (state .exit)) .rows)) ⌝ }
 {
     let mut rows: u64 = 0;
+    let mut parked = lowest.parked;
+    let mut next = lowest.by_use;
     loop {
-        let lowest = lowest_of_main(state, n);
-        let parked = lowest.parked;
-        let next = lowest.by_use;
         match parked {
             Lowest::Nothing => return Returned { rows, next },
             Lowest::At(i) => {
@@ -41,18 +42,21 @@ fn return_lapsed(state: &mut [u8], n: usize, time: u64) -> Returned
                 }
                 restamp(state, n, i);
                 rows += 1;
+                let again = lowest_of_main(state, n);
+                parked = again.parked;
+                next = again.by_use;
             }
         }
     }
 }
 
-// The walk over ByUse ends at the first entry that is neither restamped nor parked, and yields it. Each row that is taken up costs one
-// pass over the rows.
-pub fn next_victim(state: &mut [u8], n: usize, time: u64) -> Victim
-    requires { ⌜ (headSize + n * rowSize ≤ length (now state)) × (viewRows n (now state) .seq + visitsLeft time (walkFrom (viewRows n (now state)) 0) < 18446744073709551616) ⌝ }
+// The walk over ByUse ends at the first entry that is neither restamped nor parked, and yields it. `lowest` is of the rows as they are;
+// each row that is taken up but not yielded costs a pass over the rows.
+pub fn next_victim(state: &mut [u8], n: usize, time: u64, lowest: LowestOfMain) -> Victim
+    requires { ⌜ (headSize + n * rowSize ≤ length (now state)) × (viewRows n (now state) .seq + visitsLeft time (walkFrom (viewRows n (now state)) 0) < 18446744073709551616) × MainIs lowest (viewRows n (now state) .rows) ⌝ }
     ensures { λ r. ⌜ soughtOf r (viewRows n (now (state .exit))) ≡ nextVictim time (walkFrom (viewRows n (now (state .entry))) 0) ⌝ }
 {
-    let returned = return_lapsed(state, n, time);
+    let returned = return_lapsed(state, n, time, lowest);
     let mut examined = returned.rows;
     let mut next = returned.next;
     let found = loop {
@@ -62,10 +66,12 @@ pub fn next_victim(state: &mut [u8], n: usize, time: u64) -> Victim
                 examined += 1;
                 if is_stale(state, n, i) {
                     restamp(state, n, i);
-                    next = lowest_stamp(state, n, BY_USE);
+                    let again = lowest_stamp(state, n, BY_USE);
+                    next = again.row;
                 } else if is_verified(state, n, i, time) {
                     park(state, n, i);
-                    next = lowest_stamp(state, n, BY_USE);
+                    let again = lowest_stamp(state, n, BY_USE);
+                    next = again.row;
                 } else {
                     break Lowest::At(i);
                 }

@@ -6,7 +6,8 @@ use Rattle.rules.specs.Rows.{rowAt}
 use Rattle.rules.specs.Memory.{viewRows}
 use Rattle.memory.proofs.RowLaws.{view-length}
 use Rattle.counts.specs.Segments.{inSegment}
-use Rattle.counts.proofs.Sums.{Counted, counted-start, counted-fits, counted-turn, placed-in}
+use Rattle.stamps.proofs.Counting.{Counted, counted-start, counted-fits, counted-turn}
+use Rattle.counts.proofs.Sums.{placed-in}
 use Rattle.counts.proofs.count_rows.Statement.{statement}
 use Rattle.counts.proofs.count_rows.Tie as tie
 

@@ -3,13 +3,13 @@ use Prim.Native.Nat.{_+_}
 use native.Mathlib.Omega.{arith}
 use borrow.Author.Needs.{needs}
 use lib.ListN.{length}
-use Rattle.rules.specs.Records.{State, probationBound}
-use Rattle.rules.specs.Rows.{total}
+use Rattle.rules.specs.Records.{State, probation, probationBound}
+use Rattle.rules.specs.Rows.{lowestStamp, total}
 use Rattle.rules.specs.Room.{probationVisits}
 use Rattle.rules.specs.Memory.{capacity, viewRows}
 use Rattle.memory.proofs.Fields.{same-head}
 use Rattle.memory.proofs.RowLaws.{view-length}
-use Rattle.stamps.specs.Walked.{walkFrom}
+use Rattle.stamps.specs.Walked.{lowestOf, walkFrom}
 use Rattle.stamps.proofs.Walking.{found-at, found-none}
 use Rattle.room.specs.Rooms.{LeftAt}
 use Rattle.room.proofs.Leaving.{at-none, at-one, without-at, without-none}
@@ -18,10 +18,10 @@ use Rattle.room.proofs.probation.make_probation_room.Statement.{stateme
 use Rattle.room.proofs.probation.make_probation_room.Tie as tie
 
 abbrev Inv-loop : tie.InvT-loop
-Inv-loop state₀ n bound count stored examined₀ state examined = (length state ≡ length state₀) × Evicting (capacity state₀) (viewRows n state₀) count (walkFrom (viewRows n state) examined)
+Inv-loop state₀ n bound count stored victim₀ examined₀ state victim examined = (length state ≡ length state₀) × (lowestOf victim ≡ lowestStamp probation (viewRows n state .rows)) × Evicting (capacity state₀) (viewRows n state₀) count (walkFrom (viewRows n state) examined)
 
 abbrev μ-loop : tie.MeasureT-loop
-μ-loop state₀ n bound count stored examined₀ state examined = total probationVisits (viewRows n state .rows)
+μ-loop state₀ n bound count stored victim₀ examined₀ state victim examined = total probationVisits (viewRows n state .rows)
 
 -- Q
 bound : (c : tie.After-probation-bound Inv-loop μ-loop) → c .probation-bound .result ≡ probationBound (viewRows (c .before .before .before .before .args .n) (c .before .before .before .before .args .state .now) .maxEntries)
@@ -29,10 +29,10 @@ bound c = c .probation-bound .ensures ∙ ap probationBound (c .before .max-entr
 
 -- the row that is taken up
 up : (c : tie.After-victim Inv-loop μ-loop) →
-    let a = c .before .before .before .before .before .before .before .before .before .before .before .before .before .before .args in
-    let l = c .before .before .before .before .loop in
-    Taken (capacity (a .state .now)) (viewRows (a .n) (a .state .now)) (c .before .before .before .before .before .before .before .before .count-rows .result) (l .examined) (viewRows (a .n) (l .state)) (c .victim .given .0 .0)
-up c = taken _ _ _ _ _ _ _ (bound (c .before .before .before .before .before .before .before .before .before .before)) (omega (arith, c .before .before .before .before .before .if1 .left)) (found-at _ _ _ (c .before .before .lowest-stamp .ensures) (c .victim .given .1)) (c .before .before .before .before .loop .inv .1) (c .before .before .before .before .before .before .before .before .before .before .before .before .before .before .pre .1)
+    let a = c .before .before .before .before .before .before .before .before .before .before .before .before .args in
+    let l = c .before .before .loop in
+    Taken (capacity (a .state .now)) (viewRows (a .n) (a .state .now)) (c .before .before .before .before .before .before .lowest-stamp .result .count) (l .examined) (viewRows (a .n) (l .state)) (c .victim .given .0 .0)
+up c = taken _ _ _ _ _ _ _ (bound (c .before .before .before .before .before .before .before .before)) (omega (arith, c .before .before .before .if1 .left)) (found-at _ _ _ (c .before .before .loop .inv .1) (c .victim .given .1)) (c .before .before .loop .inv .2) (c .before .before .before .before .before .before .before .before .before .before .before .before .pre .1)
 
 max-entries-requires : tie.Need-max-entries-requires Inv-loop μ-loop
 max-entries-requires c κs = search needs
@@ -40,8 +40,8 @@ max-entries-requires c κs = search needs
 probation-bound-requires : tie.Need-probation-bound-requires Inv-loop μ-loop
 probation-bound-requires c κs = search needs
 
-count-rows-requires : tie.Need-count-rows-requires Inv-loop μ-loop
-count-rows-requires c κs = search needs
+lowest-stamp-requires : tie.Need-lowest-stamp-requires Inv-loop μ-loop
+lowest-stamp-requires c κs = search needs
 
 stored-weight-requires : tie.Need-stored-weight-requires Inv-loop μ-loop
 stored-weight-requires c κs = search needs
@@ -52,15 +52,10 @@ same-length c = search needs
 returns : tie.Need-returns Inv-loop μ-loop
 returns c =
     let a = c .before .before .before .before .before .before .before .before .before .args in
-    (ap (λ (s : State). walkFrom s 0) (without-none _ _ refl) ∙ room-free _ _ (viewRows (a .n) (a .state .now)) (bound (c .before .before .before .before .before)) (c .before .before .before .count-rows .ensures) (omega arith), at-none _ _ refl)
+    (ap (λ (s : State). walkFrom s 0) (without-none _ _ refl) ∙ room-free _ _ (viewRows (a .n) (a .state .now)) (bound (c .before .before .before .before .before)) (c .before .before .before .lowest-stamp .ensures .count) (omega arith), at-none _ _ refl)
 
 loop-holds : tie.Need-loop-holds Inv-loop μ-loop
-loop-holds c =
-    let s = c .before .before .before .before .before .before .before .before .before in
-    (refl, evict-start _ _ (viewRows (s .args .n) (s .args .state .now)) (s .pre .1) (c .before .before .before .count-rows .ensures))
-
-lowest-stamp-requires : tie.Need-lowest-stamp-requires Inv-loop μ-loop
-lowest-stamp-requires c κs = omega arith
+loop-holds c = (refl, c .before .before .before .lowest-stamp .ensures .row, evict-start _ _ (viewRows (c .before .before .before .before .before .before .before .before .before .args .n) (c .before .before .before .before .before .before .before .before .before .args .state .now)) (c .before .before .before .before .before .before .before .before .before .pre .1) (c .before .before .before .lowest-stamp .ensures .count))
 
 enum-told : tie.Need-enum-told Inv-loop μ-loop
 enum-told c = search needs
@@ -71,13 +66,13 @@ same-length-2 c = search needs
 returns-2 : tie.Need-returns-2 Inv-loop μ-loop
 returns-2 c =
     let e = c .enum-told .given .1 in
-    (ap (λ (s : State). walkFrom s (c .before .before .before .before .loop .examined)) (without-none _ _ e) ∙ evict-ends _ _ _ _ _ (found-none _ _ (c .before .before .lowest-stamp .ensures) e) (c .before .before .before .before .loop .inv .1), at-none _ _ e)
+    (ap (λ (s : State). walkFrom s (c .before .before .loop .examined)) (without-none _ _ e) ∙ evict-ends _ _ _ _ _ (found-none _ _ (c .before .before .loop .inv .1) e) (c .before .before .loop .inv .2), at-none _ _ e)
 
 enum-known-victim : tie.Need-enum-known-victim Inv-loop μ-loop
 enum-known-victim c = search needs
 
 add-examined : tie.Need-add-examined Inv-loop μ-loop
-add-examined c = omega (arith, up (c .before) .fits, c .before .before .before .before .before .before .before .before .before .before .before .before .before .before .before .pre .2)
+add-examined c = omega (arith, up (c .before) .fits, c .before .before .before .before .before .before .before .before .before .before .before .before .before .pre .2)
 
 is-stale-requires : tie.Need-is-stale-requires Inv-loop μ-loop
 is-stale-requires c κs =
@@ -88,26 +83,31 @@ restamp-requires : tie.Need-restamp-requires Inv-loop μ-loop
 restamp-requires c κs =
     let t = up (c .before .before .before .before .before) in
     let i = rw view-length at (t .inside) in
-    (i, omega arith, omega (arith, t .drawn, c .before .before .before .before .before .before .before .before .before .before .before .before .before .before .before .before .before .before .before .pre .2))
+    (i, omega arith, omega (arith, t .drawn, c .before .before .before .before .before .before .before .before .before .before .before .before .before .before .before .before .before .pre .2))
+
+lowest-stamp-requires-2 : tie.Need-lowest-stamp-requires-2 Inv-loop μ-loop
+lowest-stamp-requires-2 c κs =
+    let k = c .before .before .before .restamp .kept .0 in
+    omega arith
 
 loop-less : tie.Need-loop-less Inv-loop μ-loop
 loop-less c =
-    let t = up (c .before .before .before .before .before .before .before .before) .restamped (sym (c .before .before .before .before .before .is-stale .ensures) ∙ c .before .before .before .before .if2 .taken) in
-    rw (c .before .before .restamp .ensures) (omega (arith, t .left, c .before .before .before .before .before .before .before .before .before .before .before .before .loop .inv .1 .left))
+    let t = up (c .before .before .before .before .before .before .before .before .before .before) .restamped (sym (c .before .before .before .before .before .before .before .is-stale .ensures) ∙ c .before .before .before .before .before .before .if2 .taken) in
+    rw (c .before .before .before .before .restamp .ensures) (omega (arith, t .left, c .before .before .before .before .before .before .before .before .before .before .before .before .loop .inv .2 .left))
 
 loop-again : tie.Need-loop-again Inv-loop μ-loop
 loop-again c =
-    let k = c .before .before .restamp .kept .0 in
-    (omega arith, rw (c .before .before .restamp .ensures) (up (c .before .before .before .before .before .before .before .before) .restamped (sym (c .before .before .before .before .before .is-stale .ensures) ∙ c .before .before .before .before .if2 .taken)))
+    let k = c .before .before .before .before .restamp .kept .0 in
+    (omega arith, c .lowest-stamp2 .ensures .row, rw (c .before .before .before .before .restamp .ensures) (up (c .before .before .before .before .before .before .before .before .before .before) .restamped (sym (c .before .before .before .before .before .before .before .is-stale .ensures) ∙ c .before .before .before .before .before .before .if2 .taken)))
 
 same-length-3 : tie.Need-same-length-3 Inv-loop μ-loop
 same-length-3 c = search needs
 
 returns-3 : tie.Need-returns-3 Inv-loop μ-loop
 returns-3 c =
-    let a = c .before .before .before .before .before .before .before .before .before .before .before .before .before .before .before .before .before .before .args in
+    let a = c .before .before .before .before .before .before .before .before .before .before .before .before .before .before .before .before .args in
     let t = up (c .before .before .before .before) in
-    (ap (λ (s : State). walkFrom s (c .before .before .before .before .before .before .before .before .loop .examined + 1)) (without-at _ _ _ refl) ∙ t .yields (sym (c .before .is-stale .ensures) ∙ c .if2 .left), at-one (λ i. LeftAt i _ _ _) _ _ refl (t .stays _ (c .before .before .before .before .before .before .before .before .before .before .stored-weight .ensures ∙ same-head 0 (a .n) (a .state .now) .storedWeight)))
+    (ap (λ (s : State). walkFrom s (c .before .before .before .before .before .before .loop .examined + 1)) (without-at _ _ _ refl) ∙ t .yields (sym (c .before .is-stale .ensures) ∙ c .if2 .left), at-one (λ i. LeftAt i _ _ _) _ _ refl (t .stays _ (c .before .before .before .before .before .before .before .before .stored-weight .ensures ∙ same-head 0 (a .n) (a .state .now) .storedWeight)))
 
 pub make-probation-room-spec : {M : Type 1} → statement M
 make-probation-room-spec =
@@ -117,12 +117,11 @@ make-probation-room-spec =
     μ-loop
     max-entries-requires
     probation-bound-requires
-    count-rows-requires
+    lowest-stamp-requires
     stored-weight-requires
     same-length
     returns
     loop-holds
-    lowest-stamp-requires
     enum-told
     same-length-2
     returns-2
@@ -130,6 +129,7 @@ make-probation-room-spec =
     add-examined
     is-stale-requires
     restamp-requires
+    lowest-stamp-requires-2
     loop-less
     loop-again
     same-length-3

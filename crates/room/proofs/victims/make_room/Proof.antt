@@ -11,7 +11,7 @@ use Rattle.room.specs.Rooms.{LeftAt}
 use Rattle.counts.proofs.Sums.{sound-small}
 use Rattle.room.proofs.Files.{few}
 use Rattle.room.proofs.Leaving.{at-none, at-one}
-use Rattle.room.proofs.Settling.{Waiting, waiting, room-there, room-made, room-failed, out-is, waits-alone, left-aside, sought-at, sought-none}
+use Rattle.room.proofs.Settling.{Waiting, waiting, full, room-there, room-made, room-failed, out-is, waits-alone, left-aside, sought-at, sought-none}
 use borrow.Author.Needs.{needs}
 use Rattle.room.proofs.victims.make_room.Statement.{statement}
 use Rattle.room.proofs.victims.make_room.Tie as tie
@@ -21,6 +21,9 @@ most c = c .max-entries .ensures ∙ same-head 0 (c .before .before .before .arg
 
 cut : (c : tie.After-cut-to-bound) → c .cut-to-bound .result ≡ min (c .before .before .before .before .args .w) (weightBound (viewRows (c .before .before .before .before .args .n) (c .before .before .before .before .args .state .now) .maxEntries))
 cut c = c .cut-to-bound .ensures ∙ ap (λ (m : ℕ). min (c .before .before .before .before .args .w) (weightBound m)) (most (c .before))
+
+stored : (c : tie.After-stored-weight) → c .stored-weight .result ≡ viewRows (c .before .before .before .before .before .before .before .before .args .n) (c .before .before .before .before .before .before .before .before .args .state .now) .storedWeight
+stored c = c .stored-weight .ensures ∙ same-head 0 (c .before .before .before .before .before .before .before .before .args .n) (c .before .before .before .before .before .before .before .before .args .state .now) .storedWeight
 
 -- the victims stand aside
 aside : (c : tie.After-choose-victims) → Waiting (viewRows (c .before .before .before .before .before .before .before .before .before .before .before .before .args .n) (c .before .before .before .before .before .before .before .before .before .before .before .before .args .state .now)) (viewRows (c .before .before .before .before .before .before .before .before .before .before .before .before .args .n) (c .choose-victims .last .0))
@@ -32,32 +35,30 @@ max-entries-requires c κs = search needs
 cut-to-bound-requires : tie.Need-cut-to-bound-requires
 cut-to-bound-requires c κs = omega (arith, most c, sound-small _ _ (c .before .before .before .pre .1) .max)
 
-count-rows-requires : tie.Need-count-rows-requires
-count-rows-requires c κs = search needs
+lowest-of-main-requires : tie.Need-lowest-of-main-requires
+lowest-of-main-requires c κs = search needs
 
 stored-weight-requires : tie.Need-stored-weight-requires
 stored-weight-requires c κs = search needs
 
 has-room-requires : tie.Need-has-room-requires
 has-room-requires c κs =
-    let s = c .before .before .before .before .before .before .before .before in
-    let m = sound-small _ _ (s .pre .1) in
-    (omega (arith, most (c .before .before .before .before .before), m .max), omega (arith, c .stored-weight .ensures, same-head 0 (s .args .n) (s .args .state .now) .storedWeight, m .stored), omega (arith, c .before .before .before .before .cut-to-bound .ensures))
+    let m = sound-small _ _ (c .before .before .before .before .before .before .before .before .pre .1) in
+    (omega (arith, most (c .before .before .before .before .before), m .max), omega (arith, stored c, m .stored), omega (arith, c .before .before .before .before .cut-to-bound .ensures))
 
 same-length : tie.Need-same-length
 same-length c = search needs
 
 returns : tie.Need-returns
 returns c =
-    let s = c .before .before .before .before .before .before .before .before .before .before in
-    let a = s .args in
+    let a = c .before .before .before .before .before .before .before .before .before .before .args in
     let v = viewRows (a .n) (a .state .now) in
-    (sought-none _ v refl ∙ room-there (a .time) (a .w) _ (c .before .before .before .before .before .before .before .max-entries .result) (c .before .before .before .before .count-rows .result) (c .before .before .stored-weight .result) (c .before .before .before .before .before .before .cut-to-bound .result) v _ (s .pre .1) (most (c .before .before .before .before .before .before .before)) (c .before .before .before .before .count-rows .ensures) (c .before .before .stored-weight .ensures ∙ same-head 0 (a .n) (a .state .now) .storedWeight) (c .before .before .before .before .before .before .cut-to-bound .ensures) (c .before .has-room .ensures) (c .if1 .taken), omega arith, at-none _ _ refl, λ e. contradiction refl e)
+    (sought-none _ v refl ∙ room-there (a .time) (a .w) _ (c .before .before .before .before .before .before .before .max-entries .result) (c .before .before .before .before .lowest-of-main .result .count) (c .before .before .stored-weight .result) (c .before .before .before .before .before .before .cut-to-bound .result) v _ (c .before .before .before .before .before .before .before .before .before .before .pre .1) (most (c .before .before .before .before .before .before .before)) (c .before .before .before .before .lowest-of-main .ensures .count) (stored (c .before .before)) (c .before .before .before .before .before .before .cut-to-bound .ensures) (c .before .has-room .ensures) (c .if1 .taken), omega arith, at-none _ _ refl, λ e. contradiction refl e)
 
 choose-victims-requires : tie.Need-choose-victims-requires
 choose-victims-requires c κs =
-    let s = c .before .before .before .before .before .before .before .before .before .before .before in
-    (s .pre .0, s .pre .1, s .pre .2, c .before .before .before .before .before .count-rows .ensures, omega (arith, cut (c .before .before .before .before .before .before .before)))
+    let m = c .before .before .before .before .before .lowest-of-main .ensures in
+    (c .before .before .before .before .before .before .before .before .before .before .before .pre .0, c .before .before .before .before .before .before .before .before .before .before .before .pre .1, c .before .before .before .before .before .before .before .before .before .before .before .pre .2, m, omega (arith, cut (c .before .before .before .before .before .before .before)), full _ (c .before .before .before .before .before .before .before .before .max-entries .result) (c .before .before .before .before .before .lowest-of-main .result .count) (c .before .before .before .stored-weight .result) (c .before .before .before .before .before .before .before .cut-to-bound .result) (viewRows (c .before .before .before .before .before .before .before .before .before .before .before .args .n) (c .before .before .before .before .before .before .before .before .before .before .before .args .state .now)) _ (c .before .before .before .before .before .before .before .before .before .before .before .pre .1) (most (c .before .before .before .before .before .before .before .before)) (m .count) (stored (c .before .before .before)) (c .before .before .has-room .ensures) (c .before .if1 .left))
 
 sub-if3 : tie.Need-sub-if3
 sub-if3 c = omega (arith, c .before .before .before .before .choose-victims .ensures .1 (c .before .if2 .taken) .last .few)
@@ -67,21 +68,19 @@ same-length-2 c = search needs
 
 returns-2 : tie.Need-returns-2
 returns-2 c =
-    let s = c .before .before .before .before .before .before .before .before .before .before .before .before .before .before .before .before .before in
-    let a = s .args in
+    let a = c .before .before .before .before .before .before .before .before .before .before .before .before .before .before .before .before .before .args in
     let h = c .before .before .before .before .before .choose-victims in
     let m = c .before .before .if2 .taken in
     let v = viewRows (a .n) (a .state .now) in
     let t = viewRows (a .n) (h .last .0) in
-    let u = waits-alone _ v t (h .result) (aside (c .before .before .before .before .before)) (c .before .before .before .before .before .before .before .before .before .before .before .count-rows .ensures) (h .ensures .1 m) (c .if3 .taken) in
-    let l = left-aside _ v t (h .result) (aside (c .before .before .before .before .before)) (c .before .before .before .before .before .before .before .before .before .before .before .count-rows .ensures) (h .ensures .1 m) (c .if3 .taken) _ (s .pre .1) in
+    let u = waits-alone _ v t (h .result) (aside (c .before .before .before .before .before)) (c .before .before .before .before .before .before .before .before .before .before .before .lowest-of-main .ensures .count) (h .ensures .1 m) (c .if3 .taken) in
+    let l = left-aside _ v t (h .result) (aside (c .before .before .before .before .before)) (c .before .before .before .before .before .before .before .before .before .before .before .lowest-of-main .ensures .count) (h .ensures .1 m) (c .if3 .taken) _ (c .before .before .before .before .before .before .before .before .before .before .before .before .before .before .before .before .before .pre .1) in
     (sought-at _ _ t refl ∙ room-made (a .time) (a .w) (c .before .before .before .before .before .before .before .before .before .before .before .before .before .cut-to-bound .result) v t _ (h .result) (cut (c .before .before .before .before .before .before .before .before .before .before .before .before .before)) (h .ensures .0) m (out-is _ t u), omega arith, at-one (λ i. LeftAt i _ _ _) _ _ refl l, λ e. contradiction refl e)
 
 drop-aside-requires : tie.Need-drop-aside-requires
 drop-aside-requires c κs =
-    let s = c .before .before .before .before .before .before .before .before .before .before .before .before .before .before .before .before .before .before in
     let k = c .before .before .before .before .before .before .choose-victims .kept .0 in
-    (few _ _ (s .pre .1), omega arith, aside (c .before .before .before .before .before .before) .paths)
+    (few _ _ (c .before .before .before .before .before .before .before .before .before .before .before .before .before .before .before .before .before .before .pre .1), omega arith, aside (c .before .before .before .before .before .before) .paths)
 
 same-length-3 : tie.Need-same-length-3
 same-length-3 c = search needs
@@ -101,11 +100,10 @@ same-length-4 c = search needs
 
 returns-4 : tie.Need-returns-4
 returns-4 c =
-    let s = c .before .before .before .before .before .before .before .before .before .before .before .before .before .before .before .before .before .before .before in
-    let a = s .args in
+    let a = c .before .before .before .before .before .before .before .before .before .before .before .before .before .before .before .before .before .before .before .args in
     let h = c .before .before .before .before .before .before .before .choose-victims in
     let v = viewRows (a .n) (a .state .now) in
-    (sought-none _ _ refl ∙ room-failed (a .time) (a .w) (c .before .before .before .before .before .before .before .before .before .before .before .before .before .before .before .cut-to-bound .result) v (viewRows (a .n) (h .last .0)) _ (h .result) (aside (c .before .before .before .before .before .before .before)) (sound-is _ v (s .pre .1) .counted ∙ view-length (a .n) (a .state .now) ∙ sym (view-length (a .n) (h .last .0))) (cut (c .before .before .before .before .before .before .before .before .before .before .before .before .before .before .before)) (h .ensures .0) (c .before .before .before .before .if2 .left) (c .before .before .put-back .ensures), omega arith, at-none _ _ refl, λ e. refl)
+    (sought-none _ _ refl ∙ room-failed (a .time) (a .w) (c .before .before .before .before .before .before .before .before .before .before .before .before .before .before .before .cut-to-bound .result) v (viewRows (a .n) (h .last .0)) _ (h .result) (aside (c .before .before .before .before .before .before .before)) (sound-is _ v (c .before .before .before .before .before .before .before .before .before .before .before .before .before .before .before .before .before .before .before .pre .1) .counted ∙ view-length (a .n) (a .state .now) ∙ sym (view-length (a .n) (h .last .0))) (cut (c .before .before .before .before .before .before .before .before .before .before .before .before .before .before .before)) (h .ensures .0) (c .before .before .before .before .if2 .left) (c .before .before .put-back .ensures), omega arith, at-none _ _ refl, λ e. refl)
 
 pub make-room-spec : {M : Type 1} → statement M
 make-room-spec =
@@ -113,7 +111,7 @@ make-room-spec =
     (tie.spec
     max-entries-requires
     cut-to-bound-requires
-    count-rows-requires
+    lowest-of-main-requires
     stored-weight-requires
     has-room-requires
     same-length

@@ -1,46 +1,65 @@
-use mathlib.Core.Path.{_∙_}
-use Prim.Native.Nat.{_-_, _≤_}
+use mathlib.Core.Path.{ap, _∙_}
+use Prim.Native.Nat.{ℕ, _-_}
 use native.Mathlib.Omega.{arith}
+use lib.Dec.{ltb}
 use borrow.Author.Needs.{needs}
 use Rattle.rules.specs.Records.{byUse, parked}
+use Rattle.rules.specs.Rows.{inMain}
 use Rattle.rules.specs.Memory.{viewRows}
 use Rattle.memory.proofs.RowLaws.{view-length}
+use Rattle.stamps.proofs.Counting.{Counted, counted-start, counted-fits, counted-turn, counted-end}
 use Rattle.stamps.proofs.Searching.{Down, down-start, down-row, down-end}
 use Rattle.stamps.proofs.lowest.lowest_of_main.Statement.{statement}
 use Rattle.stamps.proofs.lowest.lowest_of_main.Tie as tie
 
 abbrev Inv-loop : tie.InvT-loop
-Inv-loop state n parked₀ by_use₀ i₀ p b i = (i ≤ n) × Down parked i (viewRows n state .rows) p × Down byUse i (viewRows n state .rows) b
+Inv-loop state n parked₀ by_use₀ count₀ i₀ p b count i = Counted inMain n i count (viewRows n state .rows) × Down parked i (viewRows n state .rows) p × Down byUse i (viewRows n state .rows) b
 
 abbrev μ-loop : tie.MeasureT-loop
-μ-loop state n parked₀ by_use₀ i₀ p b i = i
+μ-loop state n parked₀ by_use₀ count₀ i₀ p b count i = i
 
 loop-holds : tie.Need-loop-holds Inv-loop μ-loop
 loop-holds c =
     let s = c .before .args in
     let rs = viewRows (s .n) (s .state .now) .rows in
     let e = view-length (s .n) (s .state .now) in
-    (omega arith, down-start parked (s .n) rs (omega (arith, e)), down-start byUse (s .n) rs (omega (arith, e)))
+    (counted-start inMain (s .n) rs (omega (arith, e)), down-start parked (s .n) rs (omega (arith, e)), down-start byUse (s .n) rs (omega (arith, e)))
 
 sub-i : tie.Need-sub-i Inv-loop μ-loop
 sub-i c = search needs
 
 lower-row-requires : tie.Need-lower-row-requires Inv-loop μ-loop
-lower-row-requires c κs = search needs
+lower-row-requires c κs =
+    let h = c .before .loop .inv .0 .within in
+    omega arith
 
 lower-row-requires-2 : tie.Need-lower-row-requires-2 Inv-loop μ-loop
-lower-row-requires-2 c κs = search needs
+lower-row-requires-2 c κs =
+    let h = c .before .before .loop .inv .0 .within in
+    omega arith
+
+place-requires : tie.Need-place-requires Inv-loop μ-loop
+place-requires c κs =
+    let h = c .before .before .before .loop .inv .0 .within in
+    omega arith
+
+cast-count : tie.Need-cast-count Inv-loop μ-loop
+cast-count c = search needs
+
+add-count : tie.Need-add-count Inv-loop μ-loop
+add-count c = omega (arith, counted-fits inMain (c .before .before .before .before .before .before .args .n) (c .before .before .before .before .loop .i) (c .before .before .before .before .loop .count) (ltb (c .place .result) 2) (viewRows (c .before .before .before .before .before .before .args .n) (c .before .before .before .before .before .before .args .state .now) .rows) (c .before .before .before .loop-test .taken) (c .before .before .before .before .loop .inv .0))
 
 loop-less : tie.Need-loop-less Inv-loop μ-loop
 loop-less c = search needs
 
 loop-again : tie.Need-loop-again Inv-loop μ-loop
+unfolding inMain
 loop-again c =
-    let l = c .before .before .before .loop in
-    let s = c .before .before .before .before .before .args in
+    let l = c .before .before .before .before .loop in
+    let s = c .before .before .before .before .before .before .args in
     let rs = viewRows (s .n) (s .state .now) .rows in
     let e = view-length (s .n) (s .state .now) in
-    (omega arith, rw (c .before .lower-row .ensures) (down-row parked (l .i) (l .i - 1) rs (l .parked) (omega arith) (omega (arith, e)) (l .inv .1)), rw (c .lower-row2 .ensures) (down-row byUse (l .i) (l .i - 1) rs (l .by-use) (omega arith) (omega (arith, e)) (l .inv .2)))
+    (counted-turn inMain (s .n) (l .i) (l .i - 1) (l .count) (ltb (c .place .result) 2) rs (omega arith) (omega (arith, e, l .inv .0 .within)) (ap (λ (x : ℕ). ltb x 2) (c .place .ensures)) (l .inv .0), rw (c .before .before .lower-row .ensures) (down-row parked (l .i) (l .i - 1) rs (l .parked) (omega arith) (omega (arith, e, l .inv .0 .within)) (l .inv .1)), rw (c .before .lower-row2 .ensures) (down-row byUse (l .i) (l .i - 1) rs (l .by-use) (omega arith) (omega (arith, e, l .inv .0 .within)) (l .inv .2)))
 
 row-of-requires : tie.Need-row-of-requires Inv-loop μ-loop
 row-of-requires c κs = search needs
@@ -53,7 +72,11 @@ returns c =
     let l = c .before .before .before .loop in
     let s = c .before .before .before .before .before .args in
     let rs = viewRows (s .n) (s .state .now) .rows in
-    (c .before .row-of .ensures ∙ down-end parked (l .i) rs (l .parked) (omega arith) (l .inv .1), c .row-of2 .ensures ∙ down-end byUse (l .i) rs (l .by-use) (omega arith) (l .inv .2))
+    record {
+      parked = c .before .row-of .ensures ∙ down-end parked (l .i) rs (l .parked) (omega arith) (l .inv .1);
+      byUse = c .row-of2 .ensures ∙ down-end byUse (l .i) rs (l .by-use) (omega arith) (l .inv .2);
+      count = counted-end inMain (s .n) (l .i) (l .count) rs (omega arith) (l .inv .0);
+    }
 
 pub lowest-of-main-spec : {M : Type 1} → statement M
 lowest-of-main-spec =
@@ -65,6 +88,9 @@ lowest-of-main-spec =
     sub-i
     lower-row-requires
     lower-row-requires-2
+    place-requires
+    cast-count
+    add-count
     loop-less
     loop-again
     row-of-requires

@@ -1,38 +1,59 @@
-use mathlib.Core.Path.{_∙_}
-use Prim.Native.Nat.{_-_, _≤_}
+use mathlib.Core.Path.{ap, _∙_}
+use Prim.Native.Nat.{ℕ, _-_}
 use native.Mathlib.Omega.{arith}
+use lib.Dec.{eqb}
 use borrow.Author.Needs.{needs}
+use Rattle.rules.specs.Rows.{atPlace}
 use Rattle.rules.specs.Memory.{viewRows}
 use Rattle.memory.proofs.RowLaws.{view-length}
+use Rattle.stamps.proofs.Counting.{Counted, counted-start, counted-fits, counted-turn, counted-end}
 use Rattle.stamps.proofs.Searching.{Down, down-start, down-row, down-end}
 use Rattle.stamps.proofs.lowest.lowest_stamp.Statement.{statement}
 use Rattle.stamps.proofs.lowest.lowest_stamp.Tie as tie
 
 abbrev Inv-loop : tie.InvT-loop
-Inv-loop state n place best₀ i₀ best i = (i ≤ n) × Down place i (viewRows n state .rows) best
+Inv-loop state n place best₀ count₀ i₀ best count i = Counted (atPlace place) n i count (viewRows n state .rows) × Down place i (viewRows n state .rows) best
 
 abbrev μ-loop : tie.MeasureT-loop
-μ-loop state n place best₀ i₀ best i = i
+μ-loop state n place best₀ count₀ i₀ best count i = i
 
 loop-holds : tie.Need-loop-holds Inv-loop μ-loop
 loop-holds c =
     let s = c .before .args in
-    (omega arith, down-start (s .place) (s .n) (viewRows (s .n) (s .state .now) .rows) (omega (arith, view-length (s .n) (s .state .now))))
+    let rs = viewRows (s .n) (s .state .now) .rows in
+    let e = view-length (s .n) (s .state .now) in
+    (counted-start (atPlace (s .place)) (s .n) rs (omega (arith, e)), down-start (s .place) (s .n) rs (omega (arith, e)))
 
 sub-i : tie.Need-sub-i Inv-loop μ-loop
 sub-i c = search needs
 
 lower-row-requires : tie.Need-lower-row-requires Inv-loop μ-loop
-lower-row-requires c κs = search needs
+lower-row-requires c κs =
+    let h = c .before .loop .inv .0 .within in
+    omega arith
+
+place-requires : tie.Need-place-requires Inv-loop μ-loop
+place-requires c κs =
+    let h = c .before .before .loop .inv .0 .within in
+    omega arith
+
+cast-count : tie.Need-cast-count Inv-loop μ-loop
+cast-count c = search needs
+
+add-count : tie.Need-add-count Inv-loop μ-loop
+add-count c = omega (arith, counted-fits (atPlace (c .before .before .before .before .before .args .place)) (c .before .before .before .before .before .args .n) (c .before .before .before .loop .i) (c .before .before .before .loop .count) (eqb (c .place .result) (c .before .before .before .before .before .args .place)) (viewRows (c .before .before .before .before .before .args .n) (c .before .before .before .before .before .args .state .now) .rows) (c .before .before .loop-test .taken) (c .before .before .before .loop .inv .0))
 
 loop-less : tie.Need-loop-less Inv-loop μ-loop
 loop-less c = search needs
 
 loop-again : tie.Need-loop-again Inv-loop μ-loop
+unfolding atPlace
 loop-again c =
-    let l = c .before .before .loop in
-    let s = c .before .before .before .before .args in
-    (omega arith, rw (c .lower-row .ensures) (down-row (s .place) (l .i) (l .i - 1) (viewRows (s .n) (s .state .now) .rows) (l .best) (omega arith) (omega (arith, view-length (s .n) (s .state .now))) (l .inv .1)))
+    let l = c .before .before .before .loop in
+    let s = c .before .before .before .before .before .args in
+    let rs = viewRows (s .n) (s .state .now) .rows in
+    let e = view-length (s .n) (s .state .now) in
+    (counted-turn (atPlace (s .place)) (s .n) (l .i) (l .i - 1) (l .count) (eqb (c .place .result) (s .place)) rs (omega arith) (omega (arith, e, l .inv .0 .within)) (ap (λ (x : ℕ). eqb x (s .place)) (c .place .ensures)) (l .inv .0), rw (c .before .lower-row .ensures) (down-row (s .place) (l .i) (l .i - 1) rs (l .best) (omega arith) (omega (arith, e, l .inv .0 .within)) (l .inv .1)))
 
 row-of-requires : tie.Need-row-of-requires Inv-loop μ-loop
 row-of-requires c κs = search needs
@@ -41,7 +62,11 @@ returns : tie.Need-returns Inv-loop μ-loop
 returns c =
     let l = c .before .before .loop in
     let s = c .before .before .before .before .args in
-    c .row-of .ensures ∙ down-end (s .place) (l .i) (viewRows (s .n) (s .state .now) .rows) (l .best) (omega arith) (l .inv .1)
+    let rs = viewRows (s .n) (s .state .now) .rows in
+    record {
+      row = c .row-of .ensures ∙ down-end (s .place) (l .i) rs (l .best) (omega arith) (l .inv .1);
+      count = counted-end (atPlace (s .place)) (s .n) (l .i) (l .count) rs (omega arith) (l .inv .0);
+    }
 
 pub lowest-stamp-spec : {M : Type 1} → statement M
 lowest-stamp-spec =
@@ -52,6 +77,9 @@ lowest-stamp-spec =
     loop-holds
     sub-i
     lower-row-requires
+    place-requires
+    cast-count
+    add-count
     loop-less
     loop-again
     row-of-requires

@@ -94,7 +94,7 @@ loop-again : tie.Need-loop-again Inv-loop μ-loop
 loop-again c =
     let l = c .before .before .before .before .before .before .before .before .before .before .before .before .loop in
     let k = c .before .before .before .before .restamp .kept .0 in
-    (omega arith, c .lowest-stamp .ensures, going-on (seeking _) _ _ (l .examined) (walkFrom _ _) _ _ _ (turn (c .before .before .before .before .before .before)) (c .before .before .before .before .restamp .ensures) (l .inv .2))
+    (omega arith, c .lowest-stamp .ensures .row, going-on (seeking _) _ _ (l .examined) (walkFrom _ _) _ _ _ (turn (c .before .before .before .before .before .before)) (c .before .before .before .before .restamp .ensures) (l .inv .2))
 
 is-verified-requires : tie.Need-is-verified-requires Inv-loop μ-loop
 is-verified-requires c κs =
@@ -125,7 +125,7 @@ loop-again-2 : tie.Need-loop-again-2 Inv-loop μ-loop
 loop-again-2 c =
     let l = c .before .before .before .before .before .before .before .before .before .before .before .before .before .before .before .loop in
     let k = c .before .before .before .before .park .kept .0 in
-    (omega arith, c .lowest-stamp2 .ensures, going-on (seeking _) _ _ (l .examined) (walkFrom _ _) _ _ _ (parks (c .before .before .before .before .before .before)) (c .before .before .before .before .park .ensures) (l .inv .2))
+    (omega arith, c .lowest-stamp2 .ensures .row, going-on (seeking _) _ _ (l .examined) (walkFrom _ _) _ _ _ (parks (c .before .before .before .before .before .before)) (c .before .before .before .before .park .ensures) (l .inv .2))
 
 same-length : tie.Need-same-length Inv-loop μ-loop
 same-length c =

@@ -1,0 +1,50 @@
+-- Rows counted and summed from the last one down.
+use mathlib.Core.Path.{_≡_, refl, sym, ap, _∙_, subst}
+use Prim.Native.Nat.{ℕ, suc, _+_, _≤_, _<_}
+use native.Mathlib.Omega.{arith}
+use mathlib.Core.List.{List}
+use mathlib.Core.Bool.{Bool, true, false, cond}
+use mir.Val.{boolByte}
+use lib.ListN.{length, drop, drop-of-length-le}
+use lib.Seq.{drop-cons}
+use Rattle.rules.specs.Records.{Row}
+use Rattle.rules.specs.Rows.{rowAt, blankRow, total, countRows}
+
+pub sum-down : (f : Row → ℕ) (k i : ℕ) (rs : List Row) → k ≡ suc i → i < length rs → total f (drop i rs) ≡ f (rowAt i rs) + total f (drop k rs)
+unfolding total
+sum-down f k i rs e h = rw (e, drop-cons rs i blankRow h)
+
+pub sum-none : (f : Row → ℕ) (i : ℕ) (rs : List Row) → length rs ≤ i → total f (drop i rs) ≡ 0
+unfolding total
+sum-none f i rs h = rw (drop-of-length-le rs h)
+
+one-at-most : (b : Bool) → boolByte b ≤ 1
+one-at-most true = omega arith
+one-at-most false = omega arith
+
+as-count : (b : Bool) → boolByte b ≡ cond b 1 0
+as-count true = refl
+as-count false = refl
+
+-- the rows from i on were counted
+pub record Counted (p : Row → Bool) (n i c : ℕ) (rs : List Row) : Type 0 where
+  pub within : i ≤ n
+  pub few : c + i ≤ n
+  pub count : c ≡ countRows p (drop i rs)
+
+pub counted-start : (p : Row → Bool) (n : ℕ) (rs : List Row) → length rs ≤ n → Counted p n n 0 rs
+counted-start p n rs h = record { within = omega arith; few = omega arith; count = sym (sum-none (λ r. cond (p r) 1 0) n rs h) }
+
+pub counted-fits : (p : Row → Bool) (n k c : ℕ) (b : Bool) (rs : List Row) → 0 < k → Counted p n k c rs → c + boolByte b ≤ n
+counted-fits p n k c b rs z h = omega (arith, h .few, one-at-most b)
+
+pub counted-turn : (p : Row → Bool) (n k i c : ℕ) (b : Bool) (rs : List Row) → k ≡ suc i → i < length rs → b ≡ p (rowAt i rs) → Counted p n k c rs → Counted p n i (c + boolByte b) rs
+counted-turn p n k i c b rs e h q t =
+    record {
+      within = omega (arith, t .within);
+      few = omega (arith, t .few, one-at-most b);
+      count = omega (arith, t .count, sum-down (λ r. cond (p r) 1 0) k i rs e h, as-count b ∙ ap (λ (x : Bool). cond x 1 0) q);
+    }
+
+pub counted-end : (p : Row → Bool) (n i c : ℕ) (rs : List Row) → i ≡ 0 → Counted p n i c rs → c ≡ countRows p rs
+counted-end p n i c rs z t = subst (λ (j : ℕ). Counted p n j c rs) z t .count
