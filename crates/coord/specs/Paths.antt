@@ -15,8 +15,8 @@ abbrev pub pathPlaces : ℕ
 pathPlaces = 32
 
 -- the least weight of a path, and the units of weight per entry of the cache
-abbrev pub unitsPerEntry : ℕ
-unitsPerEntry = 16
+abbrev pub addrsPerEntry : ℕ
+addrsPerEntry = 16
 
 -- a place past the length of a written path
 unfoldable pub zeroEntry : CoordEntry
@@ -73,7 +73,7 @@ startsAt k p = firstIs k (elements p)
 
 -- path weight = max(16, length)
 unfoldable pub pathWeight : Path → ℕ
-pathWeight p = max unitsPerEntry (p .len)
+pathWeight p = max addrsPerEntry (p .len)
 
 -- an element onto a path; a 33rd is refused by 2 and dropped
 unfoldable pub appended : Path → CoordEntry → Appended

@@ -1,4 +1,4 @@
--- Rows counted and weighed from the last one down.
+-- The closed form of room, from the last row down, and bounds of a sound state.
 use mathlib.Core.Path.{_≡_, refl, sym, _∙_, subst}
 use Prim.Native.Nat.{ℕ, suc, _+_, _*_, _≤_, _<_, min}
 use native.Mathlib.Omega.{arith}
@@ -8,8 +8,6 @@ use mathlib.Core.Bool.{Bool, true, false, cond, _&&_}
 use lib.Dec.{ltb, leb}
 use lib.ListN.{length, drop}
 use Rattle.coord.specs.declared.node_addr.NodeAddr.{NodeAddr}
-use Rattle.types.specs.declared.placed.Segment.{Segment}
-use Rattle.types.specs.declared.placed.Segment.the-variants.{Main, Probation}
 use Rattle.rules.specs.Cases.{maybe}
 use Rattle.rules.specs.Records.{Row, State, weightBound, byUse, parked, probation}
 use Rattle.rules.specs.Rows.{rowAt, atPlace, inMain, total, countRows, weighRows, withoutRow, withOnlyRows, find}
@@ -21,14 +19,6 @@ use Rattle.rules.proofs.RowLists.{find-at, total-without}
 use Rattle.rules.proofs.SoundTest.{sound-is}
 use Rattle.rules.proofs.Sizes.{few-rows, light}
 use Rattle.stamps.proofs.Counting.{sum-down, sum-none}
-use Rattle.counts.specs.Segments.{placeIn, inSegment}
-
--- ---- a segment's rows
-
-pub placed-in : (g : Segment) (r : Row) (p : ℕ) (b : Bool) → b ≡ placeIn g p → p ≡ r .place → b ≡ inSegment g r
-unfolding inMain atPlace
-placed-in Main r p b h e = h ∙ rw e
-placed-in Probation r p b h e = h ∙ rw e
 
 -- ---- the closed form of room
 

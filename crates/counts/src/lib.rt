@@ -1,42 +1,30 @@
 // Rows counted and weighed, and the bounds.
 use stamps::row::PROBATION;
 use stamps::row::is_verified;
-use types::placed::Segment;
 ghost use mathlib.Core.Path.{_≡_};
 ghost use mathlib.Core.Bool.{_&&_, true};
 ghost use Prim.Native.Nat.{_+_, _*_, _≤_, _<_, min};
 ghost use lib.Dec.{ltb, leb};
 ghost use lib.ListN.{length};
 ghost use Rattle.rules.specs.Records.{weightBound};
-ghost use Rattle.rules.specs.Rows.{rowSize, rowAt, countRows};
+ghost use Rattle.rules.specs.Rows.{rowSize, rowAt, mainCount};
 ghost use Rattle.rules.specs.Sound.{sound};
 ghost use Rattle.rules.specs.Room.{verifiedInMain, roomCanBeMade};
 ghost use Rattle.rules.specs.Memory.{headSize, capacity, viewRows};
-ghost use Rattle.counts.specs.Segments.{placeIn, inSegment};
 
 // What B allows for each entry: B = 16 × max_entries.
 const ADDRS_PER_ENTRY: u64 = 16;
 
-// Whether a place belongs to a segment.
-fn is_in(place: u8, segment: Segment) -> bool
-    ensures { λ r. ⌜ r ≡ placeIn segment place ⌝ }
-{
-    match segment {
-        Segment::Main => place < PROBATION,
-        Segment::Probation => place == PROBATION,
-    }
-}
-
-// The rows of a segment.
-pub fn count_rows(state: &[u8], n: usize, segment: Segment) -> u64
+// The rows of main.
+pub fn count_main(state: &[u8], n: usize) -> u64
     requires { ⌜ headSize + n * rowSize ≤ length (now state) ⌝ }
-    ensures { λ r. ⌜ r ≡ countRows (inSegment segment) (viewRows n (now (state .entry)) .rows) ⌝ }
+    ensures { λ r. ⌜ r ≡ mainCount (viewRows n (now (state .entry))) ⌝ }
 {
     let mut count: u64 = 0;
     let mut i = n;
     while 0 < i {
         i -= 1;
-        count += is_in(memory::row::place(state, n, i), segment) as u64;
+        count += (memory::row::place(state, n, i) < PROBATION) as u64;
     }
     count
 }

@@ -33,6 +33,7 @@ fn refile(state: &mut [u8], n: usize, i: usize, weight: u8)
     stamps::row::restamp(state, n, i);
 }
 
+// Row i's entry is updated, and refiled at this weight; stored_weight is left to the caller.
 pub fn update_in_place(
     state: &mut [u8],
     n: usize,

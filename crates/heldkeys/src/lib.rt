@@ -152,7 +152,7 @@ fn place_probation(
     promote(state, n, i, key, path, time, ttl, w, outcome)
 }
 
-// Growth to `units`, the new weight: row out, room sought for it; without room an unstated one goes back unchanged but newly stamped.
+// Growth to this weight: row out, room sought for it; without room an unstated one goes back unchanged but newly stamped.
 fn grow(
     state: &mut [u8],
     n: usize,
@@ -163,17 +163,17 @@ fn grow(
     ttl: u64,
     stated: bool,
     weight: u8,
-    units: u64,
     added: u64,
     outcome: HintOutcome,
 ) -> Placed
-    requires { ⌜ Holds key n i (now state) × Writable path × (viewRows n (now state) .seq ≤ lastSeq) × (inMain (rowAt i (viewRows n (now state) .rows)) ≡ true) × (units ≡ weight) × (added ≡ weight - rowAt i (viewRows n (now state) .rows) .weight) × (outcome ≡ heldOutcome path (rowAt i (viewRows n (now state) .rows))) ⌝ }
+    requires { ⌜ Holds key n i (now state) × Writable path × (viewRows n (now state) .seq ≤ lastSeq) × (inMain (rowAt i (viewRows n (now state) .rows)) ≡ true) × (added ≡ weight - rowAt i (viewRows n (now state) .rows) .weight) × (outcome ≡ heldOutcome path (rowAt i (viewRows n (now state) .rows))) ⌝ }
     ensures { λ r. ⌜ Placing (grow key path time ttl stated weight i (viewRows n (now (state .entry)))) r (now (state .exit)) ⌝ }
 {
     let e = updated_entry(state, n, i, path, time, ttl);
     let saved = save_row(state, n, i);
     remove_row(state, n, i);
-    let room = make_room(state, n - 1, units, time);
+    let w = wide(weight);
+    let room = make_room(state, n - 1, w, time);
     if room.made | stated {
         let victim = room.victim;
         file_in_room(
@@ -219,25 +219,11 @@ fn place_main(
     if w <= old {
         return refile_held(state, n, i, path, time, ttl, old, Segment::Main, outcome);
     }
-    let units = wide(w);
-    let added = units - wide(old);
+    let added = wide(w) - wide(old);
     if !funding.covers(added) {
         return reject(true, 0);
     }
-    grow(
-        state,
-        n,
-        i,
-        key,
-        path,
-        time,
-        ttl,
-        stated,
-        w,
-        units,
-        added,
-        outcome,
-    )
+    grow(state, n, i, key, path, time, ttl, stated, w, added, outcome)
 }
 
 // 3. A verified key is Rejected, unless stated and differing. The paths are compared at most once, and not for a verified key that

@@ -16,7 +16,7 @@ use Rattle.types.specs.declared.entry.PathMtu.{PathMtu}
 use Rattle.types.specs.declared.entry.PathMtu.the-variants.{Unknown, Known}
 use Rattle.rules.specs.Cases.{maybe}
 use Rattle.rules.specs.Records.{Entry, Row, State, weightBound}
-use Rattle.rules.specs.Rows.{rowAt, inMain, find, changeRow, withoutRow, insertInOrder, total, countRows, weighRows, mainCount, zeroRows, withRows, withOnlyRows}
+use Rattle.rules.specs.Rows.{rowAt, inMain, find, changeRow, withoutRow, insertInOrder, countRows, weighRows, mainCount, zeroRows, withRows, withOnlyRows}
 use Rattle.rules.specs.Sound.{sound}
 use Rattle.rules.specs.Entries.{update, markVerified, setMtu}
 use Rattle.rules.specs.Lookups.{withEntry, rewrite}
@@ -24,8 +24,9 @@ use Rattle.rules.specs.Room.{refiled, raised, stamp, refile, fileNew, takeOut, 
 use Rattle.rules.specs.Placement.{verifiedEntry}
 use Rattle.rules.specs.Memory.{viewRows}
 use Rattle.rules.proofs.Addresses.{before-irrefl, before-trans, contradiction}
-use Rattle.rules.proofs.RowLists.{Rising, by-cond, cores, of-cores, every-at, change-at, length-change, total-insert, total-without, total-without-le, total-some, find-at}
+use Rattle.rules.proofs.RowLists.{Rising, cores, of-cores, every-at, change-at, length-change, total-insert, total-without, total-without-le, total-some, find-at}
 use Rattle.rules.proofs.SoundTest.{Sound, sound-is}
+use Rattle.stamps.proofs.Counting.{count-few}
 use Rattle.memory.specs.Edits.{withStoredWeight}
 use Rattle.memory.proofs.Changes.{change-twice}
 use Rattle.memory.proofs.RowLaws.{view-length, length-without}
@@ -125,15 +126,10 @@ verified-back R k p t ttl i w v mtu s a b c x d f m et ev ea eb ec ex =
 
 -- ---- room without row i
 
-count-few : (rs : List Row) → countRows inMain rs ≤ length rs
-unfolding total
-count-few [] = omega arith
-count-few (r ∷ rs) = let h = count-few rs in by-cond (λ u. u + countRows inMain rs ≤ suc (length rs)) (inMain r) (λ e. omega arith) (λ e. omega arith)
-
 -- rows that are no more than max_entries need not be counted
 pub few-rows : (n m : ℕ) (l : List ℕ) → 0 < mainCount (viewRows n l) → n ≤ m → (1 ≤ n) × (ltb (n - 1) m ≡ ltb (mainCount (viewRows n l) - 1) m)
 few-rows n m l h k =
-    let c : mainCount (viewRows n l) ≤ n = omega (arith, count-few (viewRows n l .rows), view-length n l) in
+    let c : mainCount (viewRows n l) ≤ n = omega (arith, count-few inMain (viewRows n l .rows), view-length n l) in
     (omega arith, lt-ltb (n - 1) m (omega arith) ∙ sym (lt-ltb (mainCount (viewRows n l) - 1) m (omega arith)))
 
 main-counts : (r : Row) → inMain r ≡ true → _≡_ {A = ℕ} (cond (inMain r) 1 0) 1

@@ -1,6 +1,6 @@
 // A verified insert of a key whose row is in main, with room there once the row is out: the row is written again where it stands.
 use coord::coord::Path;
-use counts::count_rows;
+use counts::count_main;
 use counts::cut_to_bound;
 use counts::has_room;
 use entries::add_times;
@@ -9,7 +9,6 @@ use memory::head;
 use memory::row;
 use stamps::row::PROBATION;
 use types::entry::PathMtu;
-use types::placed::Segment;
 ghost use mathlib.Core.Path.{_≡_};
 ghost use mathlib.Core.Bool.{true, _&&_};
 ghost use Prim.Native.Nat.{_+_, _*_, _-_, _≤_, _<_, min};
@@ -77,7 +76,7 @@ fn other_main_rows(state: &[u8], n: usize, max: u64) -> u64
     if rows <= max {
         return rows - 1;
     }
-    count_rows(state, n, Segment::Main) - 1
+    count_main(state, n) - 1
 }
 
 // Whether row i is in main, and main has room for w once row i is out.

@@ -1,4 +1,4 @@
--- States with one number of the head changed, and rows with one field changed.
+-- States with one number of the head changed; rows and entries with some fields changed.
 use Prim.Native.Nat.{ℕ, _+_, _*_, _-_}
 use mathlib.Core.Path.{_≡_}
 use mathlib.Core.List.{List, _++_}

@@ -62,7 +62,7 @@ pub fn set_seq(state: &mut [u8], n: usize, v: u64)
     raw::numbers::write_u64(state, 16, v);
 }
 
-// The seq of a new stamp: raised by 1, and used.
+// seq, raised by 1, for a new stamp.
 pub fn next_key(state: &mut [u8], n: usize) -> u64
     requires { ⌜ (headSize ≤ length (now state)) × (viewRows n (now state) .seq < 18446744073709551615) ⌝ }
     ensures { λ r. ⌜ (r ≡ viewRows n (now (state .entry)) .seq + 1) × (viewRows n (now (state .exit)) ≡ withSeq r (viewRows n (now (state .entry)))) ⌝ }

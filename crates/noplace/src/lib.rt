@@ -1,14 +1,13 @@
 // Number 4: whether main has a place for a verified insert. It is known before anything is written.
 use coord::coord::Path;
 use coord::node_addr::NodeAddr;
-use counts::count_rows;
+use counts::count_main;
 use counts::room_can_be_made;
 use memory::head;
 use search::answers::Search;
 use search::keys::search;
 use soundness::head::probation_bound;
 use stamps::row::PROBATION;
-use types::placed::Segment;
 ghost use mathlib.Core.Path.{_≡_};
 ghost use mathlib.Core.Bool.{true};
 ghost use Rattle.rules.specs.Records.{mainBound};
@@ -36,7 +35,8 @@ fn main_bound(state: &[u8], n: usize) -> u64
     rows - probation_bound(head::max_entries(state))
 }
 
-// The key's own row, where it is not in main, makes no difference to the room, so it need not leave first.
+// The key's own row, where it is not in main, makes no difference to the room, so it need not leave first. Main rows are counted only
+// where they may be M.
 pub fn no_place_for(state: &[u8], n: usize, key: NodeAddr, path: Path, time: u64) -> bool
     requires { ⌜ sound (capacity (now state)) (viewRows n (now state)) ≡ true ⌝ }
     ensures { λ r. ⌜ r ≡ noPlaceFor (capacity (now (state .entry))) (viewRows n (now (state .entry))) (record { key = key; path = path; time = time }) ⌝ }
@@ -44,7 +44,12 @@ pub fn no_place_for(state: &[u8], n: usize, key: NodeAddr, path: Path, time: u64
     if key_in_main(state, n, key) {
         return false;
     }
-    if count_rows(state, n, Segment::Main) < main_bound(state, n) {
+    let bound = main_bound(state, n);
+    let rows = n as u64;
+    if rows < bound {
+        return false;
+    }
+    if count_main(state, n) < bound {
         return false;
     }
     !room_can_be_made(state, n, path.weight(), time)

@@ -22,7 +22,7 @@ pub enum KeyRow {
     New(usize),
 }
 
-// 1. An expired row of the key is removed, and the key is new; where its row is, if it has one.
+// 1. The key's row; an expired one is removed, and the key is new.
 fn remove_expired(state: &mut [u8], n: usize, key: NodeAddr, time: u64) -> KeyRow
     requires { ⌜ sound (capacity (now state)) (viewRows n (now state)) ≡ true ⌝ }
     ensures { λ r. ⌜ Stands r key time n (now (state .entry)) (now (state .exit)) ⌝ }

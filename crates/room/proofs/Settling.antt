@@ -6,13 +6,15 @@ use mathlib.Core.List.{List, [], _∷_, map}
 use mathlib.Core.Bool.{Bool, true, false, cond, _&&_, not}
 use lib.Dec.{ltb, leb, eqb}
 use lib.ListN.{length}
-use borrow.Author.Tests.{eq-eqb, ne-eqb, ltb-true, ltb-false}
+use borrow.Author.Tests.{eq-eqb, ne-eqb, lt-ltb, ltb-true, ltb-false}
 use Rattle.coord.specs.declared.node_addr.NodeAddr.{NodeAddr}
 use Rattle.rules.specs.Cases.{Every}
 use Rattle.rules.specs.Records.{Row, State, aside, weightBound}
 use Rattle.rules.specs.Rows.{rowAt, atPlace, inMain, keepRows, countRows, mainCount, total, weighRows, withRows, withOnlyRows, withoutRow}
 use Rattle.rules.specs.Sound.{sound}
 use Rattle.rules.specs.Room.{Walk, Chosen, nextVictim, hasRoom, setAside, putBack, chooseVictims, settled, makeRoom, takeOut, Room}
+use Rattle.rules.specs.Memory.{viewRows}
+use Rattle.rules.proofs.Addresses.{contradiction}
 use Rattle.rules.proofs.RowLists.{Core, by-cond, by-maybe, cores, core, every-map, every-mapped, map-cores}
 use Rattle.rules.proofs.SoundTest.{RowOk, sound-is}
 use Rattle.rules.proofs.Moves.{ready}
@@ -22,11 +24,12 @@ use Rattle.sweep.proofs.Sweeping.{only-rows, rows-same}
 use Rattle.sweep.specs.Sweep.{PathFit, PathsFit, keptRows, sweepTest}
 use Rattle.stamps.specs.declared.answers.Lowest.the-variants.{At, Nothing}
 use Rattle.stamps.specs.Walked.{walkFrom}
+use Rattle.stamps.proofs.Counting.{count-few}
 use Rattle.room.specs.declared.victims.Chosen.{Chosen as ChosenAnswer}
 use Rattle.room.specs.declared.answers.Room.{Room as RoomAnswer}
-use Rattle.room.specs.Rooms.{chosenOf, roomOf, withoutVictim, SetAside, LeftAt}
+use Rattle.room.specs.Rooms.{chosenOf, roomOf, withoutVictim, SetAside, LeftAt, Leaves}
 use Rattle.room.proofs.Choosing.{next-yields}
-use Rattle.room.proofs.Leaving.{left-at, one-aside, back-mains, aside-not-main}
+use Rattle.room.proofs.Leaving.{at-none, left-at, one-aside, back-mains, aside-not-main}
 
 -- room, by what is said of it
 abbrev pub roomAs : Bool → ℕ → State → Room
@@ -58,6 +61,18 @@ room-there now w R m count stored x s b h em ec es ex t q =
     let f : hasRoom (min w (weightBound (s .maxEntries))) s ≡ true = sym (t ∙ rw (ex, em, ec, es, d .storedWeight)) ∙ q in
     let k : withOnlyRows (keepRows (λ r. not (atPlace aside r)) (s .rows)) s ≡ s = rw (keep-every (s .seq) (s .rows) (d .each)) (sym (only-rows (s .rows) s refl (d .storedWeight) (d .counted)) ∙ rows-same s) in
     rw (choose-done now (min w (weightBound (s .maxEntries))) (walkFrom s 0) f, k)
+
+-- main has at most all rows
+both : (a b : Bool) → a && b ≡ true → (a ≡ true) × (b ≡ true)
+both true b e = (refl, e)
+both false b e = contradiction e refl
+
+pub rows-there : (now w R m n stored x : ℕ) (s : State) (b : Bool) → sound R s ≡ true → length (s .rows) ≡ n → m ≡ s .maxEntries → stored ≡ s .storedWeight → x ≡ min w (weightBound m) → b ≡ ltb n m && leb (stored + x) (weightBound m) → b ≡ true
+    → roomAs true 0 s ≡ makeRoom now w s
+rows-there now w R m n stored x s b h en em es ex t q =
+    let y = both (ltb n m) (leb (stored + x) (weightBound m)) (sym t ∙ q) in
+    let c : mainCount s < m = omega (arith, count-few inMain (s .rows), ltb-true n m (y .0)) in
+    room-there now w R m (mainCount s) stored x s true h em refl es ex (rw (lt-ltb (mainCount s) m c, y .1)) refl
 
 -- ---- the victims leave
 
@@ -177,3 +192,8 @@ sought-at r i s e = rw e
 pub sought-none : (r : RoomAnswer) (s : State) → r .victim ≡ Nothing → roomOf r s ≡ roomAs (r .made) (r .examined) s
 unfolding roomOf withoutVictim
 sought-none r s e = rw e
+
+-- nothing was sought
+pub there : (n stored : ℕ) (l : List ℕ) (t : Room) (r : RoomAnswer) → r ≡ record { made = true; rows = n; victim = Nothing; stored = stored; examined = 0 } → roomAs true 0 (viewRows n l) ≡ t
+    → (roomOf r (viewRows (r .rows) l) ≡ t) × (r .rows ≤ n) × Leaves (r .victim) (r .stored) (viewRows n l .rows) (viewRows (r .rows) l .rows) × (r .made ≡ false → r .victim ≡ Nothing)
+there n stored l t r e q = rw e (sought-none _ (viewRows n l) refl ∙ q, omega arith, at-none _ _ refl, λ f. contradiction refl f)

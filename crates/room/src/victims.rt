@@ -46,7 +46,8 @@ fn set_place(state: &mut [u8], n: usize, i: usize, place: u8)
     memory::row::set_stamp(state, n, i, place, first, seq);
 }
 
-// Victims are set aside until there is room for w, or none is left. There is none at the start, and `lowest` is of the rows at the start.
+// Victims are set aside until there is room for w, or none is left. At the start there is no room, and `lowest` is of the rows as they
+// then are.
 fn choose_victims(state: &mut [u8], n: usize, lowest: LowestOfMain, w: u64, time: u64) -> Chosen
     requires { ⌜ (headSize + n * rowSize ≤ length (now state)) × (sound (capacity (now state)) (viewRows n (now state)) ≡ true) × (viewRows n (now state) .seq + total (mainVisits time) (viewRows n (now state) .rows) < 18446744073709551616) × MainIs lowest (viewRows n (now state) .rows) × (w ≤ weightBound (viewRows n (now state) .maxEntries)) × (hasRoom w (viewRows n (now state)) ≡ false) ⌝ }
     ensures { λ r. ⌜ (chosenOf r (viewRows n (now (state .exit))) ≡ chooseVictims (suc (mainCount (viewRows n (now (state .entry))))) time w (walkFrom (viewRows n (now (state .entry))) 0)) × (r .made ≡ true → SetAside (lowest .count) r (viewRows n (now (state .exit)))) ⌝ }
@@ -113,7 +114,7 @@ fn put_back(state: &mut [u8], n: usize)
     }
 }
 
-// The rows that were set aside leave, in one pass; how many rows stay.
+// The rows that were set aside leave; how many rows stay.
 fn drop_aside(state: &mut [u8], n: usize) -> usize
     requires { ⌜ (n ≤ 1024) × (headSize + n * rowSize ≤ length (now state)) × PathsFit (viewRows n (now state) .rows) ⌝ }
     ensures { λ r. ⌜ (r ≤ n) × (viewRows r (now (state .exit)) ≡ withOnlyRows (keepRows (λ x. not (atPlace aside x)) (viewRows n (now (state .entry)) .rows)) (viewRows n (now (state .entry)))) ⌝ }
@@ -122,25 +123,35 @@ fn drop_aside(state: &mut [u8], n: usize) -> usize
     sweep::sweep_rows(state, n, sweep::ASIDE, 0, none)
 }
 
-// Room for w in main; where one victim is enough, it is left aside. Where there is room nothing is written, and where it can't be made
-// no row leaves.
+// Nothing was sought.
+fn room_there(rows: usize, stored: u64) -> Room
+    ensures { λ r. ⌜ r ≡ record { made = true; rows = rows; victim = Nothing; stored = stored; examined = 0 } ⌝ }
+{
+    Room {
+        made: true,
+        rows,
+        victim: Lowest::Nothing,
+        stored,
+        examined: 0,
+    }
+}
+
+// Room for w in main; where one victim is enough, it is left aside. Where there is room nothing is written, and main rows are counted only
+// if all rows are too many; where room can't be made no row leaves.
 pub fn make_room(state: &mut [u8], n: usize, w: u64, time: u64) -> Room
     requires { ⌜ (headSize + n * rowSize ≤ length (now state)) × (sound (capacity (now state)) (viewRows n (now state)) ≡ true) × (viewRows n (now state) .seq + total (mainVisits time) (viewRows n (now state) .rows) < 18446744073709551616) ⌝ }
     ensures { λ r. ⌜ (roomOf r (viewRows (r .rows) (now (state .exit))) ≡ makeRoom time w (viewRows n (now (state .entry)))) × (r .rows ≤ n) × Leaves (r .victim) (r .stored) (viewRows n (now (state .entry)) .rows) (viewRows (r .rows) (now (state .exit)) .rows) × (r .made ≡ false → r .victim ≡ Nothing) ⌝ }
 {
     let max = memory::head::max_entries(state);
     let cut = cut_to_bound(w, max);
+    let stored = memory::head::stored_weight(state);
+    if has_room(max, n as u64, stored, cut) {
+        return room_there(n, stored);
+    }
     let lowest = lowest_of_main(state, n);
     let count = lowest.count;
-    let stored = memory::head::stored_weight(state);
     if has_room(max, count, stored, cut) {
-        return Room {
-            made: true,
-            rows: n,
-            victim: Lowest::Nothing,
-            stored,
-            examined: 0,
-        };
+        return room_there(n, stored);
     }
     let chosen = choose_victims(state, n, lowest, cut, time);
     let examined = chosen.examined;

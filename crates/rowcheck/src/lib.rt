@@ -2,13 +2,13 @@
 ghost use mathlib.Core.Path.{_≡_};
 ghost use Prim.Native.Nat.{_+_, _*_, _≤_, _<_, max};
 ghost use lib.ListN.{length};
-ghost use Rattle.coord.specs.Paths.{unitsPerEntry};
+ghost use Rattle.coord.specs.Paths.{addrsPerEntry};
 ghost use Rattle.rules.specs.Rows.{rowSize, rowAt};
 ghost use Rattle.rules.specs.Sound.{rowSound};
 ghost use Rattle.rules.specs.Memory.{headSize, viewRows};
 
 pub fn path_weight(len: u8) -> u8
-    ensures { λ r. ⌜ r ≡ max unitsPerEntry len ⌝ }
+    ensures { λ r. ⌜ r ≡ max addrsPerEntry len ⌝ }
 {
     if len < 16 { 16 } else { len }
 }

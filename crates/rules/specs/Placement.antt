@@ -76,7 +76,7 @@ promote k p now ttl charge i s =
     let stays = placeResult o 0 Probation false (m .examined) (fileNew k e charge probation (m .state)) in
     cond (m .made) promoted stays
 
--- where max(weight, old) is covered; where not: updated, weight the larger, refiled
+-- max(weight, old) covered: promoted; not covered: updated, weight the larger, refiled
 unfoldable pub placeProbation : NodeAddr → Path → ℕ → ℕ → Funding → ℕ → State → PlaceResult
 placeProbation k p now ttl f i s =
     let r = rowAt i (s .rows) in
@@ -95,7 +95,7 @@ grow k p now ttl stated w i s =
     let grows = placeResult (heldOutcome p r) (w - r .weight) Main false (m .examined) (fileNew k (update p now ttl (r .entry)) w byUse (m .state)) in
     cond (m .made || stated) grows goesBack
 
--- where weight ≤ old: updated, old weight kept, refiled; growth not covered: Rejected, unfunded
+-- weight ≤ old: updated, old weight kept, refiled; growth not covered: Rejected, unfunded; covered: grown
 unfoldable pub placeMain : NodeAddr → Path → ℕ → ℕ → Funding → Bool → ℕ → State → PlaceResult
 placeMain k p now ttl f stated i s =
     let r = rowAt i (s .rows) in

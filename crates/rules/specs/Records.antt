@@ -6,7 +6,7 @@ use mathlib.Core.Bool.{Bool, cond}
 use lib.Dec.{eqb}
 use Rattle.coord.specs.declared.node_addr.NodeAddr.{NodeAddr}
 use Rattle.coord.specs.declared.coord.Path.{Path}
-use Rattle.coord.specs.Paths.{unitsPerEntry}
+use Rattle.coord.specs.Paths.{addrsPerEntry}
 use Rattle.types.specs.declared.entry.PathMtu.{PathMtu}
 use Rattle.types.specs.declared.entry.PathMtu.the-variants.{Unknown, Known}
 use Rattle.types.specs.declared.entry.CacheEntry.{CacheEntry}
@@ -96,7 +96,7 @@ probationDivisor = 32
 
 -- B = 16 × max_entries
 abbrev pub weightBound : ℕ → ℕ
-weightBound m = unitsPerEntry * m
+weightBound m = addrsPerEntry * m
 
 -- Q = max(max_entries / 32, 1), rounded down
 abbrev pub probationBound : ℕ → ℕ

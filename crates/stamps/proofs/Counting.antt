@@ -2,13 +2,14 @@
 use mathlib.Core.Path.{_≡_, refl, sym, ap, _∙_, subst}
 use Prim.Native.Nat.{ℕ, suc, _+_, _≤_, _<_}
 use native.Mathlib.Omega.{arith}
-use mathlib.Core.List.{List}
+use mathlib.Core.List.{List, [], _∷_}
 use mathlib.Core.Bool.{Bool, true, false, cond}
 use mir.Val.{boolByte}
 use lib.ListN.{length, drop, drop-of-length-le}
 use lib.Seq.{drop-cons}
 use Rattle.rules.specs.Records.{Row}
 use Rattle.rules.specs.Rows.{rowAt, blankRow, total, countRows}
+use Rattle.rules.proofs.RowLists.{by-cond}
 
 pub sum-down : (f : Row → ℕ) (k i : ℕ) (rs : List Row) → k ≡ suc i → i < length rs → total f (drop i rs) ≡ f (rowAt i rs) + total f (drop k rs)
 unfolding total
@@ -48,3 +49,8 @@ counted-turn p n k i c b rs e h q t =
 
 pub counted-end : (p : Row → Bool) (n i c : ℕ) (rs : List Row) → i ≡ 0 → Counted p n i c rs → c ≡ countRows p rs
 counted-end p n i c rs z t = subst (λ (j : ℕ). Counted p n j c rs) z t .count
+
+pub count-few : (p : Row → Bool) (rs : List Row) → countRows p rs ≤ length rs
+unfolding total
+count-few p [] = omega arith
+count-few p (r ∷ rs) = let h = count-few p rs in by-cond (λ u. u + countRows p rs ≤ suc (length rs)) (p r) (λ e. omega arith) (λ e. omega arith)

@@ -1,4 +1,4 @@
-// The lowest stamp of a place.
+// The lowest stamp of a place, or of each place of main, and how many rows are there.
 use crate::answers::Lowest;
 use crate::answers::LowestOfMain;
 use crate::answers::LowestStamp;

@@ -38,7 +38,7 @@ pub fn is_verified(state: &[u8], n: usize, i: usize, time: u64) -> bool
         & (time <= memory::row::verified_until(state, n, i))
 }
 
-// Row i gets a place and a new stamp: seq is raised by 1 and used.
+// Row i gets a place and a new stamp.
 pub fn draw_stamp(state: &mut [u8], n: usize, i: usize, place: u8, first: u64)
     requires { ⌜ (i < n) × (headSize + n * rowSize ≤ length (now state)) × (viewRows n (now state) .seq < 18446744073709551615) ⌝ }
     ensures { λ _. ⌜ viewRows n (now (state .exit)) ≡ stamp (stampedAs place first) i (viewRows n (now (state .entry))) ⌝ }

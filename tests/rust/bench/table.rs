@@ -12,8 +12,8 @@ const HEAD: [&str; 7] = ["rows", "max", "calls", "original", "unchecked", "ratio
 
 const NOTES: &str = "Nanoseconds a call: the median of the rounds. `rows` are those of the memory. `unchecked` is the form for a memory that is sound,
 through the crate of rust/, which uses it; `public` the form that asks first whether the memory is sound, through the C functions. Ratio:
-`unchecked` over the original's time in the same round, the median, with the least and the most of the rounds. Below 1 this crate is
-faster. Every side makes the same calls in one process, built for release; before each round its cache is made and filled anew, and what
+`unchecked` over the original's time in the same round, the median, with the least and the most of the rounds. Below 1 `unchecked`
+is faster. Every side makes the same calls in one process, built for release; before each round its cache is made and filled anew, and what
 it answers is compared. The processor's caches were not cleared: each round runs warm after its filling. A call that takes a path is
 given one of its own, cloned within the time. Paths have 6 elements.
 ";

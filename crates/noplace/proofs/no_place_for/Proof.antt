@@ -1,3 +1,9 @@
+use mathlib.Core.Path.{refl}
+use native.Mathlib.Omega.{arith}
+use Rattle.rules.specs.Rows.{inMain}
+use Rattle.rules.specs.Memory.{viewRows}
+use Rattle.memory.proofs.RowLaws.{view-length}
+use Rattle.stamps.proofs.Counting.{count-few}
 use Rattle.noplace.proofs.NoPlace.{rows-searchable, held-place, free-place, made-place}
 use borrow.Author.Needs.{needs}
 use Rattle.noplace.proofs.no_place_for.Statement.{statement}
@@ -9,36 +15,28 @@ key-in-main-requires c κs = search needs
 returns : tie.Need-returns
 returns c = held-place _ _ _ (c .before .key-in-main .result) (c .before .key-in-main .ensures) (c .if1 .taken)
 
-count-rows-requires : tie.Need-count-rows-requires
-count-rows-requires c κs =
-    let s = c .before .before .before in
-    rows-searchable (s .args .n) (s .args .state .now) (s .pre) .1
-
 main-bound-requires : tie.Need-main-bound-requires
 main-bound-requires c κs = search needs
 
 returns-2 : tie.Need-returns-2
 returns-2 c =
-    let b = c .before in
-    let n = b .before in
-    let k = n .before .before in
-    free-place _ _ _ (k .key-in-main .result) (n .count-rows .result) (b .main-bound .result) (k .key-in-main .ensures) (n .before .if1 .left) (n .count-rows .ensures) (b .main-bound .ensures) (c .if2 .taken)
+    let v = viewRows (c .before .before .before .before .before .args .n) (c .before .before .before .before .before .args .state .now) in
+    free-place _ v _ (c .before .before .before .key-in-main .result) _ (c .before .main-bound .result) (c .before .before .before .key-in-main .ensures) (c .before .before .if1 .left) refl (c .before .main-bound .ensures) (omega (arith, count-few inMain (v .rows), view-length (c .before .before .before .before .before .args .n) (c .before .before .before .before .before .args .state .now), c .if2 .taken))
+
+count-main-requires : tie.Need-count-main-requires
+count-main-requires c κs = rows-searchable (c .before .before .before .before .before .args .n) (c .before .before .before .before .before .args .state .now) (c .before .before .before .before .before .pre) .1
+
+returns-3 : tie.Need-returns-3
+returns-3 c = free-place _ _ _ (c .before .before .before .before .before .key-in-main .result) (c .before .count-main .result) (c .before .before .before .main-bound .result) (c .before .before .before .before .before .key-in-main .ensures) (c .before .before .before .before .if1 .left) (c .before .count-main .ensures) (c .before .before .before .main-bound .ensures) (c .if3 .taken)
 
 weight-requires : tie.Need-weight-requires
 weight-requires c κs = search needs
 
 room-can-be-made-requires : tie.Need-room-can-be-made-requires
-room-can-be-made-requires c κs =
-    let s = c .before .before .before .before .before .before .before in
-    (rows-searchable (s .args .n) (s .args .state .now) (s .pre) .1, s .pre)
+room-can-be-made-requires c κs = (rows-searchable (c .before .before .before .before .before .before .before .before .args .n) (c .before .before .before .before .before .before .before .before .args .state .now) (c .before .before .before .before .before .before .before .before .pre) .1, c .before .before .before .before .before .before .before .before .pre)
 
-returns-3 : tie.Need-returns-3
-returns-3 c =
-    let w = c .before in
-    let b = w .before .before in
-    let n = b .before in
-    let k = n .before .before in
-    made-place _ _ _ (k .key-in-main .result) (c .room-can-be-made .result) (n .count-rows .result) (b .main-bound .result) (w .weight .result) (k .key-in-main .ensures) (n .before .if1 .left) (n .count-rows .ensures) (b .main-bound .ensures) (w .before .if2 .left) (w .weight .ensures) (c .room-can-be-made .ensures)
+returns-4 : tie.Need-returns-4
+returns-4 c = made-place _ _ _ (c .before .before .before .before .before .before .before .key-in-main .result) (c .room-can-be-made .result) (c .before .before .before .count-main .result) (c .before .before .before .before .before .main-bound .result) (c .before .weight .result) (c .before .before .before .before .before .before .before .key-in-main .ensures) (c .before .before .before .before .before .before .if1 .left) (c .before .before .before .count-main .ensures) (c .before .before .before .before .before .main-bound .ensures) (c .before .before .if3 .left) (c .before .weight .ensures) (c .room-can-be-made .ensures)
 
 pub no-place-for-spec : {M : Type 1} → statement M
 no-place-for-spec =
@@ -46,9 +44,10 @@ no-place-for-spec =
     (tie.spec
     key-in-main-requires
     returns
-    count-rows-requires
     main-bound-requires
     returns-2
+    count-main-requires
+    returns-3
     weight-requires
     room-can-be-made-requires
-    returns-3)
+    returns-4)

@@ -1,5 +1,5 @@
 use mathlib.Core.Path.{_≡_, refl, sym, ap, _∙_}
-use Prim.Native.Nat.{ℕ, min}
+use Prim.Native.Nat.{ℕ, _≤_, min}
 use native.Mathlib.Omega.{arith}
 use Rattle.rules.specs.Records.{weightBound}
 use Rattle.rules.specs.Memory.{viewRows}
@@ -11,7 +11,7 @@ use Rattle.room.specs.Rooms.{LeftAt}
 use Rattle.counts.proofs.Sums.{sound-small}
 use Rattle.room.proofs.Files.{few}
 use Rattle.room.proofs.Leaving.{at-none, at-one}
-use Rattle.room.proofs.Settling.{Waiting, waiting, full, room-there, room-made, room-failed, out-is, waits-alone, left-aside, sought-at, sought-none}
+use Rattle.room.proofs.Settling.{Waiting, waiting, full, there, rows-there, room-there, room-made, room-failed, out-is, waits-alone, left-aside, sought-at, sought-none}
 use borrow.Author.Needs.{needs}
 use Rattle.room.proofs.victims.make_room.Statement.{statement}
 use Rattle.room.proofs.victims.make_room.Tie as tie
@@ -22,12 +22,12 @@ most c = c .max-entries .ensures ∙ same-head 0 (c .before .before .before .arg
 cut : (c : tie.After-cut-to-bound) → c .cut-to-bound .result ≡ min (c .before .before .before .before .args .w) (weightBound (viewRows (c .before .before .before .before .args .n) (c .before .before .before .before .args .state .now) .maxEntries))
 cut c = c .cut-to-bound .ensures ∙ ap (λ (m : ℕ). min (c .before .before .before .before .args .w) (weightBound m)) (most (c .before))
 
-stored : (c : tie.After-stored-weight) → c .stored-weight .result ≡ viewRows (c .before .before .before .before .before .before .before .before .args .n) (c .before .before .before .before .before .before .before .before .args .state .now) .storedWeight
-stored c = c .stored-weight .ensures ∙ same-head 0 (c .before .before .before .before .before .before .before .before .args .n) (c .before .before .before .before .before .before .before .before .args .state .now) .storedWeight
+stored : (c : tie.After-stored-weight) → c .stored-weight .result ≡ viewRows (c .before .before .before .before .before .before .args .n) (c .before .before .before .before .before .before .args .state .now) .storedWeight
+stored c = c .stored-weight .ensures ∙ same-head 0 (c .before .before .before .before .before .before .args .n) (c .before .before .before .before .before .before .args .state .now) .storedWeight
 
 -- the victims stand aside
-aside : (c : tie.After-choose-victims) → Waiting (viewRows (c .before .before .before .before .before .before .before .before .before .before .before .before .args .n) (c .before .before .before .before .before .before .before .before .before .before .before .before .args .state .now)) (viewRows (c .before .before .before .before .before .before .before .before .before .before .before .before .args .n) (c .choose-victims .last .0))
-aside c = waiting _ _ _ _ _ (c .choose-victims .result) (c .before .before .before .before .before .before .before .before .before .before .before .before .pre .1) (c .choose-victims .ensures .0)
+aside : (c : tie.After-choose-victims) → Waiting (viewRows (c .before .before .before .before .before .before .before .before .before .before .before .before .before .before .args .n) (c .before .before .before .before .before .before .before .before .before .before .before .before .before .before .args .state .now)) (viewRows (c .before .before .before .before .before .before .before .before .before .before .before .before .before .before .args .n) (c .choose-victims .last .0))
+aside c = waiting _ _ _ _ _ (c .choose-victims .result) (c .before .before .before .before .before .before .before .before .before .before .before .before .before .before .pre .1) (c .choose-victims .ensures .0)
 
 max-entries-requires : tie.Need-max-entries-requires
 max-entries-requires c κs = search needs
@@ -41,69 +41,90 @@ lowest-of-main-requires c κs = search needs
 stored-weight-requires : tie.Need-stored-weight-requires
 stored-weight-requires c κs = search needs
 
+-- the weights that are held against B
+weights : (c : tie.After-stored-weight) → (c .before .before .before .max-entries .result ≤ 1024) × (c .stored-weight .result ≤ 262144) × (c .before .before .cut-to-bound .result ≤ weightBound (c .before .before .before .max-entries .result))
+weights c =
+    let m = sound-small _ _ (c .before .before .before .before .before .before .pre .1) in
+    (omega (arith, most (c .before .before .before), m .max), omega (arith, stored c, m .stored), omega (arith, c .before .before .cut-to-bound .ensures))
+
 has-room-requires : tie.Need-has-room-requires
-has-room-requires c κs =
-    let m = sound-small _ _ (c .before .before .before .before .before .before .before .before .pre .1) in
-    (omega (arith, most (c .before .before .before .before .before), m .max), omega (arith, stored c, m .stored), omega (arith, c .before .before .before .before .cut-to-bound .ensures))
+has-room-requires c κs = weights c
+
+room-there-requires : tie.Need-room-there-requires
+room-there-requires c κs = search needs
 
 same-length : tie.Need-same-length
 same-length c = search needs
 
 returns : tie.Need-returns
 returns c =
-    let a = c .before .before .before .before .before .before .before .before .before .before .args in
+    let a = c .before .before .before .before .before .before .before .before .before .args in
     let v = viewRows (a .n) (a .state .now) in
-    (sought-none _ v refl ∙ room-there (a .time) (a .w) _ (c .before .before .before .before .before .before .before .max-entries .result) (c .before .before .before .before .lowest-of-main .result .count) (c .before .before .stored-weight .result) (c .before .before .before .before .before .before .cut-to-bound .result) v _ (c .before .before .before .before .before .before .before .before .before .before .pre .1) (most (c .before .before .before .before .before .before .before)) (c .before .before .before .before .lowest-of-main .ensures .count) (stored (c .before .before)) (c .before .before .before .before .before .before .cut-to-bound .ensures) (c .before .has-room .ensures) (c .if1 .taken), omega arith, at-none _ _ refl, λ e. contradiction refl e)
+    there (a .n) _ (a .state .now) _ (c .room-there .result) (c .room-there .ensures) (rows-there (a .time) (a .w) _ (c .before .before .before .before .before .before .max-entries .result) (a .n) (c .before .before .before .stored-weight .result) (c .before .before .before .before .before .cut-to-bound .result) v _ (c .before .before .before .before .before .before .before .before .before .pre .1) (view-length (a .n) (a .state .now)) (most (c .before .before .before .before .before .before)) (stored (c .before .before .before)) (c .before .before .before .before .before .cut-to-bound .ensures) (c .before .before .has-room .ensures) (c .before .if1 .taken))
 
-choose-victims-requires : tie.Need-choose-victims-requires
-choose-victims-requires c κs =
-    let m = c .before .before .before .before .before .lowest-of-main .ensures in
-    (c .before .before .before .before .before .before .before .before .before .before .before .pre .0, c .before .before .before .before .before .before .before .before .before .before .before .pre .1, c .before .before .before .before .before .before .before .before .before .before .before .pre .2, m, omega (arith, cut (c .before .before .before .before .before .before .before)), full _ (c .before .before .before .before .before .before .before .before .max-entries .result) (c .before .before .before .before .before .lowest-of-main .result .count) (c .before .before .before .stored-weight .result) (c .before .before .before .before .before .before .before .cut-to-bound .result) (viewRows (c .before .before .before .before .before .before .before .before .before .before .before .args .n) (c .before .before .before .before .before .before .before .before .before .before .before .args .state .now)) _ (c .before .before .before .before .before .before .before .before .before .before .before .pre .1) (most (c .before .before .before .before .before .before .before .before)) (m .count) (stored (c .before .before .before)) (c .before .before .has-room .ensures) (c .before .if1 .left))
+has-room-requires-2 : tie.Need-has-room-requires-2
+has-room-requires-2 c κs = weights (c .before .before .before .before)
 
-sub-if3 : tie.Need-sub-if3
-sub-if3 c = omega (arith, c .before .before .before .before .choose-victims .ensures .1 (c .before .if2 .taken) .last .few)
+room-there-requires-2 : tie.Need-room-there-requires-2
+room-there-requires-2 c κs = search needs
 
 same-length-2 : tie.Need-same-length-2
 same-length-2 c = search needs
 
 returns-2 : tie.Need-returns-2
 returns-2 c =
-    let a = c .before .before .before .before .before .before .before .before .before .before .before .before .before .before .before .before .before .args in
-    let h = c .before .before .before .before .before .choose-victims in
-    let m = c .before .before .if2 .taken in
+    let a = c .before .before .before .before .before .before .before .before .before .before .before .before .before .args in
     let v = viewRows (a .n) (a .state .now) in
-    let t = viewRows (a .n) (h .last .0) in
-    let u = waits-alone _ v t (h .result) (aside (c .before .before .before .before .before)) (c .before .before .before .before .before .before .before .before .before .before .before .lowest-of-main .ensures .count) (h .ensures .1 m) (c .if3 .taken) in
-    let l = left-aside _ v t (h .result) (aside (c .before .before .before .before .before)) (c .before .before .before .before .before .before .before .before .before .before .before .lowest-of-main .ensures .count) (h .ensures .1 m) (c .if3 .taken) _ (c .before .before .before .before .before .before .before .before .before .before .before .before .before .before .before .before .before .pre .1) in
-    (sought-at _ _ t refl ∙ room-made (a .time) (a .w) (c .before .before .before .before .before .before .before .before .before .before .before .before .before .cut-to-bound .result) v t _ (h .result) (cut (c .before .before .before .before .before .before .before .before .before .before .before .before .before)) (h .ensures .0) m (out-is _ t u), omega arith, at-one (λ i. LeftAt i _ _ _) _ _ refl l, λ e. contradiction refl e)
+    there (a .n) _ (a .state .now) _ (c .room-there2 .result) (c .room-there2 .ensures) (room-there (a .time) (a .w) _ (c .before .before .before .before .before .before .before .before .before .before .max-entries .result) (c .before .before .before .lowest-of-main .result .count) (c .before .before .before .before .before .before .before .stored-weight .result) (c .before .before .before .before .before .before .before .before .before .cut-to-bound .result) v _ (c .before .before .before .before .before .before .before .before .before .before .before .before .before .pre .1) (most (c .before .before .before .before .before .before .before .before .before .before)) (c .before .before .before .lowest-of-main .ensures .count) (stored (c .before .before .before .before .before .before .before)) (c .before .before .before .before .before .before .before .before .before .cut-to-bound .ensures) (c .before .before .has-room2 .ensures) (c .before .if2 .taken))
 
-drop-aside-requires : tie.Need-drop-aside-requires
-drop-aside-requires c κs =
-    let k = c .before .before .before .before .before .before .choose-victims .kept .0 in
-    (few _ _ (c .before .before .before .before .before .before .before .before .before .before .before .before .before .before .before .before .before .before .pre .1), omega arith, aside (c .before .before .before .before .before .before) .paths)
+choose-victims-requires : tie.Need-choose-victims-requires
+choose-victims-requires c κs =
+    let m = c .before .before .before .lowest-of-main .ensures in
+    (c .before .before .before .before .before .before .before .before .before .before .before .before .before .pre .0, c .before .before .before .before .before .before .before .before .before .before .before .before .before .pre .1, c .before .before .before .before .before .before .before .before .before .before .before .before .before .pre .2, m, omega (arith, cut (c .before .before .before .before .before .before .before .before .before)), full _ (c .before .before .before .before .before .before .before .before .before .before .max-entries .result) (c .before .before .before .lowest-of-main .result .count) (c .before .before .before .before .before .before .before .stored-weight .result) (c .before .before .before .before .before .before .before .before .before .cut-to-bound .result) (viewRows (c .before .before .before .before .before .before .before .before .before .before .before .before .before .args .n) (c .before .before .before .before .before .before .before .before .before .before .before .before .before .args .state .now)) _ (c .before .before .before .before .before .before .before .before .before .before .before .before .before .pre .1) (most (c .before .before .before .before .before .before .before .before .before .before)) (m .count) (stored (c .before .before .before .before .before .before .before)) (c .before .before .has-room2 .ensures) (c .before .if2 .left))
+
+sub-if4 : tie.Need-sub-if4
+sub-if4 c = omega (arith, c .before .before .before .before .choose-victims .ensures .1 (c .before .if3 .taken) .last .few)
 
 same-length-3 : tie.Need-same-length-3
 same-length-3 c = search needs
 
 returns-3 : tie.Need-returns-3
 returns-3 c =
-    let a = c .before .before .before .before .before .before .before .before .before .before .before .before .before .before .before .before .before .before .before .before .before .args in
-    let h = c .before .before .before .before .before .before .before .before .before .choose-victims in
-    let d = c .before .before .drop-aside in
-    (sought-none _ _ refl ∙ room-made (a .time) (a .w) (c .before .before .before .before .before .before .before .before .before .before .before .before .before .before .before .before .before .cut-to-bound .result) (viewRows (a .n) (a .state .now)) (viewRows (a .n) (h .last .0)) _ (h .result) (cut (c .before .before .before .before .before .before .before .before .before .before .before .before .before .before .before .before .before)) (h .ensures .0) (c .before .before .before .before .before .before .if2 .taken) (d .ensures .1), d .ensures .0, at-none _ _ refl, λ e. contradiction refl e)
+    let a = c .before .before .before .before .before .before .before .before .before .before .before .before .before .before .before .before .before .before .before .args in
+    let h = c .before .before .before .before .before .choose-victims in
+    let m = c .before .before .if3 .taken in
+    let v = viewRows (a .n) (a .state .now) in
+    let t = viewRows (a .n) (h .last .0) in
+    let u = waits-alone _ v t (h .result) (aside (c .before .before .before .before .before)) (c .before .before .before .before .before .before .before .before .before .lowest-of-main .ensures .count) (h .ensures .1 m) (c .if4 .taken) in
+    let l = left-aside _ v t (h .result) (aside (c .before .before .before .before .before)) (c .before .before .before .before .before .before .before .before .before .lowest-of-main .ensures .count) (h .ensures .1 m) (c .if4 .taken) _ (c .before .before .before .before .before .before .before .before .before .before .before .before .before .before .before .before .before .before .before .pre .1) in
+    (sought-at _ _ t refl ∙ room-made (a .time) (a .w) (c .before .before .before .before .before .before .before .before .before .before .before .before .before .before .before .cut-to-bound .result) v t _ (h .result) (cut (c .before .before .before .before .before .before .before .before .before .before .before .before .before .before .before)) (h .ensures .0) m (out-is _ t u), omega arith, at-one (λ i. LeftAt i _ _ _) _ _ refl l, λ e. contradiction refl e)
 
-put-back-requires : tie.Need-put-back-requires
-put-back-requires c κs = search needs
+drop-aside-requires : tie.Need-drop-aside-requires
+drop-aside-requires c κs =
+    (few _ _ (c .before .before .before .before .before .before .before .before .before .before .before .before .before .before .before .before .before .before .before .before .pre .1), omega (arith, c .before .before .before .before .before .before .choose-victims .kept .0, c .before .before .before .before .before .before .before .before .before .before .before .before .before .before .before .before .before .before .before .before .pre .0), aside (c .before .before .before .before .before .before) .paths)
 
 same-length-4 : tie.Need-same-length-4
 same-length-4 c = search needs
 
 returns-4 : tie.Need-returns-4
 returns-4 c =
-    let a = c .before .before .before .before .before .before .before .before .before .before .before .before .before .before .before .before .before .before .before .args in
+    let a = c .before .before .before .before .before .before .before .before .before .before .before .before .before .before .before .before .before .before .before .before .before .before .before .args in
+    let h = c .before .before .before .before .before .before .before .before .before .choose-victims in
+    let d = c .before .before .drop-aside in
+    (sought-none _ _ refl ∙ room-made (a .time) (a .w) (c .before .before .before .before .before .before .before .before .before .before .before .before .before .before .before .before .before .before .before .cut-to-bound .result) (viewRows (a .n) (a .state .now)) (viewRows (a .n) (h .last .0)) _ (h .result) (cut (c .before .before .before .before .before .before .before .before .before .before .before .before .before .before .before .before .before .before .before)) (h .ensures .0) (c .before .before .before .before .before .before .if3 .taken) (d .ensures .1), d .ensures .0, at-none _ _ refl, λ e. contradiction refl e)
+
+put-back-requires : tie.Need-put-back-requires
+put-back-requires c κs = search needs
+
+same-length-5 : tie.Need-same-length-5
+same-length-5 c = search needs
+
+returns-5 : tie.Need-returns-5
+returns-5 c =
+    let a = c .before .before .before .before .before .before .before .before .before .before .before .before .before .before .before .before .before .before .before .before .before .args in
     let h = c .before .before .before .before .before .before .before .choose-victims in
     let v = viewRows (a .n) (a .state .now) in
-    (sought-none _ _ refl ∙ room-failed (a .time) (a .w) (c .before .before .before .before .before .before .before .before .before .before .before .before .before .before .before .cut-to-bound .result) v (viewRows (a .n) (h .last .0)) _ (h .result) (aside (c .before .before .before .before .before .before .before)) (sound-is _ v (c .before .before .before .before .before .before .before .before .before .before .before .before .before .before .before .before .before .before .before .pre .1) .counted ∙ view-length (a .n) (a .state .now) ∙ sym (view-length (a .n) (h .last .0))) (cut (c .before .before .before .before .before .before .before .before .before .before .before .before .before .before .before)) (h .ensures .0) (c .before .before .before .before .if2 .left) (c .before .before .put-back .ensures), omega arith, at-none _ _ refl, λ e. refl)
+    (sought-none _ _ refl ∙ room-failed (a .time) (a .w) (c .before .before .before .before .before .before .before .before .before .before .before .before .before .before .before .before .before .cut-to-bound .result) v (viewRows (a .n) (h .last .0)) _ (h .result) (aside (c .before .before .before .before .before .before .before)) (sound-is _ v (c .before .before .before .before .before .before .before .before .before .before .before .before .before .before .before .before .before .before .before .before .before .pre .1) .counted ∙ view-length (a .n) (a .state .now) ∙ sym (view-length (a .n) (h .last .0))) (cut (c .before .before .before .before .before .before .before .before .before .before .before .before .before .before .before .before .before)) (h .ensures .0) (c .before .before .before .before .if3 .left) (c .before .before .put-back .ensures), omega arith, at-none _ _ refl, λ e. refl)
 
 pub make-room-spec : {M : Type 1} → statement M
 make-room-spec =
@@ -111,18 +132,23 @@ make-room-spec =
     (tie.spec
     max-entries-requires
     cut-to-bound-requires
-    lowest-of-main-requires
     stored-weight-requires
     has-room-requires
+    room-there-requires
     same-length
     returns
-    choose-victims-requires
-    sub-if3
+    lowest-of-main-requires
+    has-room-requires-2
+    room-there-requires-2
     same-length-2
     returns-2
-    drop-aside-requires
+    choose-victims-requires
+    sub-if4
     same-length-3
     returns-3
-    put-back-requires
+    drop-aside-requires
     same-length-4
-    returns-4)
+    returns-4
+    put-back-requires
+    same-length-5
+    returns-5)

@@ -1,0 +1,67 @@
+use mathlib.Core.Path.{ap}
+use Prim.Native.Nat.{ℕ, _-_}
+use native.Mathlib.Omega.{arith}
+use lib.Dec.{ltb}
+use borrow.Author.Needs.{needs}
+use Rattle.rules.specs.Rows.{inMain}
+use Rattle.rules.specs.Memory.{viewRows}
+use Rattle.memory.proofs.RowLaws.{view-length}
+use Rattle.stamps.proofs.Counting.{Counted, counted-start, counted-fits, counted-turn, counted-end}
+use Rattle.counts.proofs.count_main.Statement.{statement}
+use Rattle.counts.proofs.count_main.Tie as tie
+
+abbrev Inv-loop : tie.InvT-loop
+Inv-loop state n count₀ i₀ count i = Counted inMain n i count (viewRows n state .rows)
+
+abbrev μ-loop : tie.MeasureT-loop
+μ-loop state n count₀ i₀ count i = i
+
+loop-holds : tie.Need-loop-holds Inv-loop μ-loop
+loop-holds c =
+    let s = c .before .args in
+    counted-start inMain (s .n) (viewRows (s .n) (s .state .now) .rows) (omega (arith, view-length (s .n) (s .state .now)))
+
+sub-i : tie.Need-sub-i Inv-loop μ-loop
+sub-i c = search needs
+
+place-requires : tie.Need-place-requires Inv-loop μ-loop
+place-requires c κs =
+    let h = c .before .loop .inv .within in
+    omega arith
+
+cast-count : tie.Need-cast-count Inv-loop μ-loop
+cast-count c = search needs
+
+add-count : tie.Need-add-count Inv-loop μ-loop
+add-count c = omega (arith, counted-fits inMain (c .before .before .before .before .args .n) (c .before .before .loop .i) (c .before .before .loop .count) (ltb (c .place .result) 2) (viewRows (c .before .before .before .before .args .n) (c .before .before .before .before .args .state .now) .rows) (c .before .loop-test .taken) (c .before .before .loop .inv))
+
+loop-less : tie.Need-loop-less Inv-loop μ-loop
+loop-less c = search needs
+
+loop-again : tie.Need-loop-again Inv-loop μ-loop
+unfolding inMain
+loop-again c =
+    let s = c .before .before .before .before .args in
+    let l = c .before .before .loop in
+    counted-turn inMain (s .n) (l .i) (l .i - 1) (l .count) (ltb (c .place .result) 2) (viewRows (s .n) (s .state .now) .rows) (omega arith) (omega (arith, view-length (s .n) (s .state .now), l .inv .within)) (ap (λ (x : ℕ). ltb x 2) (c .place .ensures)) (l .inv)
+
+returns : tie.Need-returns Inv-loop μ-loop
+returns c =
+    let s = c .before .before .before .args in
+    let l = c .before .loop in
+    counted-end inMain (s .n) (l .i) (l .count) (viewRows (s .n) (s .state .now) .rows) (omega arith) (l .inv)
+
+pub count-main-spec : {M : Type 1} → statement M
+count-main-spec =
+    tie.close
+    (tie.spec
+    Inv-loop
+    μ-loop
+    loop-holds
+    sub-i
+    place-requires
+    cast-count
+    add-count
+    loop-less
+    loop-again
+    returns)
