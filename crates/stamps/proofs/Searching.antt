@@ -4,51 +4,58 @@ use Prim.Native.Nat.{ℕ, suc, _+_, _≤_, _<_}
 use native.Mathlib.Omega.{arith}
 use mathlib.Core.List.{List}
 use mathlib.Core.Option.{Option, none, some}
-use mathlib.Core.Bool.{Bool, true, false, cond}
+use mathlib.Core.Bool.{Bool, true, false, cond, _&&_, _||_}
+use lib.Dec.{ltb, eqb}
 use lib.ListN.{length, drop, drop-of-length-le}
+use borrow.Author.Tests.{lt-ltb, le-ltb, ltb-true}
 use Rattle.rules.specs.Cases.{maybe}
 use Rattle.rules.specs.Records.{Row}
 use Rattle.rules.specs.Rows.{rowAt, atPlace, stampBefore, lowestStamp}
 use Rattle.rules.proofs.Loops.{from, better, lowest-down}
 use Rattle.stamps.specs.declared.lowest.Best.{Best}
-use Rattle.stamps.specs.declared.lowest.Best.the-variants.{Row as Stamped, Nothing as Unstamped}
-use Rattle.stamps.specs.Walked.{bestRow, lowerBest, lowerRow}
-
--- the stamp of the best row is that row's
-unfoldable pub Known : List Row → Best → Type 0
-Known rs (Stamped j f q) = (f ≡ rowAt j rs .stampFirst) × (q ≡ rowAt j rs .stampSeq)
-Known rs Unstamped = Unit {0}
+use Rattle.stamps.specs.Walked.{noRow, bestRow, lowerBest, lowerRow}
 
 -- the rows from i on were searched
-pub record Down (p i : ℕ) (rs : List Row) (b : Best) : Type 0 where
-  pub row : from i (lowestStamp p (drop i rs)) ≡ bestRow b
-  pub stamp : Known rs b
+pub record Down (p n i : ℕ) (rs : List Row) (b : Best) : Type 0 where
+  pub row : from i (lowestStamp p (drop i rs)) ≡ bestRow n b
+  pub stamp : b .row < n → (b .first ≡ rowAt (b .row) rs .stampFirst) × (b .seq ≡ rowAt (b .row) rs .stampSeq)
 
-pub down-start : (p i : ℕ) (rs : List Row) → length rs ≤ i → Down p i rs Unstamped
-unfolding Known bestRow from lowestStamp
-down-start p i rs h = record { row = rw (drop-of-length-le rs h); stamp = tt }
+pub down-start : (p n : ℕ) (rs : List Row) → length rs ≤ n → Down p n n rs (noRow n)
+unfolding bestRow from lowestStamp
+down-start p n rs h = record { row = rw (drop-of-length-le rs h, le-ltb n n (omega arith)); stamp = λ z. absurd (let e : ⊥ = omega arith in e) }
 
 -- row i is searched too
-pub down-row : (p k i : ℕ) (rs : List Row) (b : Best) → k ≡ suc i → i < length rs → Down p k rs b → Down p i rs (lowerRow p i rs b)
-unfolding lowerRow better Known bestRow lowerBest stampBefore
-down-row p k i rs b ek h d = go (atPlace p (rowAt i rs)) (lowest-down p i rs h) (subst (λ (x : ℕ). from x (lowestStamp p (drop x rs)) ≡ bestRow b) ek (d .row))
+pub down-row : (p n k i : ℕ) (rs : List Row) (b : Best) → k ≡ suc i → i < length rs → i < n → Down p n k rs b → Down p n i rs (lowerRow n p i rs b)
+unfolding lowerRow lowerBest bestRow better stampBefore
+down-row p n k i rs b ek h hn d = go (atPlace p (rowAt i rs)) (lowest-down p i rs h) (subst (λ (x : ℕ). from x (lowestStamp p (drop x rs)) ≡ bestRow n b) ek (d .row))
   where
-    go : (a : Bool) → from i (lowestStamp p (drop i rs)) ≡ cond a (some (maybe (from (suc i) (lowestStamp p (drop (suc i) rs))) i (λ j. cond (stampBefore (rowAt j rs) (rowAt i rs)) j i))) (from (suc i) (lowestStamp p (drop (suc i) rs)))
-        → from (suc i) (lowestStamp p (drop (suc i) rs)) ≡ bestRow b → Down p i rs (cond a (lowerBest b i (rowAt i rs .stampFirst) (rowAt i rs .stampSeq)) b)
-    go true u e = hit b (d .stamp) (u ∙ rw e)
-      where
-        hit : (b : Best) → Known rs b → from i (lowestStamp p (drop i rs)) ≡ some (maybe (bestRow b) i (λ j. cond (stampBefore (rowAt j rs) (rowAt i rs)) j i)) → Down p i rs (lowerBest b i (rowAt i rs .stampFirst) (rowAt i rs .stampSeq))
-        hit Unstamped s u = record { row = u; stamp = (refl, refl) }
-        hit (Stamped j g r) s u = rw (s .0, s .1) (pick (stampBefore (rowAt j rs) (rowAt i rs)) u)
-          where
-            pick : (c : Bool) → from i (lowestStamp p (drop i rs)) ≡ some (cond c j i) → Down p i rs (cond c (Stamped j (rowAt j rs .stampFirst) (rowAt j rs .stampSeq)) (Stamped i (rowAt i rs .stampFirst) (rowAt i rs .stampSeq)))
-            pick true u = record { row = u; stamp = (refl, refl) }
-            pick false u = record { row = u; stamp = (refl, refl) }
-    go false u e = record { row = u ∙ e; stamp = d .stamp }
+    mine : Best
+    mine = record { row = i; first = rowAt i rs .stampFirst; seq = rowAt i rs .stampSeq }
 
-pub down-end : (p i : ℕ) (rs : List Row) (b : Best) → i ≡ 0 → Down p i rs b → bestRow b ≡ lowestStamp p rs
+    taken : from i (lowestStamp p (drop i rs)) ≡ some i → Down p n i rs mine
+    taken u = record { row = u ∙ rw (lt-ltb i n hn); stamp = λ z. (refl, refl) }
+
+    go : (a : Bool) → from i (lowestStamp p (drop i rs)) ≡ cond a (some (maybe (from (suc i) (lowestStamp p (drop (suc i) rs))) i (λ j. cond (stampBefore (rowAt j rs) (rowAt i rs)) j i))) (from (suc i) (lowestStamp p (drop (suc i) rs)))
+        → from (suc i) (lowestStamp p (drop (suc i) rs)) ≡ cond (ltb (b .row) n) (some (b .row)) none
+        → Down p n i rs (cond a (cond (ltb (b .row) n && (ltb (b .first) (rowAt i rs .stampFirst) || (eqb (b .first) (rowAt i rs .stampFirst) && ltb (b .seq) (rowAt i rs .stampSeq)))) b mine) b)
+    go false u e = record { row = u ∙ e; stamp = d .stamp }
+    go true u e = held (ltb (b .row) n) refl (u ∙ rw e)
+      where
+        held : (c : Bool) → ltb (b .row) n ≡ c → from i (lowestStamp p (drop i rs)) ≡ some (maybe (cond c (some (b .row)) none) i (λ j. cond (stampBefore (rowAt j rs) (rowAt i rs)) j i))
+            → Down p n i rs (cond (c && (ltb (b .first) (rowAt i rs .stampFirst) || (eqb (b .first) (rowAt i rs .stampFirst) && ltb (b .seq) (rowAt i rs .stampSeq)))) b mine)
+        held false q u = taken u
+        held true q u =
+            let s = d .stamp (ltb-true (b .row) n q) in
+            let t : ltb (b .first) (rowAt i rs .stampFirst) || (eqb (b .first) (rowAt i rs .stampFirst) && ltb (b .seq) (rowAt i rs .stampSeq)) ≡ stampBefore (rowAt (b .row) rs) (rowAt i rs) = rw (s .0, s .1) in
+            rw t (pick (stampBefore (rowAt (b .row) rs) (rowAt i rs)) u)
+          where
+            pick : (c : Bool) → from i (lowestStamp p (drop i rs)) ≡ some (cond c (b .row) i) → Down p n i rs (cond c b mine)
+            pick true u = record { row = u ∙ rw q; stamp = d .stamp }
+            pick false u = taken u
+
+pub down-end : (p n i : ℕ) (rs : List Row) (b : Best) → i ≡ 0 → Down p n i rs b → bestRow n b ≡ lowestStamp p rs
 unfolding from
-down-end p i rs b z d = sym (whole (lowestStamp p rs) ∙ subst (λ (x : ℕ). from x (lowestStamp p (drop x rs)) ≡ bestRow b) z (d .row))
+down-end p n i rs b z d = sym (whole (lowestStamp p rs) ∙ subst (λ (x : ℕ). from x (lowestStamp p (drop x rs)) ≡ bestRow n b) z (d .row))
   where
     whole : (o : Option ℕ) → o ≡ from 0 o
     whole none = refl

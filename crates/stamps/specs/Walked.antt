@@ -11,7 +11,6 @@ use Rattle.rules.specs.Room.{Walk, Sought}
 use Rattle.stamps.specs.declared.answers.Lowest.{Lowest}
 use Rattle.stamps.specs.declared.answers.Lowest.the-variants.{At, Nothing}
 use Rattle.stamps.specs.declared.lowest.Best.{Best}
-use Rattle.stamps.specs.declared.lowest.Best.the-variants.{Row as Stamped, Nothing as Unstamped}
 use Rattle.stamps.specs.declared.answers.LowestStamp.{LowestStamp}
 use Rattle.stamps.specs.declared.answers.LowestOfMain.{LowestOfMain}
 use Rattle.stamps.specs.declared.answers.Victim.{Victim}
@@ -27,20 +26,21 @@ walkFrom s e = record { state = s; examined = e }
 unfoldable pub soughtOf : Victim → State → Sought
 soughtOf v s = record { victim = lowestOf (v .found); walk = walkFrom s (v .examined) }
 
--- ---- the best row of a search
+-- ---- the best row of a search, of n rows
 
-unfoldable pub bestRow : Best → Option ℕ
-bestRow (Stamped i f q) = some i
-bestRow Unstamped = none
+abbrev pub noRow : ℕ → Best
+noRow n = record { row = n; first = 0; seq = 0 }
 
--- the best so far, if its stamp is before row i's
-unfoldable pub lowerBest : Best → ℕ → ℕ → ℕ → Best
-lowerBest (Stamped j g p) i f q = cond (ltb g f || (eqb g f && ltb p q)) (Stamped j g p) (Stamped i f q)
-lowerBest Unstamped i f q = Stamped i f q
+unfoldable pub bestRow : ℕ → Best → Option ℕ
+bestRow n b = cond (ltb (b .row) n) (some (b .row)) none
+
+-- the best so far, if there is one and its stamp is before row i's
+unfoldable pub lowerBest : ℕ → Best → ℕ → ℕ → ℕ → Best
+lowerBest n b i f q = cond (ltb (b .row) n && (ltb (b .first) f || (eqb (b .first) f && ltb (b .seq) q))) b (record { row = i; first = f; seq = q })
 
 -- row i against the best so far, if it is at place p
-unfoldable pub lowerRow : ℕ → ℕ → List Row → Best → Best
-lowerRow p i rs b = cond (atPlace p (rowAt i rs)) (lowerBest b i (rowAt i rs .stampFirst) (rowAt i rs .stampSeq)) b
+unfoldable pub lowerRow : ℕ → ℕ → ℕ → List Row → Best → Best
+lowerRow n p i rs b = cond (atPlace p (rowAt i rs)) (lowerBest n b i (rowAt i rs .stampFirst) (rowAt i rs .stampSeq)) b
 
 -- ---- what one pass finds
 

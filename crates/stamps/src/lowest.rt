@@ -10,57 +10,55 @@ ghost use Prim.Native.Nat.{_+_, _*_, _≤_, _<_};
 ghost use lib.ListN.{length};
 ghost use Rattle.rules.specs.Rows.{rowSize};
 ghost use Rattle.rules.specs.Memory.{headSize, viewRows};
-ghost use Rattle.stamps.specs.Walked.{lowerBest, lowerRow, bestRow, lowestOf, LowestIs, MainIs};
+ghost use Rattle.stamps.specs.Walked.{noRow, lowerBest, lowerRow, bestRow, lowestOf, LowestIs, MainIs};
 
-// The row with the lowest stamp so far, and that stamp.
-enum Best {
-    Row { at: usize, first: u64, seq: u64 },
-    Nothing,
+// The row with the lowest stamp so far, and that stamp; a row past the last where there is none. An enum is slow to copy for each row.
+struct Best {
+    row: usize,
+    first: u64,
+    seq: u64,
 }
 
-// The best so far stays if its stamp is before row i's.
-fn lower_of(best: Best, i: usize, first: u64, seq: u64) -> Best
-    ensures { λ r. ⌜ r ≡ lowerBest best i first seq ⌝ }
+fn no_row(n: usize) -> Best
+    ensures { λ r. ⌜ r ≡ noRow n ⌝ }
 {
-    match best {
-        Best::Nothing => Best::Row { at: i, first, seq },
-        Best::Row {
-            at: j,
-            first: f,
-            seq: q,
-        } => {
-            if (f < first) | ((f == first) & (q < seq)) {
-                return best;
-            }
-            Best::Row { at: i, first, seq }
-        }
+    Best {
+        row: n,
+        first: 0,
+        seq: 0,
     }
 }
 
-fn row_of(best: Best) -> Lowest
-    ensures { λ r. ⌜ lowestOf r ≡ bestRow best ⌝ }
+// The best so far stays if there is one and its stamp is before row i's.
+fn lower_of(best: Best, n: usize, i: usize, first: u64, seq: u64) -> Best
+    ensures { λ r. ⌜ r ≡ lowerBest n best i first seq ⌝ }
 {
-    match best {
-        Best::Nothing => Lowest::Nothing,
-        Best::Row {
-            at: i,
-            first: _,
-            seq: _,
-        } => Lowest::At(i),
+    if (best.row < n) & ((best.first < first) | ((best.first == first) & (best.seq < seq))) {
+        return best;
     }
+    Best { row: i, first, seq }
+}
+
+fn row_of(best: Best, n: usize) -> Lowest
+    ensures { λ r. ⌜ lowestOf r ≡ bestRow n best ⌝ }
+{
+    if best.row < n {
+        return Lowest::At(best.row);
+    }
+    Lowest::Nothing
 }
 
 // Row i against the best so far, if it is at this place.
 fn lower_row(state: &[u8], n: usize, i: usize, place: u8, best: Best) -> Best
     requires { ⌜ (i < n) × (headSize + n * rowSize ≤ length (now state)) ⌝ }
-    ensures { λ r. ⌜ r ≡ lowerRow place i (viewRows n (now (state .entry)) .rows) best ⌝ }
+    ensures { λ r. ⌜ r ≡ lowerRow n place i (viewRows n (now (state .entry)) .rows) best ⌝ }
 {
     if memory::row::place(state, n, i) != place {
         return best;
     }
     let first = memory::row::stamp_first(state, n, i);
     let seq = memory::row::stamp_seq(state, n, i);
-    lower_of(best, i, first, seq)
+    lower_of(best, n, i, first, seq)
 }
 
 // From the last row to the first, so that equal stamps go to the lower key.
@@ -68,7 +66,7 @@ pub fn lowest_stamp(state: &[u8], n: usize, place: u8) -> LowestStamp
     requires { ⌜ headSize + n * rowSize ≤ length (now state) ⌝ }
     ensures { λ r. ⌜ LowestIs place r (viewRows n (now (state .entry)) .rows) ⌝ }
 {
-    let mut best = Best::Nothing;
+    let mut best = no_row(n);
     let mut count: u64 = 0;
     let mut i = n;
     while 0 < i {
@@ -77,7 +75,7 @@ pub fn lowest_stamp(state: &[u8], n: usize, place: u8) -> LowestStamp
         count += (memory::row::place(state, n, i) == place) as u64;
     }
     LowestStamp {
-        row: row_of(best),
+        row: row_of(best, n),
         count,
     }
 }
@@ -87,8 +85,8 @@ pub fn lowest_of_main(state: &[u8], n: usize) -> LowestOfMain
     requires { ⌜ headSize + n * rowSize ≤ length (now state) ⌝ }
     ensures { λ r. ⌜ MainIs r (viewRows n (now (state .entry)) .rows) ⌝ }
 {
-    let mut parked = Best::Nothing;
-    let mut by_use = Best::Nothing;
+    let mut parked = no_row(n);
+    let mut by_use = no_row(n);
     let mut count: u64 = 0;
     let mut i = n;
     while 0 < i {
@@ -98,8 +96,8 @@ pub fn lowest_of_main(state: &[u8], n: usize) -> LowestOfMain
         count += (memory::row::place(state, n, i) < PROBATION) as u64;
     }
     LowestOfMain {
-        parked: row_of(parked),
-        by_use: row_of(by_use),
+        parked: row_of(parked, n),
+        by_use: row_of(by_use, n),
         count,
     }
 }

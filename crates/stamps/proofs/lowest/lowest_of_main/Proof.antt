@@ -13,17 +13,23 @@ use Rattle.stamps.proofs.lowest.lowest_of_main.Statement.{statement}
 use Rattle.stamps.proofs.lowest.lowest_of_main.Tie as tie
 
 abbrev Inv-loop : tie.InvT-loop
-Inv-loop state n parked₀ by_use₀ count₀ i₀ p b count i = Counted inMain n i count (viewRows n state .rows) × Down parked i (viewRows n state .rows) p × Down byUse i (viewRows n state .rows) b
+Inv-loop state n parked₀ by_use₀ count₀ i₀ p b count i = Counted inMain n i count (viewRows n state .rows) × Down parked n i (viewRows n state .rows) p × Down byUse n i (viewRows n state .rows) b
 
 abbrev μ-loop : tie.MeasureT-loop
 μ-loop state n parked₀ by_use₀ count₀ i₀ p b count i = i
 
+no-row-requires : tie.Need-no-row-requires Inv-loop μ-loop
+no-row-requires c κs = search needs
+
+no-row-requires-2 : tie.Need-no-row-requires-2 Inv-loop μ-loop
+no-row-requires-2 c κs = search needs
+
 loop-holds : tie.Need-loop-holds Inv-loop μ-loop
 loop-holds c =
-    let s = c .before .args in
+    let s = c .before .before .before .args in
     let rs = viewRows (s .n) (s .state .now) .rows in
     let e = view-length (s .n) (s .state .now) in
-    (counted-start inMain (s .n) rs (omega (arith, e)), down-start parked (s .n) rs (omega (arith, e)), down-start byUse (s .n) rs (omega (arith, e)))
+    (counted-start inMain (s .n) rs (omega (arith, e)), rw (c .before .no-row .ensures) (down-start parked (s .n) rs (omega (arith, e))), rw (c .no-row2 .ensures) (down-start byUse (s .n) rs (omega (arith, e))))
 
 sub-i : tie.Need-sub-i Inv-loop μ-loop
 sub-i c = search needs
@@ -47,7 +53,7 @@ cast-count : tie.Need-cast-count Inv-loop μ-loop
 cast-count c = search needs
 
 add-count : tie.Need-add-count Inv-loop μ-loop
-add-count c = omega (arith, counted-fits inMain (c .before .before .before .before .before .before .args .n) (c .before .before .before .before .loop .i) (c .before .before .before .before .loop .count) (ltb (c .place .result) 2) (viewRows (c .before .before .before .before .before .before .args .n) (c .before .before .before .before .before .before .args .state .now) .rows) (c .before .before .before .loop-test .taken) (c .before .before .before .before .loop .inv .0))
+add-count c = omega (arith, counted-fits inMain (c .before .before .before .before .before .before .before .before .args .n) (c .before .before .before .before .loop .i) (c .before .before .before .before .loop .count) (ltb (c .place .result) 2) (viewRows (c .before .before .before .before .before .before .before .before .args .n) (c .before .before .before .before .before .before .before .before .args .state .now) .rows) (c .before .before .before .loop-test .taken) (c .before .before .before .before .loop .inv .0))
 
 loop-less : tie.Need-loop-less Inv-loop μ-loop
 loop-less c = search needs
@@ -56,10 +62,10 @@ loop-again : tie.Need-loop-again Inv-loop μ-loop
 unfolding inMain
 loop-again c =
     let l = c .before .before .before .before .loop in
-    let s = c .before .before .before .before .before .before .args in
+    let s = c .before .before .before .before .before .before .before .before .args in
     let rs = viewRows (s .n) (s .state .now) .rows in
     let e = view-length (s .n) (s .state .now) in
-    (counted-turn inMain (s .n) (l .i) (l .i - 1) (l .count) (ltb (c .place .result) 2) rs (omega arith) (omega (arith, e, l .inv .0 .within)) (ap (λ (x : ℕ). ltb x 2) (c .place .ensures)) (l .inv .0), rw (c .before .before .lower-row .ensures) (down-row parked (l .i) (l .i - 1) rs (l .parked) (omega arith) (omega (arith, e, l .inv .0 .within)) (l .inv .1)), rw (c .before .lower-row2 .ensures) (down-row byUse (l .i) (l .i - 1) rs (l .by-use) (omega arith) (omega (arith, e, l .inv .0 .within)) (l .inv .2)))
+    (counted-turn inMain (s .n) (l .i) (l .i - 1) (l .count) (ltb (c .place .result) 2) rs (omega arith) (omega (arith, e, l .inv .0 .within)) (ap (λ (x : ℕ). ltb x 2) (c .place .ensures)) (l .inv .0), rw (c .before .before .lower-row .ensures) (down-row parked (s .n) (l .i) (l .i - 1) rs (l .parked) (omega arith) (omega (arith, e, l .inv .0 .within)) (omega (arith, l .inv .0 .within)) (l .inv .1)), rw (c .before .lower-row2 .ensures) (down-row byUse (s .n) (l .i) (l .i - 1) rs (l .by-use) (omega arith) (omega (arith, e, l .inv .0 .within)) (omega (arith, l .inv .0 .within)) (l .inv .2)))
 
 row-of-requires : tie.Need-row-of-requires Inv-loop μ-loop
 row-of-requires c κs = search needs
@@ -70,11 +76,11 @@ row-of-requires-2 c κs = search needs
 returns : tie.Need-returns Inv-loop μ-loop
 returns c =
     let l = c .before .before .before .loop in
-    let s = c .before .before .before .before .before .args in
+    let s = c .before .before .before .before .before .before .before .args in
     let rs = viewRows (s .n) (s .state .now) .rows in
     record {
-      parked = c .before .row-of .ensures ∙ down-end parked (l .i) rs (l .parked) (omega arith) (l .inv .1);
-      byUse = c .row-of2 .ensures ∙ down-end byUse (l .i) rs (l .by-use) (omega arith) (l .inv .2);
+      parked = c .before .row-of .ensures ∙ down-end parked (s .n) (l .i) rs (l .parked) (omega arith) (l .inv .1);
+      byUse = c .row-of2 .ensures ∙ down-end byUse (s .n) (l .i) rs (l .by-use) (omega arith) (l .inv .2);
       count = counted-end inMain (s .n) (l .i) (l .count) rs (omega arith) (l .inv .0);
     }
 
@@ -84,6 +90,8 @@ lowest-of-main-spec =
     (tie.spec
     Inv-loop
     μ-loop
+    no-row-requires
+    no-row-requires-2
     loop-holds
     sub-i
     lower-row-requires
