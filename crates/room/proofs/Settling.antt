@@ -16,7 +16,7 @@ use Rattle.rules.specs.Room.{Walk, Chosen, nextVictim, hasRoom, setAside, putBa
 use Rattle.rules.specs.Memory.{viewRows}
 use Rattle.rules.proofs.Addresses.{contradiction}
 use Rattle.rules.proofs.RowLists.{Core, by-cond, by-maybe, cores, core, every-map, every-mapped, map-cores}
-use Rattle.rules.proofs.SoundTest.{RowOk, sound-is}
+use Rattle.rules.proofs.SoundTest.{RowOk, and-left, and-right, sound-is}
 use Rattle.rules.proofs.Moves.{ready}
 use Rattle.rules.proofs.Walks.{Going, Led, back-core, choose-led, not-at, start-led}
 use Rattle.rules.proofs.Loops.{choose-done}
@@ -63,16 +63,12 @@ room-there now w R m count stored x s b h em ec es ex t q =
     rw (choose-done now (min w (weightBound (s .maxEntries))) (walkFrom s 0) f, k)
 
 -- main has at most all rows
-both : (a b : Bool) → a && b ≡ true → (a ≡ true) × (b ≡ true)
-both true b e = (refl, e)
-both false b e = contradiction e refl
-
 pub rows-there : (now w R m n stored x : ℕ) (s : State) (b : Bool) → sound R s ≡ true → length (s .rows) ≡ n → m ≡ s .maxEntries → stored ≡ s .storedWeight → x ≡ min w (weightBound m) → b ≡ ltb n m && leb (stored + x) (weightBound m) → b ≡ true
     → roomAs true 0 s ≡ makeRoom now w s
 rows-there now w R m n stored x s b h en em es ex t q =
-    let y = both (ltb n m) (leb (stored + x) (weightBound m)) (sym t ∙ q) in
-    let c : mainCount s < m = omega (arith, count-few inMain (s .rows), ltb-true n m (y .0)) in
-    room-there now w R m (mainCount s) stored x s true h em refl es ex (rw (lt-ltb (mainCount s) m c, y .1)) refl
+    let y = sym t ∙ q in
+    let c : mainCount s < m = omega (arith, count-few inMain (s .rows), ltb-true n m (and-left (ltb n m) (leb (stored + x) (weightBound m)) y)) in
+    room-there now w R m (mainCount s) stored x s true h em refl es ex (rw (lt-ltb (mainCount s) m c, and-right (ltb n m) (leb (stored + x) (weightBound m)) y)) refl
 
 -- ---- the victims leave
 

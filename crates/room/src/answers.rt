@@ -1,8 +1,8 @@
 use stamps::answers::Lowest;
 
 // Whether room was made in main, the rows there are, and the keys taken up. Where one victim is enough, it is left where it
-// is, counted among the rows, for the row that takes its place; `stored` is then the weight that is stored without it, and says
-// nothing else.
+// is, counted among the rows, for the row that takes its place; `stored` is then the weight that is stored without it, and without
+// a victim means nothing.
 pub struct Room {
     pub made: bool,
     pub rows: usize,

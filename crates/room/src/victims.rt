@@ -123,7 +123,7 @@ fn drop_aside(state: &mut [u8], n: usize) -> usize
     sweep::sweep_rows(state, n, sweep::ASIDE, 0, none)
 }
 
-// Nothing was sought.
+// There is room: no victim is sought.
 fn room_there(rows: usize, stored: u64) -> Room
     ensures { λ r. ⌜ r ≡ record { made = true; rows = rows; victim = Nothing; stored = stored; examined = 0 } ⌝ }
 {
@@ -136,8 +136,8 @@ fn room_there(rows: usize, stored: u64) -> Room
     }
 }
 
-// Room for w in main; where one victim is enough, it is left aside. Where there is room nothing is written, and main rows are counted only
-// if all rows are too many; where room can't be made no row leaves.
+// Room for w in main; where one victim is enough, it is left aside. Where there is room nothing is written, and main is not counted
+// where all rows are fewer than max_entries; where room can't be made no row leaves.
 pub fn make_room(state: &mut [u8], n: usize, w: u64, time: u64) -> Room
     requires { ⌜ (headSize + n * rowSize ≤ length (now state)) × (sound (capacity (now state)) (viewRows n (now state)) ≡ true) × (viewRows n (now state) .seq + total (mainVisits time) (viewRows n (now state) .rows) < 18446744073709551616) ⌝ }
     ensures { λ r. ⌜ (roomOf r (viewRows (r .rows) (now (state .exit))) ≡ makeRoom time w (viewRows n (now (state .entry)))) × (r .rows ≤ n) × Leaves (r .victim) (r .stored) (viewRows n (now (state .entry)) .rows) (viewRows (r .rows) (now (state .exit)) .rows) × (r .made ≡ false → r .victim ≡ Nothing) ⌝ }
