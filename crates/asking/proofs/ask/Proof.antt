@@ -13,9 +13,6 @@ use borrow.Author.Needs.{needs}
 use Rattle.asking.proofs.ask.Statement.{statement}
 use Rattle.asking.proofs.ask.Tie as tie
 
-refused-requires : tie.Need-refused-requires
-refused-requires c κs = search needs
-
 returns : tie.Need-returns
 returns c =
     let a = c .before .before .before .before .args in
@@ -26,17 +23,11 @@ returns c =
 of-key-requires : tie.Need-of-key-requires
 of-key-requires c κs = ((sym (c .before .before .before .before .before .pre .0) ∙ not-false _ (c .before .before .if1 .left)), c .before .before .before .before .before .pre .1, c .before .before .before .before .before .pre .2, c .before .if2 .taken)
 
-same-length : tie.Need-same-length
-same-length c = search needs
-
 returns-2 : tie.Need-returns-2
 returns-2 c = c .before .before .of-key .ensures
 
 sweep-requires : tie.Need-sweep-requires
 sweep-requires c κs = ((sym (c .before .before .before .before .before .before .pre .0) ∙ not-false _ (c .before .before .before .if1 .left)), c .before .before .before .before .before .before .pre .1, c .before .before .if2 .left, c .before .if3 .taken)
-
-same-length-2 : tie.Need-same-length-2
-same-length-2 c = search needs
 
 returns-3 : tie.Need-returns-3
 returns-3 c = c .before .before .sweep .ensures
@@ -44,9 +35,6 @@ returns-3 c = c .before .before .sweep .ensures
 stats-requires : tie.Need-stats-requires
 unfolding widthOf codeOf codes code
 stats-requires c κs = ((sym (c .before .before .before .before .before .before .before .pre .0) ∙ not-false _ (c .before .before .before .before .if1 .left)), there (c .before .before .before .before .before .before .before .args .code) 8 (c .before .before .before .before .before .before .before .args .at) (c .before .before .before .before .before .before .before .args .input .now) (ap widthOf (c .before .if4 .taken)) (c .before .before .before .before .before .before .before .pre .1) (omega arith))
-
-same-length-3 : tie.Need-same-length-3
-same-length-3 c = search needs
 
 returns-4 : tie.Need-returns-4
 unfolding reads codeOf codes code
@@ -56,9 +44,6 @@ returns-4 c =
 
 next-expiry-requires : tie.Need-next-expiry-requires
 next-expiry-requires c κs = (sym (c .before .before .before .before .before .before .before .pre .0) ∙ not-false _ (c .before .before .before .before .if1 .left))
-
-same-length-4 : tie.Need-same-length-4
-same-length-4 c = search needs
 
 returns-5 : tie.Need-returns-5
 unfolding reads codeOf codes code
@@ -71,17 +56,17 @@ pub ask-spec : {M : Type 1} → statement M
 ask-spec =
     tie.close
     (tie.spec
-    refused-requires
+    (λ c κs. search needs)
     returns
     of-key-requires
-    same-length
+    (λ c. search needs)
     returns-2
     sweep-requires
-    same-length-2
+    (λ c. search needs)
     returns-3
     stats-requires
-    same-length-3
+    (λ c. search needs)
     returns-4
     next-expiry-requires
-    same-length-4
+    (λ c. search needs)
     returns-5)

@@ -8,15 +8,6 @@ use borrow.Author.Needs.{needs}
 use Rattle.asking.proofs.clear.Statement.{statement}
 use Rattle.asking.proofs.clear.Tie as tie
 
-clear-unchecked-requires : tie.Need-clear-unchecked-requires
-clear-unchecked-requires c κs = search needs
-
-refused-requires : tie.Need-refused-requires
-refused-requires c κs = search needs
-
-same-length : tie.Need-same-length
-same-length c = search needs
-
 returns : tie.Need-returns
 unfolding performRequest perform gives
 returns c =
@@ -25,4 +16,4 @@ returns c =
     replied (a .state .now) _ _ _ _ refl (c .refused .ensures ∙ ap refuses (u .ensures .0) ∙ sym (number-reply (a .state .now) (Asked Clear) refl)) (u .ensures .1)
 
 pub clear-spec : {M : Type 1} → statement M
-clear-spec = tie.close (tie.spec clear-unchecked-requires refused-requires same-length returns)
+clear-spec = tie.close (tie.spec (λ c κs. search needs) (λ c κs. search needs) (λ c. search needs) returns)

@@ -9,18 +9,6 @@ use borrow.Author.Needs.{needs}
 use Rattle.asking.proofs.clear_path_mtu.Statement.{statement}
 use Rattle.asking.proofs.clear_path_mtu.Tie as tie
 
-load-addr-requires : tie.Need-load-addr-requires
-load-addr-requires c κs = search needs
-
-clear-path-mtu-unchecked-requires : tie.Need-clear-path-mtu-unchecked-requires
-clear-path-mtu-unchecked-requires c κs = search needs
-
-refused-requires : tie.Need-refused-requires
-refused-requires c κs = search needs
-
-same-length : tie.Need-same-length
-same-length c = search needs
-
 returns : tie.Need-returns
 unfolding performRequest perform gives
 returns c =
@@ -32,8 +20,8 @@ pub clear-path-mtu-spec : {M : Type 1} → statement M
 clear-path-mtu-spec =
     tie.close
     (tie.spec
-    load-addr-requires
-    clear-path-mtu-unchecked-requires
-    refused-requires
-    same-length
+    (λ c κs. search needs)
+    (λ c κs. search needs)
+    (λ c κs. search needs)
+    (λ c. search needs)
     returns)

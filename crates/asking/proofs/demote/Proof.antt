@@ -7,18 +7,6 @@ use borrow.Author.Needs.{needs}
 use Rattle.asking.proofs.demote.Statement.{statement}
 use Rattle.asking.proofs.demote.Tie as tie
 
-load-addr-requires : tie.Need-load-addr-requires
-load-addr-requires c κs = search needs
-
-demote-unchecked-requires : tie.Need-demote-unchecked-requires
-demote-unchecked-requires c κs = search needs
-
-demote-reply-requires : tie.Need-demote-reply-requires
-demote-reply-requires c κs = search needs
-
-same-length : tie.Need-same-length
-same-length c = search needs
-
 returns : tie.Need-returns
 returns c =
     let a = c .before .before .before .before .before .before .before .before .args in
@@ -28,8 +16,8 @@ pub demote-spec : {M : Type 1} → statement M
 demote-spec =
     tie.close
     (tie.spec
-    load-addr-requires
-    demote-unchecked-requires
-    demote-reply-requires
-    same-length
+    (λ c κs. search needs)
+    (λ c κs. search needs)
+    (λ c κs. search needs)
+    (λ c. search needs)
     returns)

@@ -11,21 +11,6 @@ use borrow.Author.Needs.{needs}
 use Rattle.asking.proofs.get.Statement.{statement}
 use Rattle.asking.proofs.get.Tie as tie
 
-load-addr-requires : tie.Need-load-addr-requires
-load-addr-requires c κs = search needs
-
-add-read-u64 : tie.Need-add-read-u64
-add-read-u64 c = search needs
-
-read-u64-requires : tie.Need-read-u64-requires
-read-u64-requires c κs = search needs
-
-get-unchecked-requires : tie.Need-get-unchecked-requires
-get-unchecked-requires c κs = search needs
-
-part-reply-requires : tie.Need-part-reply-requires
-part-reply-requires c κs = search needs
-
 returns : tie.Need-returns
 returns c =
     let a = c .before .before .before .before .before .before .args in
@@ -35,9 +20,9 @@ pub get-spec : {M : Type 1} → statement M
 get-spec =
     tie.close
     (tie.spec
-    load-addr-requires
-    add-read-u64
-    read-u64-requires
-    get-unchecked-requires
-    part-reply-requires
+    (λ c κs. search needs)
+    (λ c. search needs)
+    (λ c κs. search needs)
+    (λ c κs. search needs)
+    (λ c κs. search needs)
     returns)

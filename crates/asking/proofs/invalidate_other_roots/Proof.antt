@@ -7,18 +7,6 @@ use borrow.Author.Needs.{needs}
 use Rattle.asking.proofs.invalidate_other_roots.Statement.{statement}
 use Rattle.asking.proofs.invalidate_other_roots.Tie as tie
 
-load-addr-requires : tie.Need-load-addr-requires
-load-addr-requires c κs = search needs
-
-invalidate-other-roots-unchecked-requires : tie.Need-invalidate-other-roots-unchecked-requires
-invalidate-other-roots-unchecked-requires c κs = search needs
-
-sweep-reply-requires : tie.Need-sweep-reply-requires
-sweep-reply-requires c κs = search needs
-
-same-length : tie.Need-same-length
-same-length c = search needs
-
 returns : tie.Need-returns
 returns c =
     let a = c .before .before .before .before .before .before .before .before .args in
@@ -28,8 +16,8 @@ pub invalidate-other-roots-spec : {M : Type 1} → statement M
 invalidate-other-roots-spec =
     tie.close
     (tie.spec
-    load-addr-requires
-    invalidate-other-roots-unchecked-requires
-    sweep-reply-requires
-    same-length
+    (λ c κs. search needs)
+    (λ c κs. search needs)
+    (λ c κs. search needs)
+    (λ c. search needs)
     returns)

@@ -7,18 +7,6 @@ use borrow.Author.Needs.{needs}
 use Rattle.asking.proofs.invalidate_via_node.Statement.{statement}
 use Rattle.asking.proofs.invalidate_via_node.Tie as tie
 
-load-addr-requires : tie.Need-load-addr-requires
-load-addr-requires c κs = search needs
-
-invalidate-via-node-unchecked-requires : tie.Need-invalidate-via-node-unchecked-requires
-invalidate-via-node-unchecked-requires c κs = search needs
-
-sweep-reply-requires : tie.Need-sweep-reply-requires
-sweep-reply-requires c κs = search needs
-
-same-length : tie.Need-same-length
-same-length c = search needs
-
 returns : tie.Need-returns
 returns c =
     let a = c .before .before .before .before .before .before .before .before .args in
@@ -28,8 +16,8 @@ pub invalidate-via-node-spec : {M : Type 1} → statement M
 invalidate-via-node-spec =
     tie.close
     (tie.spec
-    load-addr-requires
-    invalidate-via-node-unchecked-requires
-    sweep-reply-requires
-    same-length
+    (λ c κs. search needs)
+    (λ c κs. search needs)
+    (λ c κs. search needs)
+    (λ c. search needs)
     returns)

@@ -39,17 +39,11 @@ clear-path-mtu-requires c κs =
     let z : x ≡ 36 = omega (arith, p4, last-of-keys x _ (c .before .before .before .before .pre .1) (c .before .before .before .before .pre .2) (c .before .before .before .before .pre .3)) in
     (c .before .before .before .before .pre .0, there (c .before .before .before .before .args .code) 16 (c .before .before .before .before .args .at) (c .before .before .before .before .args .input .now) (ap widthOf z) (c .before .before .before .before .pre .1) (omega arith))
 
-same-length : tie.Need-same-length
-same-length c = search needs
-
 returns : tie.Need-returns
 unfolding reads codeOf codes code
 returns c =
     let a = c .before .before .before .before .before .args in
     λ p. asked-says (held (a .state .now) p) (a .code) (drop (a .at) (a .input .now)) _ _ _ (ap (λ (b : ℕ). reads b (drop (a .at) (a .input .now))) (c .before .before .match .keys1)) (c .get .ensures)
-
-same-length-2 : tie.Need-same-length-2
-same-length-2 c = search needs
 
 returns-2 : tie.Need-returns-2
 unfolding reads codeOf codes code
@@ -57,26 +51,17 @@ returns-2 c =
     let a = c .before .before .before .before .before .before .before .args in
     λ p. asked-says (held (a .state .now) p) (a .code) (drop (a .at) (a .input .now)) _ _ _ (ap (λ (b : ℕ). reads b (drop (a .at) (a .input .now))) (c .before .before .before .before .match .keys2)) (c .before .before .touch .ensures)
 
-same-length-3 : tie.Need-same-length-3
-same-length-3 c = search needs
-
 returns-3 : tie.Need-returns-3
 unfolding reads codeOf codes code
 returns-3 c =
     let a = c .before .before .before .before .before .before .before .args in
     λ p. asked-says (held (a .state .now) p) (a .code) (drop (a .at) (a .input .now)) _ _ _ (ap (λ (b : ℕ). reads b (drop (a .at) (a .input .now))) (c .before .before .before .before .match .keys3)) (c .before .before .remove .ensures)
 
-same-length-4 : tie.Need-same-length-4
-same-length-4 c = search needs
-
 returns-4 : tie.Need-returns-4
 unfolding reads codeOf codes code
 returns-4 c =
     let a = c .before .before .before .before .before .before .before .args in
     λ p. asked-says (held (a .state .now) p) (a .code) (drop (a .at) (a .input .now)) _ _ _ (ap (λ (b : ℕ). reads b (drop (a .at) (a .input .now))) (c .before .before .before .before .match .keys4)) (c .before .before .demote .ensures)
-
-same-length-5 : tie.Need-same-length-5
-same-length-5 c = search needs
 
 returns-5 : tie.Need-returns-5
 unfolding reads codeOf codes code
@@ -100,13 +85,13 @@ of-key-spec =
     remove-requires
     demote-requires
     clear-path-mtu-requires
-    same-length
+    (λ c. search needs)
     returns
-    same-length-2
+    (λ c. search needs)
     returns-2
-    same-length-3
+    (λ c. search needs)
     returns-3
-    same-length-4
+    (λ c. search needs)
     returns-4
-    same-length-5
+    (λ c. search needs)
     returns-5)

@@ -7,18 +7,6 @@ use borrow.Author.Needs.{needs}
 use Rattle.asking.proofs.purge_expired.Statement.{statement}
 use Rattle.asking.proofs.purge_expired.Tie as tie
 
-read-u64-requires : tie.Need-read-u64-requires
-read-u64-requires c κs = search needs
-
-purge-expired-unchecked-requires : tie.Need-purge-expired-unchecked-requires
-purge-expired-unchecked-requires c κs = search needs
-
-sweep-reply-requires : tie.Need-sweep-reply-requires
-sweep-reply-requires c κs = search needs
-
-same-length : tie.Need-same-length
-same-length c = search needs
-
 returns : tie.Need-returns
 returns c =
     let a = c .before .before .before .before .before .before .before .before .args in
@@ -28,8 +16,8 @@ pub purge-expired-spec : {M : Type 1} → statement M
 purge-expired-spec =
     tie.close
     (tie.spec
-    read-u64-requires
-    purge-expired-unchecked-requires
-    sweep-reply-requires
-    same-length
+    (λ c κs. search needs)
+    (λ c κs. search needs)
+    (λ c κs. search needs)
+    (λ c. search needs)
     returns)

@@ -7,18 +7,6 @@ use borrow.Author.Needs.{needs}
 use Rattle.asking.proofs.remove.Statement.{statement}
 use Rattle.asking.proofs.remove.Tie as tie
 
-load-addr-requires : tie.Need-load-addr-requires
-load-addr-requires c κs = search needs
-
-remove-unchecked-requires : tie.Need-remove-unchecked-requires
-remove-unchecked-requires c κs = search needs
-
-remove-reply-requires : tie.Need-remove-reply-requires
-remove-reply-requires c κs = search needs
-
-same-length : tie.Need-same-length
-same-length c = search needs
-
 returns : tie.Need-returns
 returns c =
     let a = c .before .before .before .before .before .before .before .before .args in
@@ -29,8 +17,8 @@ pub remove-spec : {M : Type 1} → statement M
 remove-spec =
     tie.close
     (tie.spec
-    load-addr-requires
-    remove-unchecked-requires
-    remove-reply-requires
-    same-length
+    (λ c κs. search needs)
+    (λ c κs. search needs)
+    (λ c κs. search needs)
+    (λ c. search needs)
     returns)

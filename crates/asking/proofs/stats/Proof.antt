@@ -7,15 +7,6 @@ use borrow.Author.Needs.{needs}
 use Rattle.asking.proofs.stats.Statement.{statement}
 use Rattle.asking.proofs.stats.Tie as tie
 
-read-u64-requires : tie.Need-read-u64-requires
-read-u64-requires c κs = search needs
-
-stats-unchecked-requires : tie.Need-stats-unchecked-requires
-stats-unchecked-requires c κs = search needs
-
-stats-reply-requires : tie.Need-stats-reply-requires
-stats-reply-requires c κs = search needs
-
 returns : tie.Need-returns
 returns c =
     let a = c .before .before .before .before .before .args in
@@ -23,4 +14,4 @@ returns c =
 
 pub stats-spec : {M : Type 1} → statement M
 stats-spec =
-    tie.close (tie.spec read-u64-requires stats-unchecked-requires stats-reply-requires returns)
+    tie.close (tie.spec (λ c κs. search needs) (λ c κs. search needs) (λ c κs. search needs) returns)

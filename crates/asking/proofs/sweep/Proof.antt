@@ -15,9 +15,6 @@ purge-expired-requires : tie.Need-purge-expired-requires
 unfolding widthOf codeOf codes code
 purge-expired-requires c κs = (c .before .before .before .before .pre .0, there (c .before .before .before .before .args .code) 8 (c .before .before .before .before .args .at) (c .before .before .before .before .args .input .now) (ap widthOf (c .before .match .keys1)) (c .before .before .before .before .pre .1) (omega arith))
 
-clear-requires : tie.Need-clear-requires
-clear-requires c κs = search needs
-
 invalidate-via-node-requires : tie.Need-invalidate-via-node-requires
 unfolding widthOf codeOf codes code
 invalidate-via-node-requires c κs = (c .before .before .before .before .pre .0, there (c .before .before .before .before .args .code) 16 (c .before .before .before .before .args .at) (c .before .before .before .before .args .input .now) (ap widthOf (c .before .match .keys3)) (c .before .before .before .before .pre .1) (omega arith))
@@ -33,17 +30,11 @@ invalidate-other-roots-requires c κs =
     let z : x ≡ 51 = omega (arith, p3, last-of-sweeps x _ (c .before .before .before .before .pre .1) (c .before .before .before .before .pre .2) (c .before .before .before .before .pre .3)) in
     (c .before .before .before .before .pre .0, there (c .before .before .before .before .args .code) 16 (c .before .before .before .before .args .at) (c .before .before .before .before .args .input .now) (ap widthOf z) (c .before .before .before .before .pre .1) (omega arith))
 
-same-length : tie.Need-same-length
-same-length c = search needs
-
 returns : tie.Need-returns
 unfolding reads codeOf codes code
 returns c =
     let a = c .before .before .before .before .before .before .before .args in
     λ p. asked-says (held (a .state .now) p) (a .code) (drop (a .at) (a .input .now)) _ _ _ (ap (λ (b : ℕ). reads b (drop (a .at) (a .input .now))) (c .before .before .before .before .match .keys1)) (c .before .before .purge-expired .ensures)
-
-same-length-2 : tie.Need-same-length-2
-same-length-2 c = search needs
 
 returns-2 : tie.Need-returns-2
 unfolding reads codeOf codes code
@@ -51,17 +42,11 @@ returns-2 c =
     let a = c .before .before .before .before .before .before .before .args in
     λ p. asked-says (held (a .state .now) p) (a .code) (drop (a .at) (a .input .now)) _ _ _ (ap (λ (b : ℕ). reads b (drop (a .at) (a .input .now))) (c .before .before .before .before .match .keys2)) (c .before .before .clear .ensures)
 
-same-length-3 : tie.Need-same-length-3
-same-length-3 c = search needs
-
 returns-3 : tie.Need-returns-3
 unfolding reads codeOf codes code
 returns-3 c =
     let a = c .before .before .before .before .before .before .before .args in
     λ p. asked-says (held (a .state .now) p) (a .code) (drop (a .at) (a .input .now)) _ _ _ (ap (λ (b : ℕ). reads b (drop (a .at) (a .input .now))) (c .before .before .before .before .match .keys3)) (c .before .before .invalidate-via-node .ensures)
-
-same-length-4 : tie.Need-same-length-4
-same-length-4 c = search needs
 
 returns-4 : tie.Need-returns-4
 unfolding reads codeOf codes code
@@ -80,14 +65,14 @@ sweep-spec =
     tie.close
     (tie.spec
     purge-expired-requires
-    clear-requires
+    (λ c κs. search needs)
     invalidate-via-node-requires
     invalidate-other-roots-requires
-    same-length
+    (λ c. search needs)
     returns
-    same-length-2
+    (λ c. search needs)
     returns-2
-    same-length-3
+    (λ c. search needs)
     returns-3
-    same-length-4
+    (λ c. search needs)
     returns-4)

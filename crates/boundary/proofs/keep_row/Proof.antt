@@ -13,14 +13,8 @@ row-count-requires c κs = head-there (c .before .args .state .now) (c .before .
 search-requires : tie.Need-search-requires
 search-requires c κs = searchable (c .before .before .args .state .now) (c .row-count .result) (c .before .before .pre) (c .row-count .ensures)
 
-enum-known-at : tie.Need-enum-known-at
-enum-known-at c = search needs
-
 save-row-requires : tie.Need-save-row-requires
 save-row-requires c κs = found-inside (c .before .before .before .before .before .before .args .state .now) (c .before .before .before .before .row-count .result) (c .before .before .before .before .before .before .args .key) _ (c .before .before .before .search .result) (c .before .before .before .before .before .before .pre) (c .before .before .before .before .row-count .ensures) (c .before .before .before .search .ensures) (c .before .at .given .1)
-
-enum-told : tie.Need-enum-told
-enum-told c = search needs
 
 returns : tie.Need-returns
 returns c =
@@ -42,8 +36,8 @@ keep-row-spec =
     (tie.spec
     row-count-requires
     search-requires
-    enum-known-at
+    (λ c. search needs)
     save-row-requires
-    enum-told
+    (λ c. search needs)
     returns
     returns-2)

@@ -19,32 +19,11 @@ Inv-loop bytes len held entries₀ k₀ entries k = (k ≤ held) × (entries ≡
 abbrev μ-loop : tie.MeasureT-loop
 μ-loop bytes len held entries₀ k₀ entries k = held - k
 
-lesser-requires : tie.Need-lesser-requires Inv-loop μ-loop
-lesser-requires c κs = search needs
-
-zero-entry-requires : tie.Need-zero-entry-requires Inv-loop μ-loop
-zero-entry-requires c κs = search needs
-
 loop-holds : tie.Need-loop-holds Inv-loop μ-loop
 loop-holds c = (omega arith, ap (replicate 32) (c .zero-entry .ensures), refl)
 
-mul-load-coord-entry : tie.Need-mul-load-coord-entry Inv-loop μ-loop
-mul-load-coord-entry c = search needs
-
 load-coord-entry-requires : tie.Need-load-coord-entry-requires Inv-loop μ-loop
 load-coord-entry-requires c κs = omega (arith, c .before .before .before .lesser .ensures)
-
-mul-entries : tie.Need-mul-entries Inv-loop μ-loop
-mul-entries c = search needs
-
-array-set-from-entries : tie.Need-array-set-from-entries Inv-loop μ-loop
-array-set-from-entries c = search needs
-
-add-k : tie.Need-add-k Inv-loop μ-loop
-add-k c = search needs
-
-loop-less : tie.Need-loop-less Inv-loop μ-loop
-loop-less c = search needs
 
 loop-again : tie.Need-loop-again Inv-loop μ-loop
 loop-again c =
@@ -61,14 +40,14 @@ path-from-spec =
     (tie.spec
     Inv-loop
     μ-loop
-    lesser-requires
-    zero-entry-requires
+    (λ c κs. search needs)
+    (λ c κs. search needs)
     loop-holds
-    mul-load-coord-entry
+    (λ c. search needs)
     load-coord-entry-requires
-    mul-entries
-    array-set-from-entries
-    add-k
-    loop-less
+    (λ c. search needs)
+    (λ c. search needs)
+    (λ c. search needs)
+    (λ c. search needs)
     loop-again
     returns)

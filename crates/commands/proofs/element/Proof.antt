@@ -5,22 +5,10 @@ use borrow.Author.Needs.{needs}
 use Rattle.commands.proofs.element.Statement.{statement}
 use Rattle.commands.proofs.element.Tie as tie
 
-load-coord-entry-requires : tie.Need-load-coord-entry-requires
-load-coord-entry-requires c κs = search needs
-
-append-requires : tie.Need-append-requires
-append-requires c κs = search needs
-
-refused-requires : tie.Need-refused-requires
-refused-requires c κs = search needs
-
 returns : tie.Need-returns
 returns c =
     let a = c .before .before .before .before .before .before .before .before .args in
     element-answers (a .state .now) (a .input .now) (a .pending) (a .at) (a .is-sound) _ _ _ (c .before .before .before .before .before .before .before .before .pre .0) (c .before .before .before .before .before .load-coord-entry .ensures) (c .before .before .before .before .append .ensures) (c .refused .ensures ∙ sym (rw (ne-eqb _ 0 (c .before .if1 .taken)))) refl refl
-
-says-requires : tie.Need-says-requires
-says-requires c κs = search needs
 
 returns-2 : tie.Need-returns-2
 returns-2 c =
@@ -31,9 +19,9 @@ pub element-spec : {M : Type 1} → statement M
 element-spec =
     tie.close
     (tie.spec
-    load-coord-entry-requires
-    append-requires
-    refused-requires
+    (λ c κs. search needs)
+    (λ c κs. search needs)
+    (λ c κs. search needs)
     returns
-    says-requires
+    (λ c κs. search needs)
     returns-2)

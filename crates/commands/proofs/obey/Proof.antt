@@ -16,9 +16,6 @@ fresh-requires : tie.Need-fresh-requires
 unfolding widthOf codeOf codes code
 fresh-requires c κs = (c .before .before .before .before .pre .0, there (c .before .before .before .before .args .code) 10 (c .before .before .before .before .args .at) (c .before .before .before .before .args .input .now) (ap widthOf (c .before .if1 .taken)) (c .before .before .before .before .pre .1) (omega arith))
 
-same-length : tie.Need-same-length
-same-length c = search needs
-
 returns : tie.Need-returns
 returns c =
     let a = c .before .before .before .before .before .before .before .args in
@@ -28,27 +25,15 @@ element-requires : tie.Need-element-requires
 unfolding widthOf codeOf codes code
 element-requires c κs = (c .before .before .before .before .before .pre .0, there (c .before .before .before .before .before .args .code) 32 (c .before .before .before .before .before .args .at) (c .before .before .before .before .before .args .input .now) (ap widthOf (c .before .if2 .taken)) (c .before .before .before .before .before .pre .1) (omega arith))
 
-same-length-2 : tie.Need-same-length-2
-same-length-2 c = search needs
-
 returns-2 : tie.Need-returns-2
 returns-2 c =
     let a = c .before .before .before .before .before .before .args in
     same-code (held (a .state .now) (a .pending)) (a .code) _ (drop (a .at) (a .input .now)) _ _ (c .before .before .if2 .taken) (c .element .ensures)
 
-takes-path-requires : tie.Need-takes-path-requires
-takes-path-requires c κs = search needs
-
 write-requires : tie.Need-write-requires
 write-requires c κs =
     let n = in-range (c .before .before .before .before .before .before .before .args .code) (sym (c .before .before .takes-path .ensures) ∙ c .before .if3 .taken) in
     (c .before .before .before .before .before .before .before .pre .0, c .before .before .before .before .before .before .before .pre .1, n .0, n .1)
-
-empty-requires : tie.Need-empty-requires
-empty-requires c κs = search needs
-
-same-length-3 : tie.Need-same-length-3
-same-length-3 c = search needs
 
 returns-3 : tie.Need-returns-3
 returns-3 c =
@@ -61,9 +46,6 @@ ask-requires c κs =
     let a = c .before .before .before .before .before .before .before .args in
     (c .before .before .before .before .before .before .before .pre .0, c .before .before .before .before .before .before .before .pre .1, from-20 (a .code) (drop (a .at) (a .input .now)) (c .before .before .before .before .before .before .before .pre .1) (c .before .before .before .before .if1 .left) (c .before .before .before .if2 .left) (sym (c .before .before .takes-path .ensures) ∙ c .before .if3 .left))
 
-same-length-4 : tie.Need-same-length-4
-same-length-4 c = search needs
-
 returns-4 : tie.Need-returns-4
 returns-4 c =
     let s = c .before .before .before .before .before .before .before .before .before .before in
@@ -75,16 +57,16 @@ obey-spec =
     tie.close
     (tie.spec
     fresh-requires
-    same-length
+    (λ c. search needs)
     returns
     element-requires
-    same-length-2
+    (λ c. search needs)
     returns-2
-    takes-path-requires
+    (λ c κs. search needs)
     write-requires
-    empty-requires
-    same-length-3
+    (λ c κs. search needs)
+    (λ c. search needs)
     returns-3
     ask-requires
-    same-length-4
+    (λ c. search needs)
     returns-4)

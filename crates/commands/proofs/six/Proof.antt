@@ -4,22 +4,10 @@ use borrow.Author.Needs.{needs}
 use Rattle.commands.proofs.six.Statement.{statement}
 use Rattle.commands.proofs.six.Tie as tie
 
-takes-path-requires : tie.Need-takes-path-requires
-takes-path-requires c κs = search needs
-
-refused-requires : tie.Need-refused-requires
-refused-requires c κs = search needs
-
-empty-requires : tie.Need-empty-requires
-empty-requires c κs = search needs
-
 returns : tie.Need-returns
 returns c =
     let a = c .before .before .before .before .before .args in
     six-answers (a .state .now) (a .pending) (a .code) (a .is-sound) _ (c .before .before .before .before .before .pre) (c .before .refused .ensures) (c .empty .ensures ∙ sym (rw (sym (c .before .before .before .takes-path .ensures) ∙ c .before .before .if1 .taken))) refl
-
-refused-requires-2 : tie.Need-refused-requires-2
-refused-requires-2 c κs = search needs
 
 returns-2 : tie.Need-returns-2
 returns-2 c =
@@ -30,9 +18,9 @@ pub six-spec : {M : Type 1} → statement M
 six-spec =
     tie.close
     (tie.spec
-    takes-path-requires
-    refused-requires
-    empty-requires
+    (λ c κs. search needs)
+    (λ c κs. search needs)
+    (λ c κs. search needs)
     returns
-    refused-requires-2
+    (λ c κs. search needs)
     returns-2)

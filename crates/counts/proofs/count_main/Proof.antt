@@ -21,22 +21,13 @@ loop-holds c =
     let s = c .before .args in
     counted-start inMain (s .n) (viewRows (s .n) (s .state .now) .rows) (omega (arith, view-length (s .n) (s .state .now)))
 
-sub-i : tie.Need-sub-i Inv-loop μ-loop
-sub-i c = search needs
-
 place-requires : tie.Need-place-requires Inv-loop μ-loop
 place-requires c κs =
     let h = c .before .loop .inv .within in
     omega arith
 
-cast-count : tie.Need-cast-count Inv-loop μ-loop
-cast-count c = search needs
-
 add-count : tie.Need-add-count Inv-loop μ-loop
 add-count c = omega (arith, counted-fits inMain (c .before .before .before .before .args .n) (c .before .before .loop .i) (c .before .before .loop .count) (ltb (c .place .result) 2) (viewRows (c .before .before .before .before .args .n) (c .before .before .before .before .args .state .now) .rows) (c .before .loop-test .taken) (c .before .before .loop .inv))
-
-loop-less : tie.Need-loop-less Inv-loop μ-loop
-loop-less c = search needs
 
 loop-again : tie.Need-loop-again Inv-loop μ-loop
 unfolding inMain
@@ -58,10 +49,10 @@ count-main-spec =
     Inv-loop
     μ-loop
     loop-holds
-    sub-i
+    (λ c. search needs)
     place-requires
-    cast-count
+    (λ c. search needs)
     add-count
-    loop-less
+    (λ c. search needs)
     loop-again
     returns)

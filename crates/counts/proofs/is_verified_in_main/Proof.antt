@@ -4,15 +4,9 @@ use borrow.Author.Needs.{needs}
 use Rattle.counts.proofs.is_verified_in_main.Statement.{statement}
 use Rattle.counts.proofs.is_verified_in_main.Tie as tie
 
-place-requires : tie.Need-place-requires
-place-requires c κs = search needs
-
-is-verified-requires : tie.Need-is-verified-requires
-is-verified-requires c κs = search needs
-
 returns : tie.Need-returns
 unfolding verifiedInMain inMain
 returns c = rw (c .before .place .ensures, c .is-verified .ensures)
 
 pub is-verified-in-main-spec : {M : Type 1} → statement M
-is-verified-in-main-spec = tie.close (tie.spec place-requires is-verified-requires returns)
+is-verified-in-main-spec = tie.close (tie.spec (λ c κs. search needs) (λ c κs. search needs) returns)

@@ -15,9 +15,6 @@ Inv-loop state n w time max cut count₀ weight₀ i₀ count weight i = Weighed
 abbrev μ-loop : tie.MeasureT-loop
 μ-loop state n w time max cut count₀ weight₀ i₀ count weight i = i
 
-max-entries-requires : tie.Need-max-entries-requires Inv-loop μ-loop
-max-entries-requires c κs = search needs
-
 cut-to-bound-requires : tie.Need-cut-to-bound-requires Inv-loop μ-loop
 cut-to-bound-requires c κs = omega (arith, c .max-entries .ensures, same-head 0 (c .before .before .args .n) (c .before .before .args .state .now) .maxEntries, sound-small _ _ (c .before .before .pre .1) .max)
 
@@ -25,9 +22,6 @@ loop-holds : tie.Need-loop-holds Inv-loop μ-loop
 loop-holds c =
     let s = c .before .before .before .args in
     weighed-start (s .time) (s .n) (viewRows (s .n) (s .state .now) .rows) (omega (arith, view-length (s .n) (s .state .now)))
-
-sub-i : tie.Need-sub-i Inv-loop μ-loop
-sub-i c = search needs
 
 is-verified-in-main-requires : tie.Need-is-verified-in-main-requires Inv-loop μ-loop
 is-verified-in-main-requires c κs =
@@ -44,16 +38,10 @@ weight-requires c κs =
     let h = c .before .before .before .loop .inv .within in
     omega arith
 
-wide-requires : tie.Need-wide-requires Inv-loop μ-loop
-wide-requires c κs = search needs
-
 add-weight : tie.Need-add-weight Inv-loop μ-loop
 add-weight c =
     let s = c .before .before .before .before .before .before .before .before .before in
     omega (arith, c .before .before .before .before .before .loop .inv .light, view-length (s .args .n) (s .args .state .now), sound-small _ _ (s .pre .1) .rows)
-
-loop-less : tie.Need-loop-less Inv-loop μ-loop
-loop-less c = search needs
 
 loop-again : tie.Need-loop-again Inv-loop μ-loop
 loop-again c =
@@ -61,9 +49,6 @@ loop-again c =
     let l = c .before .before .before .before .before .loop in
     let rs = viewRows (s .n) (s .state .now) .rows in
     weighed-in (s .time) (s .n) (l .i) (l .i - 1) (l .count) (l .weight) (c .wide .result) rs (omega arith) (omega (arith, view-length (s .n) (s .state .now), l .inv .within)) (sym (c .before .before .before .is-verified-in-main .ensures) ∙ c .before .before .if1 .taken) (c .wide .ensures .0 ∙ c .before .weight .ensures) (c .wide .ensures .1) (l .inv)
-
-loop-less-2 : tie.Need-loop-less-2 Inv-loop μ-loop
-loop-less-2 c = search needs
 
 loop-again-2 : tie.Need-loop-again-2 Inv-loop μ-loop
 loop-again-2 c =
@@ -91,18 +76,18 @@ room-can-be-made-spec =
     (tie.spec
     Inv-loop
     μ-loop
-    max-entries-requires
+    (λ c κs. search needs)
     cut-to-bound-requires
     loop-holds
-    sub-i
+    (λ c. search needs)
     is-verified-in-main-requires
     add-count
     weight-requires
-    wide-requires
+    (λ c κs. search needs)
     add-weight
-    loop-less
+    (λ c. search needs)
     loop-again
-    loop-less-2
+    (λ c. search needs)
     loop-again-2
     has-room-requires
     returns)

@@ -3,12 +3,9 @@ use borrow.Author.Needs.{needs}
 use Rattle.entries.proofs.is_expired.Statement.{statement}
 use Rattle.entries.proofs.is_expired.Tie as tie
 
-expires-at-requires : tie.Need-expires-at-requires
-expires-at-requires c κs = search needs
-
 returns : tie.Need-returns
 unfolding expired
 returns c = rw (c .expires-at .ensures)
 
 pub is-expired-spec : {M : Type 1} → statement M
-is-expired-spec = tie.close (tie.spec expires-at-requires returns)
+is-expired-spec = tie.close (tie.spec (λ c κs. search needs) returns)

@@ -10,9 +10,6 @@ returns : tie.Need-returns
 unfolding badPath
 returns c = bad-two (c .before .before .args .path) _ _ refl (c .if1 .taken)
 
-seq-requires : tie.Need-seq-requires
-seq-requires c κs = search needs
-
 returns-2 : tie.Need-returns-2
 unfolding badPath
 returns-2 c =
@@ -26,4 +23,4 @@ returns-3 c =
     none-zero (s .args .path) _ _ (c .before .seq .result) refl (c .before .before .if1 .left) (c .before .seq .ensures ∙ shown-seq (s .args .state .now)) (c .if2 .left)
 
 pub write-refusal-spec : {M : Type 1} → statement M
-write-refusal-spec = tie.close (tie.spec returns seq-requires returns-2 returns-3)
+write-refusal-spec = tie.close (tie.spec returns (λ c κs. search needs) returns-2 returns-3)

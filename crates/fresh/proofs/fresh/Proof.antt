@@ -9,15 +9,6 @@ use Rattle.fresh.proofs.Sizes.{rows-there, size-said}
 use Rattle.fresh.proofs.fresh.Statement.{statement}
 use Rattle.fresh.proofs.fresh.Tie as tie
 
-rows-that-fit-requires : tie.Need-rows-that-fit-requires
-rows-that-fit-requires c κs = search needs
-
-head-is-sound-requires : tie.Need-head-is-sound-requires
-head-is-sound-requires c κs = search needs
-
-same-length : tie.Need-same-length
-same-length c = search needs
-
 returns : tie.Need-returns
 unfolding refusalOf
 returns c =
@@ -32,9 +23,6 @@ make-fresh-requires c κs =
     let h = size-said (s .args .state .now) (s .args .max) (c .before .before .before .rows-that-fit .result) (c .before .before .head-is-sound .result) true (c .before .before .before .rows-that-fit .ensures) (c .before .before .head-is-sound .ensures) (not-false _ (c .before .if1 .left)) in
     rw (c .before .before .before .rows-that-fit .ensures) (rows-there (s .args .state .now) (s .args .max) h)
 
-same-length-2 : tie.Need-same-length-2
-same-length-2 c = search needs
-
 returns-2 : tie.Need-returns-2
 unfolding refusalOf
 returns-2 c =
@@ -48,10 +36,10 @@ pub fresh-spec : {M : Type 1} → statement M
 fresh-spec =
     tie.close
     (tie.spec
-    rows-that-fit-requires
-    head-is-sound-requires
-    same-length
+    (λ c κs. search needs)
+    (λ c κs. search needs)
+    (λ c. search needs)
     returns
     make-fresh-requires
-    same-length-2
+    (λ c. search needs)
     returns-2)

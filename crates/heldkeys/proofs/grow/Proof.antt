@@ -13,12 +13,6 @@ save-row-requires c κs = row-there (c .before .before .before .before .args .ke
 remove-row-requires : tie.Need-remove-row-requires
 remove-row-requires c κs = out-asks (c .before .before .before .before .before .before .args .key) (c .before .before .before .before .before .before .args .n) (c .before .before .before .before .before .before .args .i) (c .before .before .before .before .before .before .args .state .now) (c .before .before .before .before .before .before .pre .0)
 
-wide-requires : tie.Need-wide-requires
-wide-requires c κs = search needs
-
-sub-make-room : tie.Need-sub-make-room
-sub-make-room c = search needs
-
 make-room-requires : tie.Need-make-room-requires
 make-room-requires c κs =
     let a = c .before .before .before .before .before .before .before .before .before .before .before .args in
@@ -32,9 +26,6 @@ file-in-room-requires c κs =
     let x = c .before .before .before .before .before .before .before .before .before .before .remove-row in
     let o = c .before .before .before .before .before .make-room in
     grow-asks (a .key) (a .n) (a .i) (a .state .now) (x .last .0) (c .before .before .before .before .before .before .before .before .before .before .before .before .before .before .before .before .before .pre .0) (x .kept .0) (x .ensures) (o .last .0) (a .time) _ (o .result) (sought (x .last .0) (o .last .0) _ (a .time) _ (o .result) (o .kept .0) (o .ensures)) (c .before .before .before .before .before .before .before .before .before .before .before .before .before .before .updated-entry .result) (a .path) (c .before .before .before .before .before .before .before .before .before .before .before .before .before .before .before .before .before .pre .3) (c .before .before .before .before .before .before .before .before .before .before .before .before .before .before .before .before .before .pre .2) (c .before .before .before .before .before .before .before .before .before .before .before .before .before .before .before .before .before .pre .1) (c .before .before .before .before .before .before .before .before .before .before .before .before .before .before .updated-entry .ensures .1)
-
-same-length : tie.Need-same-length
-same-length c = search needs
 
 returns : tie.Need-returns
 returns c =
@@ -51,12 +42,6 @@ file-again-requires c κs =
     let o = c .before .before .before .before .before .make-room in
     back-asks (a .key) (a .n) (a .i) (a .state .now) (x .last .0) (c .before .before .before .before .before .before .before .before .before .before .before .before .before .before .before .before .before .pre .0) (x .kept .0) (x .ensures) (o .last .0) (a .time) _ (o .result) (sought (x .last .0) (o .last .0) _ (a .time) _ (o .result) (o .kept .0) (o .ensures)) (c .before .before .before .before .before .before .before .before .before .before .before .before .save-row .result) (a .stated) (c .before .before .before .before .before .before .before .before .before .before .before .before .save-row .ensures) (c .before .if1 .left) (c .before .before .before .before .before .before .before .before .before .before .before .before .before .before .before .before .before .pre .3) (c .before .before .before .before .before .before .before .before .before .before .before .before .before .before .before .before .before .pre .2)
 
-reject-requires : tie.Need-reject-requires
-reject-requires c κs = search needs
-
-same-length-2 : tie.Need-same-length-2
-same-length-2 c = search needs
-
 returns-2 : tie.Need-returns-2
 returns-2 c =
     let a = c .before .before .before .before .before .before .before .before .before .before .before .before .before .before .before .before .before .before .before .before .before .args in
@@ -72,13 +57,13 @@ grow-spec =
     updated-entry-requires
     save-row-requires
     remove-row-requires
-    wide-requires
-    sub-make-room
+    (λ c κs. search needs)
+    (λ c. search needs)
     make-room-requires
     file-in-room-requires
-    same-length
+    (λ c. search needs)
     returns
     file-again-requires
-    reject-requires
-    same-length-2
+    (λ c κs. search needs)
+    (λ c. search needs)
     returns-2)

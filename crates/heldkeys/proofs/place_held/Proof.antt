@@ -12,12 +12,6 @@ is-verified-requires c κs =
     let s = c .before .before in
     row-there (s .args .key) (s .args .n) (s .args .i) (s .args .state .now) (s .pre .0)
 
-reject-requires : tie.Need-reject-requires
-reject-requires c κs = search needs
-
-same-length : tie.Need-same-length
-same-length c = search needs
-
 returns : tie.Need-returns
 returns c =
     let s = c .before .before .before .before .before .args in
@@ -28,19 +22,10 @@ path-is-requires c κs =
     let s = c .before .before .before .before .before in
     row-there (s .args .key) (s .args .n) (s .args .i) (s .args .state .now) (s .pre .0)
 
-reject-requires-2 : tie.Need-reject-requires-2
-reject-requires-2 c κs = search needs
-
-same-length-2 : tie.Need-same-length-2
-same-length-2 c = search needs
-
 returns-2 : tie.Need-returns-2
 returns-2 c =
     let s = c .before .before .before .before .before .before .before .before .args in
     held-rejected (s .key) (s .path) (s .time) (s .ttl) (s .funding) (s .i) (viewRows (s .n) (s .state .now)) (s .stated) (s .n) (s .state .now) _ _ refl (stays-same (s .path) (s .time) (s .stated) (rowAt (s .i) (viewRows (s .n) (s .state .now) .rows)) _ _ (c .before .before .before .before .before .is-verified .ensures) (c .before .before .path-is .ensures) (c .before .if2 .taken)) refl (c .reject2 .ensures)
-
-outcome-of-requires : tie.Need-outcome-of-requires
-outcome-of-requires c κs = search needs
 
 place-requires : tie.Need-place-requires
 place-requires c κs =
@@ -52,9 +37,6 @@ place-main-requires c κs =
     let s = c .before .before .before .before .before .before .before .before .before .before .before .before in
     let r = rowAt (s .args .i) (viewRows (s .args .n) (s .args .state .now) .rows) in
     (s .pre .0, s .pre .1, s .pre .2, main-of r (c .before .before .place .result) (c .before .before .place .ensures) (c .before .if3 .taken), outcome-is (s .args .path) r _ (c .before .before .before .before .outcome-of .result) (c .before .before .before .before .before .before .path-is .ensures) (c .before .before .before .before .outcome-of .ensures))
-
-same-length-3 : tie.Need-same-length-3
-same-length-3 c = search needs
 
 returns-3 : tie.Need-returns-3
 returns-3 c =
@@ -68,9 +50,6 @@ place-probation-requires c κs =
     let r = rowAt (s .args .i) (viewRows (s .args .n) (s .args .state .now) .rows) in
     (s .pre .0, s .pre .1, s .pre .2, main-not r (c .before .before .place .result) (c .before .before .place .ensures) (c .before .if3 .left), outcome-is (s .args .path) r _ (c .before .before .before .before .outcome-of .result) (c .before .before .before .before .before .before .path-is .ensures) (c .before .before .before .before .outcome-of .ensures))
 
-same-length-4 : tie.Need-same-length-4
-same-length-4 c = search needs
-
 returns-4 : tie.Need-returns-4
 returns-4 c =
     let s = c .before .before .before .before .before .before .before .before .before .before .before .before .before .before .before .args in
@@ -82,18 +61,18 @@ place-held-spec =
     tie.close
     (tie.spec
     is-verified-requires
-    reject-requires
-    same-length
+    (λ c κs. search needs)
+    (λ c. search needs)
     returns
     path-is-requires
-    reject-requires-2
-    same-length-2
+    (λ c κs. search needs)
+    (λ c. search needs)
     returns-2
-    outcome-of-requires
+    (λ c κs. search needs)
     place-requires
     place-main-requires
-    same-length-3
+    (λ c. search needs)
     returns-3
     place-probation-requires
-    same-length-4
+    (λ c. search needs)
     returns-4)

@@ -7,53 +7,20 @@ use borrow.Author.Needs.{needs}
 use Rattle.heldkeys.proofs.place_main.Statement.{statement}
 use Rattle.heldkeys.proofs.place_main.Tie as tie
 
-row-weight-requires : tie.Need-row-weight-requires
-row-weight-requires c κs = search needs
-
 weight-requires : tie.Need-weight-requires
 weight-requires c κs =
     let s = c .before .before .before in
     row-there (s .args .key) (s .args .n) (s .args .i) (s .args .state .now) (s .pre .0)
-
-refile-held-requires : tie.Need-refile-held-requires
-refile-held-requires c κs = search needs
-
-same-length : tie.Need-same-length
-same-length c = search needs
 
 returns : tie.Need-returns
 returns c =
     let s = c .before .before .before .before .before .before .before .before .before .args in
     main-light (s .key) (s .path) (s .time) (s .ttl) (s .funding) (s .i) (viewRows (s .n) (s .state .now)) (s .stated) (c .before .before .before .before .before .before .before .row-weight .result) (c .before .before .before .before .before .weight .result) _ _ (c .before .before .before .before .before .before .before .row-weight .ensures .0) (c .before .before .before .before .before .weight .ensures) (c .before .before .before .before .if1 .taken) (c .before .before .refile-held .ensures)
 
-wide-requires : tie.Need-wide-requires
-wide-requires c κs = search needs
-
-wide-requires-2 : tie.Need-wide-requires-2
-wide-requires-2 c κs = search needs
-
-sub-added : tie.Need-sub-added
-sub-added c = search needs
-
-covers-requires : tie.Need-covers-requires
-covers-requires c κs = search needs
-
-reject-requires : tie.Need-reject-requires
-reject-requires c κs = search needs
-
-same-length-2 : tie.Need-same-length-2
-same-length-2 c = search needs
-
 returns-2 : tie.Need-returns-2
 returns-2 c =
     let s = c .before .before .before .before .before .before .before .before .before .before .args in
     main-uncovered (s .key) (s .path) (s .time) (s .ttl) (s .funding) (s .i) (viewRows (s .n) (s .state .now)) (s .stated) (c .before .before .before .before .before .before .before .before .row-weight .result) (c .before .before .before .before .before .before .weight .result) (c .before .before .before .before .wide .result - c .before .before .before .wide2 .result) (s .n) (s .state .now) _ refl (c .before .before .before .before .before .before .before .before .row-weight .ensures .0) (c .before .before .before .before .before .before .weight .ensures) (c .before .before .before .before .before .if1 .left) (rw (c .before .before .before .before .wide .ensures .0, c .before .before .before .wide2 .ensures .0)) (sym (c .before .before .covers .ensures) ∙ not-true _ (c .before .if2 .taken)) (c .reject .ensures)
-
-grow-requires : tie.Need-grow-requires
-grow-requires c κs = search needs
-
-same-length-3 : tie.Need-same-length-3
-same-length-3 c = search needs
 
 returns-3 : tie.Need-returns-3
 returns-3 c =
@@ -64,18 +31,18 @@ pub place-main-spec : {M : Type 1} → statement M
 place-main-spec =
     tie.close
     (tie.spec
-    row-weight-requires
+    (λ c κs. search needs)
     weight-requires
-    refile-held-requires
-    same-length
+    (λ c κs. search needs)
+    (λ c. search needs)
     returns
-    wide-requires
-    wide-requires-2
-    sub-added
-    covers-requires
-    reject-requires
-    same-length-2
+    (λ c κs. search needs)
+    (λ c κs. search needs)
+    (λ c. search needs)
+    (λ c κs. search needs)
+    (λ c κs. search needs)
+    (λ c. search needs)
     returns-2
-    grow-requires
-    same-length-3
+    (λ c κs. search needs)
+    (λ c. search needs)
     returns-3)

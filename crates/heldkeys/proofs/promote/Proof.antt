@@ -14,20 +14,11 @@ remove-row-requires c κs =
     let s = c .before .before .before .before in
     out-asks (s .args .key) (s .args .n) (s .args .i) (s .args .state .now) (s .pre .0)
 
-sub-make-room : tie.Need-sub-make-room
-sub-make-room c = search needs
-
-wide-requires : tie.Need-wide-requires
-wide-requires c κs = search needs
-
 make-room-requires : tie.Need-make-room-requires
 make-room-requires c κs =
     let s = c .before .before .before .before .before .before .before .before .before in
     let x = c .before .before .before .before .remove-row in
     room-asks (s .args .time) _ (x .last .0) (out-without (s .args .key) (s .args .n) (s .args .i) (s .args .state .now) (x .last .0) (s .pre .0) (x .kept .0) (x .ensures) .sound) (out-seq (s .args .key) (s .args .n) (s .args .i) (s .args .state .now) (x .last .0) (s .pre .0) (x .kept .0) (x .ensures) (s .pre .2))
-
-place-for-requires : tie.Need-place-for-requires
-place-for-requires c κs = search needs
 
 file-in-room-requires : tie.Need-file-in-room-requires
 file-in-room-requires c κs =
@@ -35,15 +26,6 @@ file-in-room-requires c κs =
     let x = c .before .before .before .before .before .before .before .before .before .remove-row in
     let o = c .before .before .before .before .make-room in
     promote-asks (s .args .key) (s .args .n) (s .args .i) (s .args .state .now) (x .last .0) (s .pre .0) (x .kept .0) (x .ensures) (o .last .0) (s .args .time) (c .before .before .before .before .before .wide .result) (o .result) (sought (x .last .0) (o .last .0) _ (s .args .time) (c .before .before .before .before .before .wide .result) (o .result) (o .kept .0) (o .ensures)) (c .before .before .before .before .before .before .before .before .before .before .before .updated-entry .result) (s .args .path) (s .pre .3) (s .pre .2) (s .pre .1) (c .before .before .before .before .before .before .before .before .before .before .before .updated-entry .ensures .1)
-
-wide-requires-2 : tie.Need-wide-requires-2
-wide-requires-2 c κs = search needs
-
-promoted-requires : tie.Need-promoted-requires
-promoted-requires c κs = search needs
-
-same-length : tie.Need-same-length
-same-length c = search needs
 
 returns : tie.Need-returns
 returns c =
@@ -58,12 +40,12 @@ promote-spec =
     (tie.spec
     updated-entry-requires
     remove-row-requires
-    sub-make-room
-    wide-requires
+    (λ c. search needs)
+    (λ c κs. search needs)
     make-room-requires
-    place-for-requires
+    (λ c κs. search needs)
     file-in-room-requires
-    wide-requires-2
-    promoted-requires
-    same-length
+    (λ c κs. search needs)
+    (λ c κs. search needs)
+    (λ c. search needs)
     returns)

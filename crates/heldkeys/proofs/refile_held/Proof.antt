@@ -8,13 +8,10 @@ update-in-place-requires c κs =
     let s = c .before .before in
     refile-asks (s .args .n) (s .args .i) (s .args .state .now) (s .args .path) (s .pre .0) (s .pre .1) (s .pre .2) (s .pre .3)
 
-same-length : tie.Need-same-length
-same-length c = search needs
-
 returns : tie.Need-returns
 returns c =
     let s = c .before .before .before .before .before .args in
     stays (s .path) (s .time) (s .ttl) (s .n) (s .i) (s .weight) (s .segment) (s .outcome) (s .state .now) _ (c .before .before .before .before .before .pre .4) (c .before .before .update-in-place .ensures)
 
 pub refile-held-spec : {M : Type 1} → statement M
-refile-held-spec = tie.close (tie.spec update-in-place-requires same-length returns)
+refile-held-spec = tie.close (tie.spec update-in-place-requires (λ c. search needs) returns)

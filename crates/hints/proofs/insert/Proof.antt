@@ -7,12 +7,6 @@ use borrow.Author.Needs.{needs}
 use Rattle.hints.proofs.insert.Statement.{statement}
 use Rattle.hints.proofs.insert.Tie as tie
 
-is-sound-requires : tie.Need-is-sound-requires
-is-sound-requires c κs = search needs
-
-same-length : tie.Need-same-length
-same-length c = search needs
-
 returns : tie.Need-returns
 unfolding hintSaid
 returns c =
@@ -22,19 +16,13 @@ returns c =
 insert-unchecked-requires : tie.Need-insert-unchecked-requires
 insert-unchecked-requires c κs = sym (c .before .before .is-sound .ensures) ∙ not-false _ (c .before .if1 .left)
 
-same-length-2 : tie.Need-same-length-2
-same-length-2 c = search needs
-
-returns-2 : tie.Need-returns-2
-returns-2 c = search needs
-
 pub insert-spec : {M : Type 1} → statement M
 insert-spec =
     tie.close
     (tie.spec
-    is-sound-requires
-    same-length
+    (λ c κs. search needs)
+    (λ c. search needs)
     returns
     insert-unchecked-requires
-    same-length-2
-    returns-2)
+    (λ c. search needs)
+    (λ c. search needs))

@@ -10,12 +10,6 @@ use Rattle.hints.proofs.insert_funded_unchecked.Tie as tie
 default-ttl-requires : tie.Need-default-ttl-requires
 default-ttl-requires c κs = head-there (c .before .before .args .state .now) (c .before .before .pre)
 
-place-hint-requires : tie.Need-place-hint-requires
-place-hint-requires c κs = search needs
-
-same-length : tie.Need-same-length
-same-length c = search needs
-
 returns : tie.Need-returns
 returns c =
     let a = c .before .before .before .before .before .before .before .args in
@@ -23,4 +17,4 @@ returns c =
 
 pub insert-funded-unchecked-spec : {M : Type 1} → statement M
 insert-funded-unchecked-spec =
-    tie.close (tie.spec default-ttl-requires place-hint-requires same-length returns)
+    tie.close (tie.spec default-ttl-requires (λ c κs. search needs) (λ c. search needs) returns)

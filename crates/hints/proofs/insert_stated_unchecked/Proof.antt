@@ -10,15 +10,6 @@ use Rattle.hints.proofs.insert_stated_unchecked.Tie as tie
 default-ttl-requires : tie.Need-default-ttl-requires
 default-ttl-requires c κs = head-there (c .before .before .args .state .now) (c .before .before .pre)
 
-starts-at-requires : tie.Need-starts-at-requires
-starts-at-requires c κs = search needs
-
-place-hint-requires : tie.Need-place-hint-requires
-place-hint-requires c κs = search needs
-
-same-length : tie.Need-same-length
-same-length c = search needs
-
 returns : tie.Need-returns
 returns c =
     let a = c .before .before .before .before .before .before .before .before .args in
@@ -26,4 +17,4 @@ returns c =
 
 pub insert-stated-unchecked-spec : {M : Type 1} → statement M
 insert-stated-unchecked-spec =
-    tie.close (tie.spec default-ttl-requires starts-at-requires place-hint-requires same-length returns)
+    tie.close (tie.spec default-ttl-requires (λ c κs. search needs) (λ c κs. search needs) (λ c. search needs) returns)

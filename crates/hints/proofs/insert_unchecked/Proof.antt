@@ -10,16 +10,10 @@ use Rattle.hints.proofs.insert_unchecked.Tie as tie
 default-ttl-requires : tie.Need-default-ttl-requires
 default-ttl-requires c κs = head-there (c .before .before .args .state .now) (c .before .before .pre)
 
-place-hint-requires : tie.Need-place-hint-requires
-place-hint-requires c κs = search needs
-
-same-length : tie.Need-same-length
-same-length c = search needs
-
 returns : tie.Need-returns
 returns c =
     let a = c .before .before .before .before .before .before .before .args in
     c .before .before .place-hint .ensures (Insert (a .key) (a .path) (a .time)) (inserts (a .key) (a .path) (a .time) (c .before .before .before .before .default-ttl .result) (view (a .state .now)) (c .before .before .before .before .default-ttl .ensures ∙ shown-ttl (a .state .now)))
 
 pub insert-unchecked-spec : {M : Type 1} → statement M
-insert-unchecked-spec = tie.close (tie.spec default-ttl-requires place-hint-requires same-length returns)
+insert-unchecked-spec = tie.close (tie.spec default-ttl-requires (λ c κs. search needs) (λ c. search needs) returns)

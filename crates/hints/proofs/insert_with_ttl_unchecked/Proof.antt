@@ -5,16 +5,10 @@ use borrow.Author.Needs.{needs}
 use Rattle.hints.proofs.insert_with_ttl_unchecked.Statement.{statement}
 use Rattle.hints.proofs.insert_with_ttl_unchecked.Tie as tie
 
-place-hint-requires : tie.Need-place-hint-requires
-place-hint-requires c κs = search needs
-
-same-length : tie.Need-same-length
-same-length c = search needs
-
 returns : tie.Need-returns
 returns c =
     let a = c .before .before .before .before .before .args in
     c .before .before .place-hint .ensures (InsertWithTtl (a .key) (a .path) (a .time) (a .ttl)) (inserts-with-ttl (a .key) (a .path) (a .time) (a .ttl) (view (a .state .now)))
 
 pub insert-with-ttl-unchecked-spec : {M : Type 1} → statement M
-insert-with-ttl-unchecked-spec = tie.close (tie.spec place-hint-requires same-length returns)
+insert-with-ttl-unchecked-spec = tie.close (tie.spec (λ c κs. search needs) (λ c. search needs) returns)

@@ -16,15 +16,9 @@ returns c =
     let s = c .before .before in
     few-rows (s .args .n) (s .args .max) (s .args .state .now) (s .pre .1) (c .if1 .taken) .1
 
-count-main-requires : tie.Need-count-main-requires
-count-main-requires c κs = search needs
-
-sub-result-2 : tie.Need-sub-result-2
-sub-result-2 c = search needs
-
 returns-2 : tie.Need-returns-2
 returns-2 c = ap (λ (x : ℕ). ltb (x - 1) (c .before .before .before .args .max)) (c .count-main .ensures)
 
 pub other-main-rows-spec : {M : Type 1} → statement M
 other-main-rows-spec =
-    tie.close (tie.spec sub-result returns count-main-requires sub-result-2 returns-2)
+    tie.close (tie.spec sub-result returns (λ c κs. search needs) (λ c. search needs) returns-2)

@@ -5,22 +5,10 @@ use borrow.Author.Needs.{needs}
 use Rattle.inplace.proofs.set_given_mtu.Statement.{statement}
 use Rattle.inplace.proofs.set_given_mtu.Tie as tie
 
-enum-told : tie.Need-enum-told
-enum-told c = search needs
-
-enum-known-mtu : tie.Need-enum-known-mtu
-enum-known-mtu c = search needs
-
-set-mtu-requires : tie.Need-set-mtu-requires
-set-mtu-requires c κs = search needs
-
 returns : tie.Need-returns
 returns c =
     let s = c .before .before .before .args in
     no-mtu (s .i) (s .mtu) (viewRows (s .n) (s .state .now)) (c .enum-told .given .1)
-
-same-length : tie.Need-same-length
-same-length c = search needs
 
 returns-2 : tie.Need-returns-2
 returns-2 c =
@@ -30,4 +18,4 @@ returns-2 c =
 pub set-given-mtu-spec : {M : Type 1} → statement M
 set-given-mtu-spec =
     tie.close
-    (tie.spec enum-told enum-known-mtu set-mtu-requires returns same-length returns-2)
+    (tie.spec (λ c. search needs) (λ c. search needs) (λ c κs. search needs) returns (λ c. search needs) returns-2)

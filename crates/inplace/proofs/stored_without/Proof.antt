@@ -19,9 +19,6 @@ weight-requires c κs =
     let s = c .before .before in
     (s .pre .1, laid-out (s .args .n) (s .args .state .now) (s .pre .0))
 
-wide-requires : tie.Need-wide-requires
-wide-requires c κs = search needs
-
 sub-result : tie.Need-sub-result
 sub-result c =
     let w = c .before in
@@ -42,4 +39,4 @@ returns c =
 
 pub stored-without-spec : {M : Type 1} → statement M
 stored-without-spec =
-    tie.close (tie.spec stored-weight-requires weight-requires wide-requires sub-result returns)
+    tie.close (tie.spec stored-weight-requires weight-requires (λ c κs. search needs) sub-result returns)

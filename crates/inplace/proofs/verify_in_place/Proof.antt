@@ -14,12 +14,6 @@ default-ttl-requires c κs =
     let s = c .before .before in
     omega (arith, laid-out (s .args .n) (s .args .state .now) (s .pre .0))
 
-stored-without-requires : tie.Need-stored-without-requires
-stored-without-requires c κs = search needs
-
-wide-requires : tie.Need-wide-requires
-wide-requires c κs = search needs
-
 add-stored : tie.Need-add-stored
 add-stored c =
     let t = c .before in
@@ -54,9 +48,6 @@ set-stored-weight-requires c κs =
     let s = u .before .before .before .before .before .before .before .before in
     omega (arith, laid-out (s .args .n) (s .args .state .now) (s .pre .0), u .update-in-place .kept .0, m .mark-verified .kept .0, g .set-given-mtu .kept .0)
 
-same-length : tie.Need-same-length
-same-length c = search needs
-
 returns : tie.Need-returns
 returns c =
     let x = c .before .before in
@@ -77,12 +68,12 @@ verify-in-place-spec =
     tie.close
     (tie.spec
     default-ttl-requires
-    stored-without-requires
-    wide-requires
+    (λ c κs. search needs)
+    (λ c κs. search needs)
     add-stored
     update-in-place-requires
     mark-verified-requires
     set-given-mtu-requires
     set-stored-weight-requires
-    same-length
+    (λ c. search needs)
     returns)

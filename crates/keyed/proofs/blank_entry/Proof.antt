@@ -3,11 +3,8 @@ use Rattle.keyed.proofs.Removing.{blank-made}
 use Rattle.keyed.proofs.blank_entry.Statement.{statement}
 use Rattle.keyed.proofs.blank_entry.Tie as tie
 
-empty-requires : tie.Need-empty-requires
-empty-requires c κs = search needs
-
 returns : tie.Need-returns
 returns c = blank-made _ (c .empty .ensures)
 
 pub blank-entry-spec : {M : Type 1} → statement M
-blank-entry-spec = tie.close (tie.spec empty-requires returns)
+blank-entry-spec = tie.close (tie.spec (λ c κs. search needs) returns)

@@ -6,12 +6,6 @@ use Rattle.frame.proofs.Refusing.{one-numbered}
 use Rattle.keyed.proofs.clear_path_mtu.Statement.{statement}
 use Rattle.keyed.proofs.clear_path_mtu.Tie as tie
 
-is-sound-requires : tie.Need-is-sound-requires
-is-sound-requires c κs = search needs
-
-same-length : tie.Need-same-length
-same-length c = search needs
-
 returns : tie.Need-returns
 returns c =
     let s = c .before .before .before .before in
@@ -20,19 +14,13 @@ returns c =
 clear-path-mtu-unchecked-requires : tie.Need-clear-path-mtu-unchecked-requires
 clear-path-mtu-unchecked-requires c κs = sym (c .before .before .is-sound .ensures) ∙ not-false _ (c .before .if1 .left)
 
-same-length-2 : tie.Need-same-length-2
-same-length-2 c = search needs
-
-returns-2 : tie.Need-returns-2
-returns-2 c = search needs
-
 pub clear-path-mtu-spec : {M : Type 1} → statement M
 clear-path-mtu-spec =
     tie.close
     (tie.spec
-    is-sound-requires
-    same-length
+    (λ c κs. search needs)
+    (λ c. search needs)
     returns
     clear-path-mtu-unchecked-requires
-    same-length-2
-    returns-2)
+    (λ c. search needs)
+    (λ c. search needs))

@@ -13,17 +13,8 @@ row-count-requires c κs = head-there (c .before .before .args .state .now) (c .
 search-requires : tie.Need-search-requires
 search-requires c κs = searchable (c .before .before .before .before .args .state .now) (c .before .row-count .result) (c .before .before .before .before .pre) (c .before .row-count .ensures)
 
-enum-known-at : tie.Need-enum-known-at
-enum-known-at c = search needs
-
 drop-mtu-requires : tie.Need-drop-mtu-requires
 drop-mtu-requires c κs = found-inside (c .before .before .before .before .before .before .before .before .before .args .state .now) (c .before .before .before .before .before .before .row-count .result) (c .before .before .before .before .before .before .before .before .before .args .key) _ (c .before .before .before .before .search .result) (c .before .before .before .before .before .before .before .before .before .pre) (c .before .before .before .before .before .before .row-count .ensures) (c .before .before .before .before .search .ensures) (c .before .before .at .given .1)
-
-enum-told : tie.Need-enum-told
-enum-told c = search needs
-
-same-length : tie.Need-same-length
-same-length c = search needs
 
 returns : tie.Need-returns
 returns c =
@@ -32,9 +23,6 @@ returns c =
     let n = c .before .before .before .before .before .before .before .before .before .row-count .result in
     let m = c .before .before .drop-mtu .last .0 in
     clear-says l (s .args .key) m (clear-done-at l n (s .args .key) _ m (s .pre) (sound-memory l n (s .pre) (c .before .before .before .before .before .before .before .before .before .row-count .ensures)) (found (s .args .key) (viewRows n l .rows) _ (c .before .before .before .before .before .before .before .search .result) (c .before .before .before .before .before .before .before .search .ensures) (c .before .before .before .before .before .at .given .1)) (all-bytes m (λ i. c .slice-known2 .given i .fits)) (c .before .before .drop-mtu .kept .0) (c .before .before .drop-mtu .ensures))
-
-same-length-2 : tie.Need-same-length-2
-same-length-2 c = search needs
 
 returns-2 : tie.Need-returns-2
 returns-2 c =
@@ -49,10 +37,10 @@ clear-path-mtu-unchecked-spec =
     (tie.spec
     row-count-requires
     search-requires
-    enum-known-at
+    (λ c. search needs)
     drop-mtu-requires
-    enum-told
-    same-length
+    (λ c. search needs)
+    (λ c. search needs)
     returns
-    same-length-2
+    (λ c. search needs)
     returns-2)

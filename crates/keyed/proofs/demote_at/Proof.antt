@@ -7,28 +7,16 @@ use Rattle.keyed.proofs.Demoting.{demoted-parked, demoted-in-place, hin
 use Rattle.keyed.proofs.demote_at.Statement.{statement}
 use Rattle.keyed.proofs.demote_at.Tie as tie
 
-place-requires : tie.Need-place-requires
-place-requires c κs = search needs
-
-mark-hint-requires : tie.Need-mark-hint-requires
-mark-hint-requires c κs = search needs
-
 restamp-requires : tie.Need-restamp-requires
 restamp-requires c κs =
     let s = c .before .before .before .before .before .before .before .before .before .args in
     let m = c .before .before .before .before .mark-hint in
     (c .before .before .before .before .before .before .before .before .before .pre .0, omega (arith, m .kept .0, c .before .before .before .before .before .before .before .before .before .pre .1), omega (arith, ap (λ (x : State). x .seq) (m .ensures), hinted-seq (s .i) (viewRows (s .n) (s .state .now)), c .before .before .before .before .before .before .before .before .before .pre .2))
 
-same-length : tie.Need-same-length
-same-length c = search needs
-
 returns : tie.Need-returns
 returns c =
     let s = c .before .before .before .before .before .before .before .before .before .before .before .before .args in
     demoted-parked (s .i) (viewRows (s .n) (s .state .now)) (viewRows (s .n) (c .before .before .before .before .before .before .before .mark-hint .last .0)) _ (sym (c .before .before .before .before .before .before .before .before .before .place .ensures) ∙ c .before .before .before .before .if1 .taken) (c .before .before .before .before .before .before .before .mark-hint .ensures) (c .before .before .restamp .ensures)
-
-same-length-2 : tie.Need-same-length-2
-same-length-2 c = search needs
 
 returns-2 : tie.Need-returns-2
 returns-2 c =
@@ -39,10 +27,10 @@ pub demote-at-spec : {M : Type 1} → statement M
 demote-at-spec =
     tie.close
     (tie.spec
-    place-requires
-    mark-hint-requires
+    (λ c κs. search needs)
+    (λ c κs. search needs)
     restamp-requires
-    same-length
+    (λ c. search needs)
     returns
-    same-length-2
+    (λ c. search needs)
     returns-2)

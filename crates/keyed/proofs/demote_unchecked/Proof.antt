@@ -14,9 +14,6 @@ use Rattle.keyed.proofs.demote_unchecked.Tie as tie
 seq-requires : tie.Need-seq-requires
 seq-requires c κs = head-there (c .before .before .args .state .now) (c .before .before .pre)
 
-same-length : tie.Need-same-length
-same-length c = search needs
-
 returns : tie.Need-returns
 unfolding demoteSaid
 returns c =
@@ -30,20 +27,11 @@ row-count-requires c κs = head-there (c .before .before .before .before .before
 search-requires : tie.Need-search-requires
 search-requires c κs = searchable (c .before .before .before .before .before .before .before .args .state .now) (c .before .row-count .result) (c .before .before .before .before .before .before .before .pre) (c .before .row-count .ensures)
 
-enum-known-at : tie.Need-enum-known-at
-enum-known-at c = search needs
-
 demote-at-requires : tie.Need-demote-at-requires
 demote-at-requires c κs =
     let s = c .before .before .before .before .before .before .before .before .before .before .before .before in
     let f = found-inside (s .args .state .now) (c .before .before .before .before .before .before .row-count .result) (s .args .key) _ (c .before .before .before .before .search .result) (s .pre) (c .before .before .before .before .before .before .row-count .ensures) (c .before .before .before .before .search .ensures) (c .before .before .at .given .1) in
     (f .0, f .1, omega (arith, c .before .before .before .before .before .before .before .before .before .seq .ensures, same-head 0 (c .before .before .before .before .before .before .row-count .result) (s .args .state .now) .seq, c .before .before .before .before .before .before .before .before .if1 .left))
-
-enum-told : tie.Need-enum-told
-enum-told c = search needs
-
-same-length-2 : tie.Need-same-length-2
-same-length-2 c = search needs
 
 returns-2 : tie.Need-returns-2
 unfolding demoteSaid
@@ -53,9 +41,6 @@ returns-2 c =
     let n = c .before .before .before .before .before .before .before .before .before .row-count .result in
     let m = c .before .before .demote-at .last .0 in
     demote-done-at l n (s .args .key) _ (c .before .before .before .before .before .before .before .before .before .before .before .before .seq .result) m (s .pre) (sound-memory l n (s .pre) (c .before .before .before .before .before .before .before .before .before .row-count .ensures)) (c .before .before .before .before .before .before .before .before .before .before .before .before .seq .ensures ∙ shown-seq l) (c .before .before .before .before .before .before .before .before .before .before .before .if1 .left) (found (s .args .key) (viewRows n l .rows) _ (c .before .before .before .before .before .before .before .search .result) (c .before .before .before .before .before .before .before .search .ensures) (c .before .before .before .before .before .at .given .1)) (all-bytes m (λ i. c .slice-known2 .given i .fits)) (c .before .before .demote-at .kept .0) (c .before .before .demote-at .ensures)
-
-same-length-3 : tie.Need-same-length-3
-same-length-3 c = search needs
 
 returns-3 : tie.Need-returns-3
 unfolding demoteSaid
@@ -70,14 +55,14 @@ demote-unchecked-spec =
     tie.close
     (tie.spec
     seq-requires
-    same-length
+    (λ c. search needs)
     returns
     row-count-requires
     search-requires
-    enum-known-at
+    (λ c. search needs)
     demote-at-requires
-    enum-told
-    same-length-2
+    (λ c. search needs)
+    (λ c. search needs)
     returns-2
-    same-length-3
+    (λ c. search needs)
     returns-3)

@@ -13,9 +13,6 @@ row-count-requires c κs = head-there (c .before .before .args .state .now) (c .
 search-requires : tie.Need-search-requires
 search-requires c κs = searchable (c .before .before .before .before .args .state .now) (c .before .row-count .result) (c .before .before .before .before .pre) (c .before .row-count .ensures)
 
-enum-known-at : tie.Need-enum-known-at
-enum-known-at c = search needs
-
 load-entry-requires : tie.Need-load-entry-requires
 load-entry-requires c κs = found-inside (c .before .before .before .before .before .before .before .before .before .args .state .now) (c .before .before .before .before .before .before .row-count .result) (c .before .before .before .before .before .before .before .before .before .args .key) _ (c .before .before .before .before .search .result) (c .before .before .before .before .before .before .before .before .before .pre) (c .before .before .before .before .before .before .row-count .ensures) (c .before .before .before .before .search .ensures) (c .before .before .at .given .1)
 
@@ -23,15 +20,6 @@ remove-row-requires : tie.Need-remove-row-requires
 remove-row-requires c κs =
     let p = found-inside (c .before .before .before .before .before .before .before .before .before .before .before .args .state .now) (c .before .before .before .before .before .before .before .before .row-count .result) (c .before .before .before .before .before .before .before .before .before .before .before .args .key) _ (c .before .before .before .before .before .before .search .result) (c .before .before .before .before .before .before .before .before .before .before .before .pre) (c .before .before .before .before .before .before .before .before .row-count .ensures) (c .before .before .before .before .before .before .search .ensures) (c .before .before .before .before .at .given .1) in
     (p .0, p .1, sound-memory (c .before .before .before .before .before .before .before .before .before .before .before .args .state .now) (c .before .before .before .before .before .before .before .before .row-count .result) (c .before .before .before .before .before .before .before .before .before .before .before .pre) (c .before .before .before .before .before .before .before .before .row-count .ensures) .sound .storedWeight)
-
-enum-told : tie.Need-enum-told
-enum-told c = search needs
-
-blank-entry-requires : tie.Need-blank-entry-requires
-blank-entry-requires c κs = search needs
-
-same-length : tie.Need-same-length
-same-length c = search needs
 
 returns : tie.Need-returns
 returns c =
@@ -42,9 +30,6 @@ returns c =
     let p = found-inside l n (s .args .key) _ (c .before .before .before .before .before .before .before .before .before .search .result) (s .pre) (c .before .before .before .before .before .before .before .before .before .before .before .row-count .ensures) (c .before .before .before .before .before .before .before .before .before .search .ensures) (c .before .before .before .before .before .before .before .at .given .1) in
     let d = removed-at l n (s .args .key) _ (c .before .before .before .before .load-entry .result) m (s .pre) (sound-memory l n (s .pre) (c .before .before .before .before .before .before .before .before .before .before .before .row-count .ensures)) (p .0) (found (s .args .key) (viewRows n l .rows) _ (c .before .before .before .before .before .before .before .before .before .search .result) (c .before .before .before .before .before .before .before .before .before .search .ensures) (c .before .before .before .before .before .before .before .at .given .1)) (all-bytes m (λ i. c .slice-known2 .given i .fits)) (c .before .before .remove-row .kept .0) (c .before .before .before .before .load-entry .ensures) (c .before .before .remove-row .ensures) in
     (d .says, d .entry, d .memory)
-
-same-length-2 : tie.Need-same-length-2
-same-length-2 c = search needs
 
 returns-2 : tie.Need-returns-2
 returns-2 c =
@@ -60,12 +45,12 @@ remove-unchecked-spec =
     (tie.spec
     row-count-requires
     search-requires
-    enum-known-at
+    (λ c. search needs)
     load-entry-requires
     remove-row-requires
-    enum-told
-    blank-entry-requires
-    same-length
+    (λ c. search needs)
+    (λ c κs. search needs)
+    (λ c. search needs)
     returns
-    same-length-2
+    (λ c. search needs)
     returns-2)

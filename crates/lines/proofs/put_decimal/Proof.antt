@@ -17,32 +17,11 @@ Inv-loop out₀ at v n i₀ rest₀ out i rest = (i ≤ 20) × ((length out ≡ 
 abbrev μ-loop : tie.MeasureT-loop
 μ-loop out₀ at v n i₀ rest₀ out i rest = i
 
-count-digits-requires : tie.Need-count-digits-requires Inv-loop μ-loop
-count-digits-requires c κs = search needs
-
 loop-holds : tie.Need-loop-holds Inv-loop μ-loop
 loop-holds c =
     let v = c .before .before .args .v in
     let n = c .count-digits .ensures in
     (omega (arith, n, at-most v), (refl, rw (n, all-digits)))
-
-sub-i : tie.Need-sub-i Inv-loop μ-loop
-sub-i c = search needs
-
-cast-out : tie.Need-cast-out Inv-loop μ-loop
-cast-out c = search needs
-
-add-out : tie.Need-add-out Inv-loop μ-loop
-add-out c = search needs
-
-add-out-2 : tie.Need-add-out-2 Inv-loop μ-loop
-add-out-2 c = search needs
-
-slice-write-out : tie.Need-slice-write-out Inv-loop μ-loop
-slice-write-out c = search needs
-
-loop-less : tie.Need-loop-less Inv-loop μ-loop
-loop-less c = search needs
 
 loop-again : tie.Need-loop-again Inv-loop μ-loop
 loop-again c =
@@ -68,14 +47,14 @@ put-decimal-spec =
     (tie.spec
     Inv-loop
     μ-loop
-    count-digits-requires
+    (λ c κs. search needs)
     loop-holds
-    sub-i
-    cast-out
-    add-out
-    add-out-2
-    slice-write-out
-    loop-less
+    (λ c. search needs)
+    (λ c. search needs)
+    (λ c. search needs)
+    (λ c. search needs)
+    (λ c. search needs)
+    (λ c. search needs)
     loop-again
     add-result
     same-length

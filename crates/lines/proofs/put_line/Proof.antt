@@ -7,26 +7,8 @@ use Rattle.lines.proofs.Texts.{line-most, line-fits, line-written}
 use Rattle.lines.proofs.put_line.Statement.{statement}
 use Rattle.lines.proofs.put_line.Tie as tie
 
-hex-digit-requires : tie.Need-hex-digit-requires
-hex-digit-requires c κs = search needs
-
-slice-write-out : tie.Need-slice-write-out
-slice-write-out c = search needs
-
-hex-digit-requires-2 : tie.Need-hex-digit-requires-2
-hex-digit-requires-2 c κs = search needs
-
-add-out : tie.Need-add-out
-add-out c = search needs
-
 slice-write-out-2 : tie.Need-slice-write-out-2
 slice-write-out-2 c = simp length-set (search needs)
-
-cast-refusal : tie.Need-cast-refusal
-cast-refusal c = search needs
-
-add-put-number : tie.Need-add-put-number
-add-put-number c = search needs
 
 put-number-requires : tie.Need-put-number-requires
 put-number-requires c κs = simp length-set (search needs)
@@ -75,13 +57,13 @@ pub put-line-spec : {M : Type 1} → statement M
 put-line-spec =
     tie.close
     (tie.spec
-    hex-digit-requires
-    slice-write-out
-    hex-digit-requires-2
-    add-out
+    (λ c κs. search needs)
+    (λ c. search needs)
+    (λ c κs. search needs)
+    (λ c. search needs)
     slice-write-out-2
-    cast-refusal
-    add-put-number
+    (λ c. search needs)
+    (λ c. search needs)
     put-number-requires
     put-values-requires
     slice-write-out-3

@@ -5,12 +5,6 @@ use borrow.Author.Needs.{needs}
 use Rattle.lines.proofs.put_number.Statement.{statement}
 use Rattle.lines.proofs.put_number.Tie as tie
 
-slice-write-out : tie.Need-slice-write-out
-slice-write-out c = search needs
-
-add-put-decimal : tie.Need-add-put-decimal
-add-put-decimal c = search needs
-
 put-decimal-requires : tie.Need-put-decimal-requires
 put-decimal-requires c κs = simp length-set (search needs)
 
@@ -24,4 +18,4 @@ returns c =
 
 pub put-number-spec : {M : Type 1} → statement M
 put-number-spec =
-    tie.close (tie.spec slice-write-out add-put-decimal put-decimal-requires same-length returns)
+    tie.close (tie.spec (λ c. search needs) (λ c. search needs) put-decimal-requires same-length returns)

@@ -16,20 +16,8 @@ abbrev μ-loop : tie.MeasureT-loop
 loop-holds : tie.Need-loop-holds Inv-loop μ-loop
 loop-holds c = (refl, record { within = omega arith; room = omega arith; size = refl; text = refl })
 
-mul-put-number : tie.Need-mul-put-number Inv-loop μ-loop
-mul-put-number c = search needs
-
-array-read-put-number : tie.Need-array-read-put-number Inv-loop μ-loop
-array-read-put-number c = search needs
-
 put-number-requires : tie.Need-put-number-requires Inv-loop μ-loop
 put-number-requires c κs = let p = c .before .before in omega (arith, p .loop .inv .0, p .loop .inv .1 .room)
-
-add-k : tie.Need-add-k Inv-loop μ-loop
-add-k c = search needs
-
-loop-less : tie.Need-loop-less Inv-loop μ-loop
-loop-less c = search needs
 
 loop-again : tie.Need-loop-again Inv-loop μ-loop
 loop-again c =
@@ -55,11 +43,11 @@ put-values-spec =
     Inv-loop
     μ-loop
     loop-holds
-    mul-put-number
-    array-read-put-number
+    (λ c. search needs)
+    (λ c. search needs)
     put-number-requires
-    add-k
-    loop-less
+    (λ c. search needs)
+    (λ c. search needs)
     loop-again
     same-length
     returns)

@@ -8,18 +8,6 @@ use Rattle.lookups.proofs.Touching.{touch-zero}
 use Rattle.lookups.proofs.get_and_touch.Statement.{statement}
 use Rattle.lookups.proofs.get_and_touch.Tie as tie
 
-is-sound-requires : tie.Need-is-sound-requires
-is-sound-requires c κs = search needs
-
-sub-result : tie.Need-sub-result
-sub-result c = search needs
-
-part-result-start : tie.Need-part-result-start
-part-result-start c = search needs
-
-part-result-end : tie.Need-part-result-end
-part-result-end c = search needs
-
 returns : tie.Need-returns
 returns c =
     let s = c .before .before .before .before .before .before .args in
@@ -37,4 +25,4 @@ returns-2 c =
 
 pub get-and-touch-spec : {M : Type 1} → statement M
 get-and-touch-spec =
-    tie.close (tie.spec is-sound-requires sub-result part-result-start part-result-end returns get-and-touch-unchecked-requires returns-2)
+    tie.close (tie.spec (λ c κs. search needs) (λ c. search needs) (λ c. search needs) (λ c. search needs) returns get-and-touch-unchecked-requires returns-2)

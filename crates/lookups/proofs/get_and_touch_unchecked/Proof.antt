@@ -5,21 +5,6 @@ use borrow.Author.Needs.{needs}
 use Rattle.lookups.proofs.get_and_touch_unchecked.Statement.{statement}
 use Rattle.lookups.proofs.get_and_touch_unchecked.Tie as tie
 
-touch-place-requires : tie.Need-touch-place-requires
-touch-place-requires c κs = search needs
-
-add-end : tie.Need-add-end
-add-end c = search needs
-
-sub-result : tie.Need-sub-result
-sub-result c = search needs
-
-part-result-start : tie.Need-part-result-start
-part-result-start c = search needs
-
-part-result-end : tie.Need-part-result-end
-part-result-end c = search needs
-
 returns : tie.Need-returns
 returns c =
     let s = c .before .before .before .before .before .before .before .before .args in
@@ -29,4 +14,4 @@ returns c =
 pub get-and-touch-unchecked-spec : {M : Type 1} → statement M
 get-and-touch-unchecked-spec =
     tie.close
-    (tie.spec touch-place-requires add-end sub-result part-result-start part-result-end returns)
+    (tie.spec (λ c κs. search needs) (λ c. search needs) (λ c. search needs) (λ c. search needs) (λ c. search needs) returns)

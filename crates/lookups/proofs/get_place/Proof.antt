@@ -14,14 +14,8 @@ row-count-requires c κs = head-there (c .before .args .state .now) (c .before .
 search-requires : tie.Need-search-requires
 search-requires c κs = searchable (c .before .before .args .state .now) (c .row-count .result) (c .before .before .pre) (c .row-count .ensures)
 
-enum-known-at : tie.Need-enum-known-at
-enum-known-at c = search needs
-
 is-expired-requires : tie.Need-is-expired-requires
 is-expired-requires c κs = found-inside (c .before .before .before .before .before .before .args .state .now) (c .before .before .before .before .row-count .result) (c .before .before .before .before .before .before .args .key) _ (c .before .before .before .search .result) (c .before .before .before .before .before .before .pre) (c .before .before .before .before .row-count .ensures) (c .before .before .before .search .ensures) (c .before .at .given .1)
-
-nowhere-requires : tie.Need-nowhere-requires
-nowhere-requires c κs = search needs
 
 returns : tie.Need-returns
 returns c =
@@ -33,12 +27,6 @@ returns c =
 
 path-place-requires : tie.Need-path-place-requires
 path-place-requires c κs = found-inside (c .before .before .before .before .before .before .before .before .args .state .now) (c .before .before .before .before .before .before .row-count .result) (c .before .before .before .before .before .before .before .before .args .key) _ (c .before .before .before .before .before .search .result) (c .before .before .before .before .before .before .before .before .pre) (c .before .before .before .before .before .before .row-count .ensures) (c .before .before .before .before .before .search .ensures) (c .before .before .before .at .given .1)
-
-enum-told : tie.Need-enum-told
-enum-told c = search needs
-
-nowhere-requires-2 : tie.Need-nowhere-requires-2
-nowhere-requires-2 c κs = search needs
 
 returns-2 : tie.Need-returns-2
 returns-2 c =
@@ -63,12 +51,12 @@ get-place-spec =
     (tie.spec
     row-count-requires
     search-requires
-    enum-known-at
+    (λ c. search needs)
     is-expired-requires
-    nowhere-requires
+    (λ c κs. search needs)
     returns
     path-place-requires
-    enum-told
-    nowhere-requires-2
+    (λ c. search needs)
+    (λ c κs. search needs)
     returns-2
     returns-3)

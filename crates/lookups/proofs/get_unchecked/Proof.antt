@@ -3,21 +3,6 @@ use borrow.Author.Needs.{needs}
 use Rattle.lookups.proofs.get_unchecked.Statement.{statement}
 use Rattle.lookups.proofs.get_unchecked.Tie as tie
 
-get-place-requires : tie.Need-get-place-requires
-get-place-requires c κs = search needs
-
-add-end : tie.Need-add-end
-add-end c = search needs
-
-sub-result : tie.Need-sub-result
-sub-result c = search needs
-
-part-result-start : tie.Need-part-result-start
-part-result-start c = search needs
-
-part-result-end : tie.Need-part-result-end
-part-result-end c = search needs
-
 returns : tie.Need-returns
 returns c =
     let s = c .before .before .before .before .args in
@@ -27,4 +12,4 @@ returns c =
 pub get-unchecked-spec : {M : Type 1} → statement M
 get-unchecked-spec =
     tie.close
-    (tie.spec get-place-requires add-end sub-result part-result-start part-result-end returns)
+    (tie.spec (λ c κs. search needs) (λ c. search needs) (λ c. search needs) (λ c. search needs) (λ c. search needs) returns)

@@ -10,18 +10,6 @@ use Rattle.lookups.proofs.Touching.{refreshed}
 use Rattle.lookups.proofs.refresh_at.Statement.{statement}
 use Rattle.lookups.proofs.refresh_at.Tie as tie
 
-default-ttl-requires : tie.Need-default-ttl-requires
-default-ttl-requires c κs = search needs
-
-add-times-requires : tie.Need-add-times-requires
-add-times-requires c κs = search needs
-
-set-times-requires : tie.Need-set-times-requires
-set-times-requires c κs = search needs
-
-same-length : tie.Need-same-length
-same-length c = search needs
-
 returns : tie.Need-returns
 returns c =
     let s = c .before .before .before .before .before .before .before .before .args in
@@ -33,4 +21,4 @@ returns c =
 pub refresh-at-spec : {M : Type 1} → statement M
 refresh-at-spec =
     tie.close
-    (tie.spec default-ttl-requires add-times-requires set-times-requires same-length returns)
+    (tie.spec (λ c κs. search needs) (λ c κs. search needs) (λ c κs. search needs) (λ c. search needs) returns)

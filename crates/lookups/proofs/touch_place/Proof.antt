@@ -15,9 +15,6 @@ row-count-requires c κs = head-there (c .before .before .args .state .now) (c .
 search-requires : tie.Need-search-requires
 search-requires c κs = searchable (c .before .before .before .before .args .state .now) (c .before .row-count .result) (c .before .before .before .before .pre) (c .before .row-count .ensures)
 
-enum-known-at : tie.Need-enum-known-at
-enum-known-at c = search needs
-
 touch-row-requires : tie.Need-touch-row-requires
 touch-row-requires c κs =
     let s = c .before .before .before .before .before .before .before .before .before in
@@ -25,15 +22,6 @@ touch-row-requires c κs =
     let n = c .before .before .before .before .before .before .row-count .result in
     let p = found-inside l n (s .args .key) _ (c .before .before .before .before .search .result) (s .pre) (c .before .before .before .before .before .before .row-count .ensures) (c .before .before .before .before .search .ensures) (c .before .before .at .given .1) in
     (p .0, p .1, sound-memory l n (s .pre) (c .before .before .before .before .before .before .row-count .ensures) .sound .storedWeight)
-
-enum-told : tie.Need-enum-told
-enum-told c = search needs
-
-nowhere-requires : tie.Need-nowhere-requires
-nowhere-requires c κs = search needs
-
-same-length : tie.Need-same-length
-same-length c = search needs
 
 returns : tie.Need-returns
 returns c =
@@ -43,9 +31,6 @@ returns c =
     let m = c .before .before .touch-row .last .0 in
     let p = found-inside l n (s .args .key) _ (c .before .before .before .before .before .before .before .search .result) (s .pre) (c .before .before .before .before .before .before .before .before .before .row-count .ensures) (c .before .before .before .before .before .before .before .search .ensures) (c .before .before .before .before .before .at .given .1) in
     touch-placed-at l n (s .args .key) (s .args .time) _ (c .before .before .touch-row .result) m (s .pre) (sound-memory l n (s .pre) (c .before .before .before .before .before .before .before .before .before .row-count .ensures)) (p .0) (found (s .args .key) (viewRows n l .rows) _ (c .before .before .before .before .before .before .before .search .result) (c .before .before .before .before .before .before .before .search .ensures) (c .before .before .before .before .before .at .given .1)) (all-bytes l (λ i. c .before .before .before .before .before .before .before .before .before .before .before .slice-known .given i .fits)) (owned-addr (s .args .key) _ (s .good .1 .0), small8 (s .args .time) (s .fits .time .fits)) (all-bytes m (λ i. c .slice-known2 .given i .fits)) (c .before .before .touch-row .kept .0) (c .before .before .touch-row .ensures .0) (c .before .before .touch-row .ensures .1)
-
-same-length-2 : tie.Need-same-length-2
-same-length-2 c = search needs
 
 returns-2 : tie.Need-returns-2
 returns-2 c =
@@ -60,11 +45,11 @@ touch-place-spec =
     (tie.spec
     row-count-requires
     search-requires
-    enum-known-at
+    (λ c. search needs)
     touch-row-requires
-    enum-told
-    nowhere-requires
-    same-length
+    (λ c. search needs)
+    (λ c κs. search needs)
+    (λ c. search needs)
     returns
-    same-length-2
+    (λ c. search needs)
     returns-2)

@@ -13,19 +13,10 @@ row-count-requires c κs = head-there (c .before .before .args .state .now) (c .
 search-requires : tie.Need-search-requires
 search-requires c κs = searchable (c .before .before .before .before .args .state .now) (c .before .row-count .result) (c .before .before .before .before .pre) (c .before .row-count .ensures)
 
-enum-known-at : tie.Need-enum-known-at
-enum-known-at c = search needs
-
 touch-at-requires : tie.Need-touch-at-requires
 touch-at-requires c κs =
     let p = found-inside (c .before .before .before .before .before .before .before .before .before .args .state .now) (c .before .before .before .before .before .before .row-count .result) (c .before .before .before .before .before .before .before .before .before .args .key) _ (c .before .before .before .before .search .result) (c .before .before .before .before .before .before .before .before .before .pre) (c .before .before .before .before .before .before .row-count .ensures) (c .before .before .before .before .search .ensures) (c .before .before .at .given .1) in
     (p .0, p .1, sound-memory (c .before .before .before .before .before .before .before .before .before .args .state .now) (c .before .before .before .before .before .before .row-count .result) (c .before .before .before .before .before .before .before .before .before .pre) (c .before .before .before .before .before .before .row-count .ensures) .sound .storedWeight)
-
-enum-told : tie.Need-enum-told
-enum-told c = search needs
-
-same-length : tie.Need-same-length
-same-length c = search needs
 
 returns : tie.Need-returns
 returns c =
@@ -35,9 +26,6 @@ returns c =
     let m = c .before .before .touch-at .last .0 in
     let p = found-inside l n (s .args .key) _ (c .before .before .before .before .before .before .before .search .result) (s .pre) (c .before .before .before .before .before .before .before .before .before .row-count .ensures) (c .before .before .before .before .before .before .before .search .ensures) (c .before .before .before .before .before .at .given .1) in
     touch-done-at l n (s .args .key) (s .args .time) _ (c .before .before .touch-at .result) m (s .pre) (sound-memory l n (s .pre) (c .before .before .before .before .before .before .before .before .before .row-count .ensures)) (p .0) (found (s .args .key) (viewRows n l .rows) _ (c .before .before .before .before .before .before .before .search .result) (c .before .before .before .before .before .before .before .search .ensures) (c .before .before .before .before .before .at .given .1)) (all-bytes m (λ i. c .slice-known2 .given i .fits)) (c .before .before .touch-at .kept .0) (c .before .before .touch-at .ensures .0) (c .before .before .touch-at .ensures .1)
-
-same-length-2 : tie.Need-same-length-2
-same-length-2 c = search needs
 
 returns-2 : tie.Need-returns-2
 returns-2 c =
@@ -52,10 +40,10 @@ touch-unchecked-spec =
     (tie.spec
     row-count-requires
     search-requires
-    enum-known-at
+    (λ c. search needs)
     touch-at-requires
-    enum-told
-    same-length
+    (λ c. search needs)
+    (λ c. search needs)
     returns
-    same-length-2
+    (λ c. search needs)
     returns-2)

@@ -5,25 +5,10 @@ use borrow.Author.Needs.{needs}
 use Rattle.newkeys.proofs.new_in_main.Statement.{statement}
 use Rattle.newkeys.proofs.new_in_main.Tie as tie
 
-row-weight-requires : tie.Need-row-weight-requires
-row-weight-requires c κs = search needs
-
-new-entry-requires : tie.Need-new-entry-requires
-new-entry-requires c κs = search needs
-
 file-in-room-requires : tie.Need-file-in-room-requires
 file-in-room-requires c κs =
     let s = c .before .before .before .before in
     main-asks (s .args .key) (s .args .victim) (s .args .path) (s .args .stored) (s .args .n) (s .args .state .now) (c .before .new-entry .result) (s .pre .0) (s .pre .1) (c .before .new-entry .ensures .1)
-
-wide-requires : tie.Need-wide-requires
-wide-requires c κs = search needs
-
-inserted-requires : tie.Need-inserted-requires
-inserted-requires c κs = search needs
-
-same-length : tie.Need-same-length
-same-length c = search needs
 
 returns : tie.Need-returns
 returns c =
@@ -34,10 +19,10 @@ pub new-in-main-spec : {M : Type 1} → statement M
 new-in-main-spec =
     tie.close
     (tie.spec
-    row-weight-requires
-    new-entry-requires
+    (λ c κs. search needs)
+    (λ c κs. search needs)
     file-in-room-requires
-    wide-requires
-    inserted-requires
-    same-length
+    (λ c κs. search needs)
+    (λ c κs. search needs)
+    (λ c. search needs)
     returns)

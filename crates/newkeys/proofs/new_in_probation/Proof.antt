@@ -4,16 +4,10 @@ use borrow.Author.Needs.{needs}
 use Rattle.newkeys.proofs.new_in_probation.Statement.{statement}
 use Rattle.newkeys.proofs.new_in_probation.Tie as tie
 
-row-weight-requires : tie.Need-row-weight-requires
-row-weight-requires c κs = search needs
-
 make-probation-room-requires : tie.Need-make-probation-room-requires
 make-probation-room-requires c κs =
     let s = c .before .before .before in
     probation-asks (s .args .key) (s .args .n) (s .args .state .now) (s .pre .0) (s .pre .2)
-
-new-entry-requires : tie.Need-new-entry-requires
-new-entry-requires c κs = search needs
 
 file-in-room-requires : tie.Need-file-in-room-requires
 file-in-room-requires c κs =
@@ -27,12 +21,6 @@ add-inserted c =
     let r = c .before .before .before .before .before .before .before .before .make-probation-room in
     omega (arith, s .pre .3, probation-few (s .args .key) (s .args .path) (s .args .n) (r .result) (s .args .state .now) (r .last .0) (s .pre .0) (s .pre .2) (r .kept .0) (r .ensures))
 
-inserted-requires : tie.Need-inserted-requires
-inserted-requires c κs = search needs
-
-same-length : tie.Need-same-length
-same-length c = search needs
-
 returns : tie.Need-returns
 returns c =
     let s = c .before .before .before .before .before .before .before .before .before .before .before .before .before in
@@ -43,11 +31,11 @@ pub new-in-probation-spec : {M : Type 1} → statement M
 new-in-probation-spec =
     tie.close
     (tie.spec
-    row-weight-requires
+    (λ c κs. search needs)
     make-probation-room-requires
-    new-entry-requires
+    (λ c κs. search needs)
     file-in-room-requires
     add-inserted
-    inserted-requires
-    same-length
+    (λ c κs. search needs)
+    (λ c. search needs)
     returns)

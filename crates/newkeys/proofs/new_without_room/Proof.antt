@@ -5,25 +5,10 @@ use borrow.Author.Needs.{needs}
 use Rattle.newkeys.proofs.new_without_room.Statement.{statement}
 use Rattle.newkeys.proofs.new_without_room.Tie as tie
 
-enum-told : tie.Need-enum-told
-enum-told c = search needs
-
-reject-requires : tie.Need-reject-requires
-reject-requires c κs = search needs
-
-enum-told-2 : tie.Need-enum-told-2
-enum-told-2 c = search needs
-
-new-in-probation-requires : tie.Need-new-in-probation-requires
-new-in-probation-requires c κs = search needs
-
 returns : tie.Need-returns
 returns c =
     let s = c .before .before .before .before .args in
     uncharged-rejected (s .funding) (s .key) (newEntry (s .path) (s .time) (s .ttl)) (pathWeight (s .path)) (s .examined) (s .n) (s .state .now) _ (c .before .enum-told .given .1) (c .reject .ensures)
-
-same-length : tie.Need-same-length
-same-length c = search needs
 
 returns-2 : tie.Need-returns-2
 returns-2 c =
@@ -34,10 +19,10 @@ pub new-without-room-spec : {M : Type 1} → statement M
 new-without-room-spec =
     tie.close
     (tie.spec
-    enum-told
-    reject-requires
-    enum-told-2
-    new-in-probation-requires
+    (λ c. search needs)
+    (λ c κs. search needs)
+    (λ c. search needs)
+    (λ c κs. search needs)
     returns
-    same-length
+    (λ c. search needs)
     returns-2)

@@ -8,19 +8,10 @@ use borrow.Author.Needs.{needs}
 use Rattle.newkeys.proofs.place_new.Statement.{statement}
 use Rattle.newkeys.proofs.place_new.Tie as tie
 
-weight-requires : tie.Need-weight-requires
-weight-requires c κs = search needs
-
-covers-requires : tie.Need-covers-requires
-covers-requires c κs = search needs
-
 new-in-probation-requires : tie.Need-new-in-probation-requires
 new-in-probation-requires c κs =
     let s = c .before .before .before .before .before in
     (s .pre .0, s .pre .1, stamps-left (s .args .n) (s .args .state .now) (s .pre .0 .sound) (s .pre .2), omega arith)
-
-same-length : tie.Need-same-length
-same-length c = search needs
 
 returns : tie.Need-returns
 returns c =
@@ -41,9 +32,6 @@ new-in-main-requires c κs =
     let g = sought (a .state .now) (o .last .0) (a .n) (a .time) w (o .result) (o .kept .0) (o .ensures) in
     (takes (a .key) (a .n) (a .state .now) (o .last .0) (a .time) w (o .result) (s .pre .0) g (made-in-main (a .key) (a .n) (a .state .now) (o .last .0) (a .time) w (o .result) (s .pre .0) g (c .before .if2 .taken)) (s .pre .2), s .pre .1)
 
-same-length-2 : tie.Need-same-length-2
-same-length-2 c = search needs
-
 returns-2 : tie.Need-returns-2
 returns-2 c =
     let s = c .before .before .before .before .before .before .before .before .before .before .before .before .before in
@@ -62,9 +50,6 @@ new-without-room-requires c κs =
     let e = examined-few (a .key) (a .n) (a .state .now) (o .last .0) (a .time) w (o .result) (s .pre .0) g in
     (still-without (a .key) (a .n) (a .state .now) (o .last .0) (a .time) w (o .result) (s .pre .0) g v, s .pre .1, stamps-after (a .key) (a .n) (a .state .now) (o .last .0) (a .time) w (o .result) (s .pre .0) g v (s .pre .2), omega (arith, e))
 
-same-length-3 : tie.Need-same-length-3
-same-length-3 c = search needs
-
 returns-3 : tie.Need-returns-3
 returns-3 c =
     let s = c .before .before .before .before .before .before .before .before .before .before .before .before .before in
@@ -76,15 +61,15 @@ pub place-new-spec : {M : Type 1} → statement M
 place-new-spec =
     tie.close
     (tie.spec
-    weight-requires
-    covers-requires
+    (λ c κs. search needs)
+    (λ c κs. search needs)
     new-in-probation-requires
-    same-length
+    (λ c. search needs)
     returns
     make-room-requires
     new-in-main-requires
-    same-length-2
+    (λ c. search needs)
     returns-2
     new-without-room-requires
-    same-length-3
+    (λ c. search needs)
     returns-3)

@@ -4,9 +4,6 @@ use borrow.Author.Needs.{needs}
 use Rattle.newkeys.proofs.row_weight.Statement.{statement}
 use Rattle.newkeys.proofs.row_weight.Tie as tie
 
-weight-requires : tie.Need-weight-requires
-weight-requires c κs = search needs
-
 cast-result : tie.Need-cast-result
 cast-result c =
     omega (arith, c .weight .ensures, light (c .before .args .path) (c .before .pre))
@@ -16,4 +13,4 @@ returns c =
     (c .weight .ensures, omega (arith, c .weight .ensures, light (c .before .args .path) (c .before .pre)))
 
 pub row-weight-spec : {M : Type 1} → statement M
-row-weight-spec = tie.close (tie.spec weight-requires cast-result returns)
+row-weight-spec = tie.close (tie.spec (λ c κs. search needs) cast-result returns)

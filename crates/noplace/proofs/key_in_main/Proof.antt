@@ -7,18 +7,12 @@ use Rattle.noplace.proofs.key_in_main.Tie as tie
 search-requires : tie.Need-search-requires
 search-requires c κs = rows-searchable (c .before .args .n) (c .before .args .state .now) (c .before .pre)
 
-enum-known-at : tie.Need-enum-known-at
-enum-known-at c = search needs
-
 place-requires : tie.Need-place-requires
 place-requires c κs =
     let q = c .before .before .before in
     let s = q .before .before in
     let l = s .args .state .now in
     (row-inside (s .args .n) l (s .args .key) _ (q .search .result) (q .search .ensures) (c .before .at .given .1), rows-searchable (s .args .n) l (s .pre) .1)
-
-enum-told : tie.Need-enum-told
-enum-told c = search needs
 
 returns : tie.Need-returns
 returns c =
@@ -34,4 +28,4 @@ returns-2 c =
 
 pub key-in-main-spec : {M : Type 1} → statement M
 key-in-main-spec =
-    tie.close (tie.spec search-requires enum-known-at place-requires enum-told returns returns-2)
+    tie.close (tie.spec search-requires (λ c. search needs) place-requires (λ c. search needs) returns returns-2)

@@ -4,16 +4,10 @@ use borrow.Author.Needs.{needs}
 use Rattle.noplace.proofs.main_bound.Statement.{statement}
 use Rattle.noplace.proofs.main_bound.Tie as tie
 
-rows-that-fit-requires : tie.Need-rows-that-fit-requires
-rows-that-fit-requires c κs = search needs
-
 max-entries-requires : tie.Need-max-entries-requires
 max-entries-requires c κs =
     let s = c .before .before in
     omega (arith, rows-searchable (s .args .n) (s .args .state .now) (s .pre) .1)
-
-probation-bound-requires : tie.Need-probation-bound-requires
-probation-bound-requires c κs = search needs
 
 sub-result : tie.Need-sub-result
 sub-result c =
@@ -33,8 +27,8 @@ pub main-bound-spec : {M : Type 1} → statement M
 main-bound-spec =
     tie.close
     (tie.spec
-    rows-that-fit-requires
+    (λ c κs. search needs)
     max-entries-requires
-    probation-bound-requires
+    (λ c κs. search needs)
     sub-result
     returns)

@@ -9,14 +9,8 @@ use borrow.Author.Needs.{needs}
 use Rattle.noplace.proofs.no_place_for.Statement.{statement}
 use Rattle.noplace.proofs.no_place_for.Tie as tie
 
-key-in-main-requires : tie.Need-key-in-main-requires
-key-in-main-requires c κs = search needs
-
 returns : tie.Need-returns
 returns c = held-place _ _ _ (c .before .key-in-main .result) (c .before .key-in-main .ensures) (c .if1 .taken)
-
-main-bound-requires : tie.Need-main-bound-requires
-main-bound-requires c κs = search needs
 
 returns-2 : tie.Need-returns-2
 returns-2 c =
@@ -29,9 +23,6 @@ count-main-requires c κs = rows-searchable (c .before .before .before .before .
 returns-3 : tie.Need-returns-3
 returns-3 c = free-place _ _ _ (c .before .before .before .before .before .key-in-main .result) (c .before .count-main .result) (c .before .before .before .main-bound .result) (c .before .before .before .before .before .key-in-main .ensures) (c .before .before .before .before .if1 .left) (c .before .count-main .ensures) (c .before .before .before .main-bound .ensures) (c .if3 .taken)
 
-weight-requires : tie.Need-weight-requires
-weight-requires c κs = search needs
-
 room-can-be-made-requires : tie.Need-room-can-be-made-requires
 room-can-be-made-requires c κs = (rows-searchable (c .before .before .before .before .before .before .before .before .args .n) (c .before .before .before .before .before .before .before .before .args .state .now) (c .before .before .before .before .before .before .before .before .pre) .1, c .before .before .before .before .before .before .before .before .pre)
 
@@ -42,12 +33,12 @@ pub no-place-for-spec : {M : Type 1} → statement M
 no-place-for-spec =
     tie.close
     (tie.spec
-    key-in-main-requires
+    (λ c κs. search needs)
     returns
-    main-bound-requires
+    (λ c κs. search needs)
     returns-2
     count-main-requires
     returns-3
-    weight-requires
+    (λ c κs. search needs)
     room-can-be-made-requires
     returns-4)

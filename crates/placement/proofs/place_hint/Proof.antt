@@ -10,9 +10,6 @@ use Rattle.placement.proofs.place_hint.Tie as tie
 write-refusal-requires : tie.Need-write-refusal-requires
 write-refusal-requires c κs = head-there (c .before .before .args .state .now) (c .before .before .pre)
 
-same-length : tie.Need-same-length
-same-length c = search needs
-
 returns : tie.Need-returns
 unfolding hintSaid
 returns c =
@@ -29,9 +26,6 @@ remove-expired-requires c κs =
     let a = s .args in
     hint-asks (a .key) (a .path) (a .time) (a .ttl) (a .funding) (a .stated) (a .state .now) (s .pre) (c .before .row-count .result) (c .before .before .before .before .write-refusal .result) (c .before .before .before .before .write-refusal .ensures) (c .before .before .before .if1 .left) (c .before .row-count .ensures) .0
 
-enum-known-at : tie.Need-enum-known-at
-enum-known-at c = search needs
-
 place-held-requires : tie.Need-place-held-requires
 place-held-requires c κs =
     let s = c .before .before .before .before .before .before .before .before .before .before .before .before .before .before in
@@ -39,18 +33,12 @@ place-held-requires c κs =
     let q = hint-asks (a .key) (a .path) (a .time) (a .ttl) (a .funding) (a .stated) (a .state .now) (s .pre) (c .before .before .before .before .before .before .before .before .row-count .result) (c .before .before .before .before .before .before .before .before .before .before .before .write-refusal .result) (c .before .before .before .before .before .before .before .before .before .before .before .write-refusal .ensures) (c .before .before .before .before .before .before .before .before .before .before .if1 .left) (c .before .before .before .before .before .before .before .before .row-count .ensures) in
     held-asks (a .key) (a .path) (a .time) (c .before .before .before .before .before .before .before .before .row-count .result) _ (a .state .now) (c .before .before .before .before .before .before .remove-expired .last .0) (q .1) (q .2) (stood-held (a .key) (a .time) (c .before .before .before .before .before .before .before .before .row-count .result) _ (a .state .now) (c .before .before .before .before .before .before .remove-expired .last .0) (c .before .before .before .before .before .before .remove-expired .result) (c .before .before .before .before .before .before .remove-expired .ensures) (c .before .before .at .given .1))
 
-enum-known-at-2 : tie.Need-enum-known-at-2
-enum-known-at-2 c = search needs
-
 place-new-requires : tie.Need-place-new-requires
 place-new-requires c κs =
     let s = c .before .before .before .before .before .before .before .before .before .before .before .before .before .before in
     let a = s .args in
     let q = hint-asks (a .key) (a .path) (a .time) (a .ttl) (a .funding) (a .stated) (a .state .now) (s .pre) (c .before .before .before .before .before .before .before .before .row-count .result) (c .before .before .before .before .before .before .before .before .before .before .before .write-refusal .result) (c .before .before .before .before .before .before .before .before .before .before .before .write-refusal .ensures) (c .before .before .before .before .before .before .before .before .before .before .if1 .left) (c .before .before .before .before .before .before .before .before .row-count .ensures) in
     new-asks (a .key) (a .path) (a .time) (c .before .before .before .before .before .before .before .before .row-count .result) _ (a .state .now) (c .before .before .before .before .before .before .remove-expired .last .0) (q .1) (q .2) (stood-new (a .key) (a .time) (c .before .before .before .before .before .before .before .before .row-count .result) _ (a .state .now) (c .before .before .before .before .before .before .remove-expired .last .0) (c .before .before .before .before .before .before .remove-expired .result) (c .before .before .before .before .before .before .remove-expired .ensures) (c .before .before .at2 .given .1))
-
-same-length-2 : tie.Need-same-length-2
-same-length-2 c = search needs
 
 returns-2 : tie.Need-returns-2
 unfolding hintSaid
@@ -60,9 +48,6 @@ returns-2 c =
     let m = c .before .before .place-held .last .0 in
     let h = stood-held (a .key) (a .time) (c .before .before .before .before .before .before .before .before .before .before .before .row-count .result) _ (a .state .now) (c .before .before .before .before .before .before .before .before .before .remove-expired .last .0) (c .before .before .before .before .before .before .before .before .before .remove-expired .result) (c .before .before .before .before .before .before .before .before .before .remove-expired .ensures) (c .before .before .before .before .before .at .given .1) in
     hint-placed (a .key) (a .path) (a .time) (a .ttl) (a .funding) (a .stated) (a .state .now) (s .pre) (c .before .before .before .before .before .before .before .before .before .before .before .row-count .result) (c .before .before .before .before .before .before .before .before .before .before .before .before .before .before .write-refusal .result) (c .before .before .before .before .before .before .before .before .before .before .before .before .before .before .write-refusal .ensures) (c .before .before .before .before .before .before .before .before .before .before .before .before .before .if1 .left) (c .before .before .before .before .before .before .before .before .before .before .before .row-count .ensures) m (c .before .before .place-held .result) (all-bytes m (λ i. c .slice-known3 .given i .fits)) (c .before .before .place-held .kept .0 ∙ c .before .before .before .before .before .before .before .before .before .remove-expired .kept .0) (held-placed (a .key) (a .path) (a .time) (a .ttl) (c .before .before .before .before .before .before .before .before .before .before .before .row-count .result) (a .funding) (a .stated) (a .state .now) (c .before .before .before .before .before .before .before .before .before .remove-expired .last .0) _ (c .before .before .place-held .result) m h (c .before .before .place-held .ensures))
-
-same-length-3 : tie.Need-same-length-3
-same-length-3 c = search needs
 
 returns-3 : tie.Need-returns-3
 unfolding hintSaid
@@ -78,15 +63,15 @@ place-hint-spec =
     tie.close
     (tie.spec
     write-refusal-requires
-    same-length
+    (λ c. search needs)
     returns
     row-count-requires
     remove-expired-requires
-    enum-known-at
+    (λ c. search needs)
     place-held-requires
-    enum-known-at-2
+    (λ c. search needs)
     place-new-requires
-    same-length-2
+    (λ c. search needs)
     returns-2
-    same-length-3
+    (λ c. search needs)
     returns-3)

@@ -8,9 +8,6 @@ use Rattle.placement.proofs.remove_expired.Tie as tie
 search-requires : tie.Need-search-requires
 search-requires c κs = search-asks (c .before .before .args .n) (c .before .before .args .state .now) (c .before .before .pre)
 
-enum-known-at : tie.Need-enum-known-at
-enum-known-at c = search needs
-
 is-expired-requires : tie.Need-is-expired-requires
 is-expired-requires c κs =
     let s = c .before .before .before .before .before .before .before in
@@ -27,27 +24,15 @@ sub-t16 c =
     let h = holds-found (s .args .key) (s .args .n) _ (s .args .state .now) (c .before .before .before .before .before .before .before .before .before .before .search .result) (s .pre) (c .before .before .before .before .before .before .before .before .before .before .search .ensures) (c .before .before .before .before .before .before .before .before .at .given .1) in
     omega (arith, h .inside)
 
-same-length : tie.Need-same-length
-same-length c = search needs
-
 returns : tie.Need-returns
 returns c =
     let s = c .before .before .before .before .before .before .before .before .before .before .before .before .before in
     new-expired (s .args .key) (s .args .n) _ (s .args .state .now) (c .before .before .before .before .before .before .before .before .before .before .search .result) (s .pre) (c .before .before .before .before .before .before .before .before .before .before .search .ensures) (s .args .time) _ (c .before .before .remove-row .last .0) (c .before .before .before .before .before .before .before .before .at .given .1) (c .before .before .before .before .before .is-expired .ensures) (c .before .before .before .before .if1 .taken) (c .before .before .remove-row .kept .0) (c .before .before .remove-row .ensures)
 
-enum-told : tie.Need-enum-told
-enum-told c = search needs
-
-same-length-2 : tie.Need-same-length-2
-same-length-2 c = search needs
-
 returns-2 : tie.Need-returns-2
 returns-2 c =
     let s = c .before .before .before .before .before .before .before .before .before in
     held-here (s .args .key) (s .args .n) _ (s .args .state .now) (c .before .before .before .before .before .before .search .result) (s .pre) (c .before .before .before .before .before .before .search .ensures) (s .args .time) _ (c .before .before .before .before .at .given .1) (c .before .is-expired .ensures) (c .if1 .left)
-
-same-length-3 : tie.Need-same-length-3
-same-length-3 c = search needs
 
 returns-3 : tie.Need-returns-3
 returns-3 c =
@@ -59,14 +44,14 @@ remove-expired-spec =
     tie.close
     (tie.spec
     search-requires
-    enum-known-at
+    (λ c. search needs)
     is-expired-requires
     remove-row-requires
     sub-t16
-    same-length
+    (λ c. search needs)
     returns
-    enum-told
-    same-length-2
+    (λ c. search needs)
+    (λ c. search needs)
     returns-2
-    same-length-3
+    (λ c. search needs)
     returns-3)

@@ -9,21 +9,6 @@ use borrow.Author.Needs.{needs}
 use Rattle.replies.proofs.demote_reply.Statement.{statement}
 use Rattle.replies.proofs.demote_reply.Tie as tie
 
-enum-known-answer : tie.Need-enum-known-answer
-enum-known-answer c = search needs
-
-refused-requires : tie.Need-refused-requires
-refused-requires c κs = search needs
-
-enum-known-answer-2 : tie.Need-enum-known-answer-2
-enum-known-answer-2 c = search needs
-
-cast-says : tie.Need-cast-says
-cast-says c = search needs
-
-says-requires : tie.Need-says-requires
-says-requires c κs = search needs
-
 returns : tie.Need-returns
 unfolding reply demoteSaid
 returns c =
@@ -38,10 +23,10 @@ pub demote-reply-spec : {M : Type 1} → statement M
 demote-reply-spec =
     tie.close
     (tie.spec
-    enum-known-answer
-    refused-requires
-    enum-known-answer-2
-    cast-says
-    says-requires
+    (λ c. search needs)
+    (λ c κs. search needs)
+    (λ c. search needs)
+    (λ c. search needs)
+    (λ c κs. search needs)
     returns
     returns-2)

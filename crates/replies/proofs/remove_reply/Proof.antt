@@ -6,24 +6,6 @@ use borrow.Author.Needs.{needs}
 use Rattle.replies.proofs.remove_reply.Statement.{statement}
 use Rattle.replies.proofs.remove_reply.Tie as tie
 
-enum-known-removal : tie.Need-enum-known-removal
-enum-known-removal c = search needs
-
-refused-requires : tie.Need-refused-requires
-refused-requires c κs = search needs
-
-enum-told : tie.Need-enum-told
-enum-told c = search needs
-
-says-requires : tie.Need-says-requires
-says-requires c κs = search needs
-
-enum-told-2 : tie.Need-enum-told-2
-enum-told-2 c = search needs
-
-says-requires-2 : tie.Need-says-requires-2
-says-requires-2 c κs = search needs
-
 returns : tie.Need-returns
 unfolding removalSaid reply
 returns c = λ e. c .refused .ensures ∙ sym (ap (λ (x : Removal). reply (removalSaid x e)) (c .before .before .removal .given .1))
@@ -40,12 +22,12 @@ pub remove-reply-spec : {M : Type 1} → statement M
 remove-reply-spec =
     tie.close
     (tie.spec
-    enum-known-removal
-    refused-requires
-    enum-told
-    says-requires
-    enum-told-2
-    says-requires-2
+    (λ c. search needs)
+    (λ c κs. search needs)
+    (λ c. search needs)
+    (λ c κs. search needs)
+    (λ c. search needs)
+    (λ c κs. search needs)
     returns
     returns-2
     returns-3)

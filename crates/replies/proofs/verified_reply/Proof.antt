@@ -6,18 +6,6 @@ use borrow.Author.Needs.{needs}
 use Rattle.replies.proofs.verified_reply.Statement.{statement}
 use Rattle.replies.proofs.verified_reply.Tie as tie
 
-enum-known-answer : tie.Need-enum-known-answer
-enum-known-answer c = search needs
-
-refused-requires : tie.Need-refused-requires
-refused-requires c κs = search needs
-
-enum-known-answer-2 : tie.Need-enum-known-answer-2
-enum-known-answer-2 c = search needs
-
-reply-requires : tie.Need-reply-requires
-reply-requires c κs = search needs
-
 returns : tie.Need-returns
 unfolding reply verifiedSaid
 returns c =
@@ -32,9 +20,9 @@ pub verified-reply-spec : {M : Type 1} → statement M
 verified-reply-spec =
     tie.close
     (tie.spec
-    enum-known-answer
-    refused-requires
-    enum-known-answer-2
-    reply-requires
+    (λ c. search needs)
+    (λ c κs. search needs)
+    (λ c. search needs)
+    (λ c κs. search needs)
     returns
     returns-2)

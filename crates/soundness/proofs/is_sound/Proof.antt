@@ -8,9 +8,6 @@ use Rattle.soundness.proofs.PassLaws.{head-facts, none-sound, head-stop
 use Rattle.soundness.proofs.is_sound.Statement.{statement}
 use Rattle.soundness.proofs.is_sound.Tie as tie
 
-rows-that-fit-requires : tie.Need-rows-that-fit-requires
-rows-that-fit-requires c κs = search needs
-
 returns : tie.Need-returns
 returns c = sym (rw (sym (c .before .rows-that-fit .ensures) ∙ c .if1 .taken) (none-sound _))
 
@@ -22,18 +19,12 @@ row-count-requires : tie.Need-row-count-requires
 unfolding capacity
 row-count-requires c κs = omega arith
 
-head-is-sound-requires : tie.Need-head-is-sound-requires
-head-is-sound-requires c κs = search needs
-
 returns-2 : tie.Need-returns-2
 returns-2 c =
     let n = c .before .before in
     let m = n .before in
     let r = m .before .before in
     head-stops (r .before .before .args .state .now) (r .rows-that-fit .ensures) (m .max-entries .ensures) (n .row-count .ensures) (c .before .head-is-sound .ensures) (c .if2 .taken)
-
-probation-bound-requires : tie.Need-probation-bound-requires
-probation-bound-requires c κs = search needs
 
 seq-requires : tie.Need-seq-requires
 unfolding capacity
@@ -71,13 +62,13 @@ pub is-sound-spec : {M : Type 1} → statement M
 is-sound-spec =
     tie.close
     (tie.spec
-    rows-that-fit-requires
+    (λ c κs. search needs)
     returns
     max-entries-requires
     row-count-requires
-    head-is-sound-requires
+    (λ c κs. search needs)
     returns-2
-    probation-bound-requires
+    (λ c κs. search needs)
     seq-requires
     stored-weight-requires
     sub-rows-are-sound

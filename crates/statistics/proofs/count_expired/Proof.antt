@@ -18,25 +18,10 @@ Inv-loop state n time count₀ i₀ count i = (i ≤ n) × (count ≤ i) × (cou
 abbrev μ-loop : tie.MeasureT-loop
 μ-loop state n time count₀ i₀ count i = n - i
 
-loop-holds : tie.Need-loop-holds Inv-loop μ-loop
-loop-holds c = search needs
-
-is-expired-requires : tie.Need-is-expired-requires Inv-loop μ-loop
-is-expired-requires c κs = search needs
-
-cast-count : tie.Need-cast-count Inv-loop μ-loop
-cast-count c = search needs
-
 add-count : tie.Need-add-count Inv-loop μ-loop
 add-count c =
     let h = c .before .before .loop .inv .1 in
     omega (arith, one-at-most (c .is-expired .result), c .before .before .before .before .pre .0)
-
-add-i : tie.Need-add-i Inv-loop μ-loop
-add-i c = search needs
-
-loop-less : tie.Need-loop-less Inv-loop μ-loop
-loop-less c = search needs
 
 loop-again : tie.Need-loop-again Inv-loop μ-loop
 loop-again c =
@@ -56,11 +41,11 @@ count-expired-spec =
     (tie.spec
     Inv-loop
     μ-loop
-    loop-holds
-    is-expired-requires
-    cast-count
+    (λ c. search needs)
+    (λ c κs. search needs)
+    (λ c. search needs)
     add-count
-    add-i
-    loop-less
+    (λ c. search needs)
+    (λ c. search needs)
     loop-again
     returns)

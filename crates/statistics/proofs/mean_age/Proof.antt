@@ -29,9 +29,6 @@ loop-holds c =
     let s = c .before .before .args in
     (search needs, mean-start (s .n) _ (omega arith))
 
-age-requires : tie.Need-age-requires Inv-loop μ-loop
-age-requires c κs = search needs
-
 add-high : tie.Need-add-high Inv-loop μ-loop
 add-high c = record { fits = sum-fits (c .before .before .before .before .before .args .n) (c .before .before .loop .i) (c .before .before .loop .high) (c .before .before .loop .low) _ _ (c .age .result) (c .before .before .before .before .before .pre .0) (omega (arith, c .age .ensures, c .before .before .before .before .before .fits .time .fits)) (c .before .before .loop .inv .1) }
 
@@ -41,16 +38,10 @@ add-low c = omega (arith, c .before .before .loop .inv .1 .low, c .before .befor
 add-i : tie.Need-add-i Inv-loop μ-loop
 add-i c = omega (arith, c .before .before .loop .inv .1 .within)
 
-loop-less : tie.Need-loop-less Inv-loop μ-loop
-loop-less c = search needs
-
 loop-again : tie.Need-loop-again Inv-loop μ-loop
 loop-again c =
     let s = c .before .before .before .before .before .args in
     (c .before .before .loop .inv .0, age-turn (s .state .now) (s .n) (c .before .before .loop .i) (c .before .before .loop .high) (c .before .before .loop .low) (c .age .result) (s .time) (c .before .before .before .before .before .pre .0) (omega arith) (c .before .before .before .before .before .fits .time .fits) (c .age .ensures) (c .before .before .loop .inv .1))
-
-rem-rest : tie.Need-rem-rest Inv-loop μ-loop
-rem-rest c = search needs
 
 mul-rest : tie.Need-mul-rest Inv-loop μ-loop
 mul-rest c =
@@ -62,16 +53,10 @@ add-rest c =
     let v = c .before .loop .inv .1 in
     rw (c .before .loop .inv .0) (omega (arith, mod-lt (c .before .loop .high) (v .some-rows), v .low, v .within, c .before .before .before .before .pre .0))
 
-div-result : tie.Need-div-result Inv-loop μ-loop
-div-result c = search needs
-
 mul-result : tie.Need-mul-result Inv-loop μ-loop
 mul-result c =
     let v = c .before .loop .inv .1 in
     rw (c .before .loop .inv .0) (omega (arith, high-fits (c .before .before .before .before .args .n) (c .before .loop .i) (c .before .loop .high) (c .before .loop .low) _ _ (omega (arith, v .within)) v))
-
-div-result-2 : tie.Need-div-result-2 Inv-loop μ-loop
-div-result-2 c = search needs
 
 add-result : tie.Need-add-result Inv-loop μ-loop
 add-result c =
@@ -94,17 +79,17 @@ mean-age-spec =
     μ-loop
     returns
     loop-holds
-    age-requires
+    (λ c κs. search needs)
     add-high
     add-low
     add-i
-    loop-less
+    (λ c. search needs)
     loop-again
-    rem-rest
+    (λ c. search needs)
     mul-rest
     add-rest
-    div-result
+    (λ c. search needs)
     mul-result
-    div-result-2
+    (λ c. search needs)
     add-result
     returns-2)

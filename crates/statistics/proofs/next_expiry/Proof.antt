@@ -7,9 +7,6 @@ use Rattle.frame.proofs.Refusing.{one-said}
 use Rattle.statistics.proofs.next_expiry.Statement.{statement}
 use Rattle.statistics.proofs.next_expiry.Tie as tie
 
-is-sound-requires : tie.Need-is-sound-requires
-is-sound-requires c κs = search needs
-
 returns : tie.Need-returns
 unfolding expirySaid
 returns c =
@@ -19,9 +16,6 @@ returns c =
 next-expiry-unchecked-requires : tie.Need-next-expiry-unchecked-requires
 next-expiry-unchecked-requires c κs = sym (c .before .is-sound .ensures) ∙ not-false _ (c .if1 .left)
 
-returns-2 : tie.Need-returns-2
-returns-2 c = search needs
-
 pub next-expiry-spec : {M : Type 1} → statement M
 next-expiry-spec =
-    tie.close (tie.spec is-sound-requires returns next-expiry-unchecked-requires returns-2)
+    tie.close (tie.spec (λ c κs. search needs) returns next-expiry-unchecked-requires (λ c. search needs))

@@ -26,28 +26,10 @@ returns c =
     let e : s .n ≡ 0 = c .if1 .taken in
     rw e (ap ExpiryGiven (sym (expiry-none (s .state .now))))
 
-sub-i : tie.Need-sub-i Inv-loop μ-loop
-sub-i c = search needs
-
-expires-at-requires : tie.Need-expires-at-requires Inv-loop μ-loop
-expires-at-requires c κs = search needs
-
 loop-holds : tie.Need-loop-holds Inv-loop μ-loop
 loop-holds c =
     let s = c .before .before .before .args in
     (omega arith, expiry-last (s .n - 1) (viewRows (s .n) (s .state .now) .rows) (omega (arith, view-length (s .n) (s .state .now))) ∙ ap some (sym (c .expires-at .ensures)))
-
-sub-i-2 : tie.Need-sub-i-2 Inv-loop μ-loop
-sub-i-2 c = search needs
-
-expires-at-requires-2 : tie.Need-expires-at-requires-2 Inv-loop μ-loop
-expires-at-requires-2 c κs = search needs
-
-lesser-requires : tie.Need-lesser-requires Inv-loop μ-loop
-lesser-requires c κs = search needs
-
-loop-less : tie.Need-loop-less Inv-loop μ-loop
-loop-less c = search needs
 
 loop-again : tie.Need-loop-again Inv-loop μ-loop
 loop-again c =
@@ -71,12 +53,12 @@ next-expiry-of-spec =
     Inv-loop
     μ-loop
     returns
-    sub-i
-    expires-at-requires
+    (λ c. search needs)
+    (λ c κs. search needs)
     loop-holds
-    sub-i-2
-    expires-at-requires-2
-    lesser-requires
-    loop-less
+    (λ c. search needs)
+    (λ c κs. search needs)
+    (λ c κs. search needs)
+    (λ c. search needs)
     loop-again
     returns-2)

@@ -7,9 +7,6 @@ use Rattle.frame.proofs.Refusing.{one-said}
 use Rattle.statistics.proofs.stats.Statement.{statement}
 use Rattle.statistics.proofs.stats.Tie as tie
 
-is-sound-requires : tie.Need-is-sound-requires
-is-sound-requires c κs = search needs
-
 returns : tie.Need-returns
 unfolding statsSaid
 returns c =
@@ -19,8 +16,5 @@ returns c =
 stats-unchecked-requires : tie.Need-stats-unchecked-requires
 stats-unchecked-requires c κs = sym (c .before .is-sound .ensures) ∙ not-false _ (c .if1 .left)
 
-returns-2 : tie.Need-returns-2
-returns-2 c = search needs
-
 pub stats-spec : {M : Type 1} → statement M
-stats-spec = tie.close (tie.spec is-sound-requires returns stats-unchecked-requires returns-2)
+stats-spec = tie.close (tie.spec (λ c κs. search needs) returns stats-unchecked-requires (λ c. search needs))

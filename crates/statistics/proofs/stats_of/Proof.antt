@@ -7,15 +7,6 @@ use borrow.Author.Needs.{needs}
 use Rattle.statistics.proofs.stats_of.Statement.{statement}
 use Rattle.statistics.proofs.stats_of.Tie as tie
 
-max-entries-requires : tie.Need-max-entries-requires
-max-entries-requires c κs = search needs
-
-count-expired-requires : tie.Need-count-expired-requires
-count-expired-requires c κs = search needs
-
-mean-age-requires : tie.Need-mean-age-requires
-mean-age-requires c κs = search needs
-
 returns : tie.Need-returns
 unfolding stats matching
 returns c =
@@ -24,4 +15,4 @@ returns c =
 
 pub stats-of-spec : {M : Type 1} → statement M
 stats-of-spec =
-    tie.close (tie.spec max-entries-requires count-expired-requires mean-age-requires returns)
+    tie.close (tie.spec (λ c κs. search needs) (λ c κs. search needs) (λ c κs. search needs) returns)

@@ -14,26 +14,8 @@ Inv-loop buffer₀ used held left n₀ buffer n = (n ≤ left) × (buffer ≡ do
 abbrev μ-loop : tie.MeasureT-loop
 μ-loop buffer₀ used held left n₀ buffer n = left - n
 
-sub-left : tie.Need-sub-left Inv-loop μ-loop
-sub-left c = search needs
-
 loop-holds : tie.Need-loop-holds Inv-loop μ-loop
 loop-holds c = (omega arith, down-start _ 0 (c .args .used), refl)
-
-add-buffer : tie.Need-add-buffer Inv-loop μ-loop
-add-buffer c = search needs
-
-slice-read-buffer : tie.Need-slice-read-buffer Inv-loop μ-loop
-slice-read-buffer c = search needs
-
-slice-write-buffer : tie.Need-slice-write-buffer Inv-loop μ-loop
-slice-write-buffer c = search needs
-
-add-n : tie.Need-add-n Inv-loop μ-loop
-add-n c = search needs
-
-loop-less : tie.Need-loop-less Inv-loop μ-loop
-loop-less c = search needs
 
 loop-again : tie.Need-loop-again Inv-loop μ-loop
 loop-again c =
@@ -58,13 +40,13 @@ keep-unused-spec =
     (tie.spec
     Inv-loop
     μ-loop
-    sub-left
+    (λ c. search needs)
     loop-holds
-    add-buffer
-    slice-read-buffer
-    slice-write-buffer
-    add-n
-    loop-less
+    (λ c. search needs)
+    (λ c. search needs)
+    (λ c. search needs)
+    (λ c. search needs)
+    (λ c. search needs)
     loop-again
     same-length
     returns)

@@ -13,24 +13,6 @@ returns c =
     let a = c .before .before .args in
     next-full (a .room) (a .last) _ _ (c .if1 .taken)
 
-sub-left : tie.Need-sub-left
-sub-left c = search needs
-
-sub-left-2 : tie.Need-sub-left-2
-sub-left-2 c = search needs
-
-shared-slice-read-width-of : tie.Need-shared-slice-read-width-of
-shared-slice-read-width-of c = search needs
-
-width-of-requires : tie.Need-width-of-requires
-width-of-requires c κs = search needs
-
-enum-told : tie.Need-enum-told
-enum-told c = search needs
-
-enum-known-w : tie.Need-enum-known-w
-enum-known-w c = search needs
-
 returns-2 : tie.Need-returns-2
 unfolding widthIs
 returns-2 c =
@@ -60,12 +42,12 @@ next-command-spec =
     tie.close
     (tie.spec
     returns
-    sub-left
-    sub-left-2
-    shared-slice-read-width-of
-    width-of-requires
-    enum-told
-    enum-known-w
+    (λ c. search needs)
+    (λ c. search needs)
+    (λ c. search needs)
+    (λ c κs. search needs)
+    (λ c. search needs)
+    (λ c. search needs)
     returns-2
     returns-3
     returns-4

@@ -19,54 +19,21 @@ Inv-loop state₀ input last output₀ is-sound₀ path₀ counts₀ at₀ put�
 abbrev μ-loop : tie.MeasureT-loop
 μ-loop state₀ input last output₀ is-sound₀ path₀ counts₀ at₀ put₀ state output is-sound path counts at put = length input - at
 
-is-sound-requires : tie.Need-is-sound-requires Inv-loop μ-loop
-is-sound-requires c κs = search needs
-
 loop-holds : tie.Need-loop-holds Inv-loop μ-loop
 loop-holds c = (omega arith, refl, refl, c .is-sound .ensures, start (c .before .before .before .before .before .args .last) (c .before .before .before .before .before .args .state .now) (c .before .before .before .before .before .args .input .now) (c .before .before .before .before .before .args .output .now) (c .before .before .before .before .before .args .pending) (c .before .before .before .before .before .args .tally))
 
-shared-slice-read-code : tie.Need-shared-slice-read-code Inv-loop μ-loop
-shared-slice-read-code c = search needs
-
 sub-next-command : tie.Need-sub-next-command Inv-loop μ-loop
 sub-next-command c = omega (arith, c .before .before .loop .inv .2, c .before .before .loop .inv .4 .done .inside)
-
-next-command-requires : tie.Need-next-command-requires Inv-loop μ-loop
-next-command-requires c κs = search needs
-
-enum-told : tie.Need-enum-told Inv-loop μ-loop
-enum-told c = search needs
-
-same-length : tie.Need-same-length Inv-loop μ-loop
-same-length c = search needs
-
-same-length-2 : tie.Need-same-length-2 Inv-loop μ-loop
-same-length-2 c = search needs
 
 returns : tie.Need-returns Inv-loop μ-loop
 returns c =
     let s = stops-full _ _ _ _ _ _ _ _ _ _ _ (c .before .before .before .before .before .loop .inv .4) (c .before .before .before .before .loop-test .taken) (same-room _ _ _ _ _ _ (c .before .before .before .before .before .loop .inv .2) ∙ sym (c .before .before .next-command .ensures) ∙ c .enum-told .given .1) in
     (ended _ _ (held (c .before .before .before .before .before .loop .state) (c .before .before .before .before .before .loop .path)) _ _ _ _ _ _ _ s refl refl refl refl refl, (c .before .before .before .before .before .loop .inv .0, s .inside))
 
-enum-told-2 : tie.Need-enum-told-2 Inv-loop μ-loop
-enum-told-2 c = search needs
-
-same-length-3 : tie.Need-same-length-3 Inv-loop μ-loop
-same-length-3 c = search needs
-
-same-length-4 : tie.Need-same-length-4 Inv-loop μ-loop
-same-length-4 c = search needs
-
 returns-2 : tie.Need-returns-2 Inv-loop μ-loop
 returns-2 c =
     let s = stops-cut _ _ _ _ _ _ _ _ _ _ _ (c .before .before .before .before .before .loop .inv .4) (c .before .before .before .before .loop-test .taken) (same-room _ _ _ _ _ _ (c .before .before .before .before .before .loop .inv .2) ∙ sym (c .before .before .next-command .ensures) ∙ c .enum-told2 .given .1) in
     (ended _ _ (held (c .before .before .before .before .before .loop .state) (c .before .before .before .before .before .loop .path)) _ _ _ _ _ _ _ s refl refl refl refl refl, (c .before .before .before .before .before .loop .inv .0, s .inside))
-
-enum-known-found : tie.Need-enum-known-found Inv-loop μ-loop
-enum-known-found c = search needs
-
-add-command-at : tie.Need-add-command-at Inv-loop μ-loop
-add-command-at c = search needs
 
 command-at-requires : tie.Need-command-at-requires Inv-loop μ-loop
 command-at-requires c κs = (c .before .before .before .before .before .before .before .loop .inv .3, omega (arith, c .before .before .before .before .before .before .loop-test .taken))
@@ -75,9 +42,6 @@ put-line-requires : tie.Need-put-line-requires Inv-loop μ-loop
 put-line-requires c κs =
     let h = ample _ _ _ _ _ _ _ _ _ _ _ (c .before .before .before .before .before .before .before .before .before .before .before .before .loop .inv .4) (c .before .before .before .before .before .before .before .before .before .before .before .loop-test .taken) _ (same-room _ _ _ _ _ _ (c .before .before .before .before .before .before .before .before .before .before .before .before .loop .inv .2) ∙ sym (c .before .before .before .before .before .before .before .before .before .next-command .ensures) ∙ c .before .before .before .before .before .before .before .found .given .1) in
     omega (arith, h, c .before .before .before .before .before .before .before .before .before .before .before .before .loop .inv .2)
-
-count-held-requires : tie.Need-count-held-requires Inv-loop μ-loop
-count-held-requires c κs = search needs
 
 add-at : tie.Need-add-at Inv-loop μ-loop
 add-at c =
@@ -88,12 +52,6 @@ add-at-2 : tie.Need-add-at-2 Inv-loop μ-loop
 add-at-2 c =
     let h = used _ _ _ _ _ _ _ _ _ _ _ (c .before .before .before .before .before .before .before .before .before .before .before .before .before .before .before .before .before .loop .inv .4) (c .before .before .before .before .before .before .before .before .before .before .before .before .before .before .before .before .loop-test .taken) _ (same-room _ _ _ _ _ _ (c .before .before .before .before .before .before .before .before .before .before .before .before .before .before .before .before .before .loop .inv .2) ∙ sym (c .before .before .before .before .before .before .before .before .before .before .before .before .before .before .next-command .ensures) ∙ c .before .before .before .before .before .before .before .before .before .before .before .before .found .given .1) in
     record { fits = omega (arith, h, c .before .before .before .before .before .before .before .before .before .before .before .before .before .before .before .before .before .before .before .before .before .before .before .good .1 .1 .1 .0) }
-
-same-length-5 : tie.Need-same-length-5 Inv-loop μ-loop
-same-length-5 c = search needs
-
-same-length-6 : tie.Need-same-length-6 Inv-loop μ-loop
-same-length-6 c = search needs
 
 returns-3 : tie.Need-returns-3 Inv-loop μ-loop
 returns-3 c =
@@ -111,12 +69,6 @@ loop-again c =
     let n = (same-room _ _ _ _ _ _ (c .before .before .before .before .before .before .before .before .before .before .before .before .before .before .before .before .before .before .loop .inv .2) ∙ sym (c .before .before .before .before .before .before .before .before .before .before .before .before .before .before .before .next-command .ensures) ∙ c .before .before .before .before .before .before .before .before .before .before .before .before .before .found .given .1) in
     (used _ _ _ _ _ _ _ _ _ _ _ (c .before .before .before .before .before .before .before .before .before .before .before .before .before .before .before .before .before .before .loop .inv .4) (c .before .before .before .before .before .before .before .before .before .before .before .before .before .before .before .before .before .loop-test .taken) _ n, c .before .before .before .before .before .before .before .before .before .before .command-at .kept .0 ∙ c .before .before .before .before .before .before .before .before .before .before .before .before .before .before .before .before .before .before .loop .inv .1, c .before .before .before .before .before .put-line .kept .0 ∙ c .before .before .before .before .before .before .before .before .before .before .before .before .before .before .before .before .before .before .loop .inv .2, c .before .before .before .before .before .before .before .before .before .before .command-at .ensures .sounds, goes-on _ _ _ _ _ _ _ _ _ _ _ (c .before .before .before .before .before .before .before .before .before .before .before .before .before .before .before .before .before .before .loop .inv .4) (c .before .before .before .before .before .before .before .before .before .before .before .before .before .before .before .before .before .loop-test .taken) _ n _ _ (c .before .before .before .before .before .before .before .before .before .before .command-at .ensures) _ _ _ (c .before .before .before .before .before .put-line .ensures .0 .0) (c .before .before .before .before .before .put-line .ensures .1) (c .before .before .before .before .before .put-line .ensures .0 .1) (c .before .before .count-held .ensures) (c .if1 .left))
 
-same-length-7 : tie.Need-same-length-7 Inv-loop μ-loop
-same-length-7 c = search needs
-
-same-length-8 : tie.Need-same-length-8 Inv-loop μ-loop
-same-length-8 c = search needs
-
 returns-4 : tie.Need-returns-4 Inv-loop μ-loop
 returns-4 c =
     let s = over _ _ _ _ _ _ _ _ _ _ _ (c .before .loop .inv .4) (c .before .loop .inv .0) (c .loop-test .left) in
@@ -128,31 +80,31 @@ run-spec =
     (tie.spec
     Inv-loop
     μ-loop
-    is-sound-requires
+    (λ c κs. search needs)
     loop-holds
-    shared-slice-read-code
+    (λ c. search needs)
     sub-next-command
-    next-command-requires
-    enum-told
-    same-length
-    same-length-2
+    (λ c κs. search needs)
+    (λ c. search needs)
+    (λ c. search needs)
+    (λ c. search needs)
     returns
-    enum-told-2
-    same-length-3
-    same-length-4
+    (λ c. search needs)
+    (λ c. search needs)
+    (λ c. search needs)
     returns-2
-    enum-known-found
-    add-command-at
+    (λ c. search needs)
+    (λ c. search needs)
     command-at-requires
     put-line-requires
-    count-held-requires
+    (λ c κs. search needs)
     add-at
     add-at-2
-    same-length-5
-    same-length-6
+    (λ c. search needs)
+    (λ c. search needs)
     returns-3
     loop-less
     loop-again
-    same-length-7
-    same-length-8
+    (λ c. search needs)
+    (λ c. search needs)
     returns-4)

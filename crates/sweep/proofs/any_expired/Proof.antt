@@ -25,17 +25,8 @@ loop-holds c =
     let s = c .before .args in
     (omega arith, λ a. stay-start 0 (s .time) a (viewRows (s .n) (s .state .now) .rows))
 
-is-expired-requires : tie.Need-is-expired-requires Inv-loop μ-loop
-is-expired-requires c κs = search needs
-
 returns : tie.Need-returns Inv-loop μ-loop
 returns c = λ e. contradiction {b = true} refl e
-
-add-i : tie.Need-add-i Inv-loop μ-loop
-add-i c = search needs
-
-loop-less : tie.Need-loop-less Inv-loop μ-loop
-loop-less c = search needs
 
 loop-again : tie.Need-loop-again Inv-loop μ-loop
 loop-again c =
@@ -56,9 +47,9 @@ any-expired-spec =
     Inv-loop
     μ-loop
     loop-holds
-    is-expired-requires
+    (λ c κs. search needs)
     returns
-    add-i
-    loop-less
+    (λ c. search needs)
+    (λ c. search needs)
     loop-again
     returns-2)

@@ -13,9 +13,6 @@ use Rattle.sweep.proofs.any_other_root.Reads as any-other-root-reads
 use Rattle.sweep.proofs.any_via_node.Reads as any-via-node-reads
 
 -- src/lib.rt:163:9
-any-expired-requires : tie.Need-any-expired-requires
-any-expired-requires c κs = search needs
-
 -- src/lib.rt:163:9
 returns : tie.Need-returns
 returns c =
@@ -23,9 +20,6 @@ returns c =
     λ e. of-kind 0 (s .kind) (s .time) (s .addr) _ (c .before .if1 .taken) (c .any-expired .ensures e (s .addr))
 
 -- src/lib.rt:166:9
-any-via-node-requires : tie.Need-any-via-node-requires
-any-via-node-requires c κs = search needs
-
 -- src/lib.rt:166:9
 returns-2 : tie.Need-returns-2
 returns-2 c =
@@ -33,9 +27,6 @@ returns-2 c =
     λ e. of-kind 1 (s .kind) (s .time) (s .addr) _ (c .before .if2 .taken) (c .any-via-node .ensures e (s .time))
 
 -- src/lib.rt:169:9
-any-other-root-requires : tie.Need-any-other-root-requires
-any-other-root-requires c κs = search needs
-
 -- src/lib.rt:169:9
 returns-3 : tie.Need-returns-3
 returns-3 c =
@@ -50,10 +41,10 @@ pub any-matches-spec : {M : Type 1} → statement M
 any-matches-spec =
     tie.close
     (tie.spec
-    any-expired-requires
+    (λ c κs. search needs)
     returns
-    any-via-node-requires
+    (λ c κs. search needs)
     returns-2
-    any-other-root-requires
+    (λ c κs. search needs)
     returns-3
     returns-4)

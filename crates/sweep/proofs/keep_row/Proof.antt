@@ -3,12 +3,6 @@ use Rattle.sweep.proofs.Sweeping.{down, down-stays}
 use Rattle.sweep.proofs.keep_row.Statement.{statement}
 use Rattle.sweep.proofs.keep_row.Tie as tie
 
-copy-row-requires : tie.Need-copy-row-requires
-copy-row-requires c κs = search needs
-
-same-length : tie.Need-same-length
-same-length c = search needs
-
 returns : tie.Need-returns
 returns c = down (c .before .before .before .before .before .before .args .i) (c .before .before .before .before .before .before .args .j) (c .before .before .before .before .before .before .args .state .now) _ (c .before .before .before .before .if1 .taken) (c .before .before .copy-row .ensures)
 
@@ -16,4 +10,4 @@ returns-2 : tie.Need-returns-2
 returns-2 c = down-stays (c .before .before .args .i) (c .before .before .args .j) (c .before .before .args .state .now) (c .if1 .left)
 
 pub keep-row-spec : {M : Type 1} → statement M
-keep-row-spec = tie.close (tie.spec copy-row-requires same-length returns returns-2)
+keep-row-spec = tie.close (tie.spec (λ c κs. search needs) (λ c. search needs) returns returns-2)

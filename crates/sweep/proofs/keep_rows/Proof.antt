@@ -25,12 +25,6 @@ pass-row-requires c κs =
     let q = v .2 in
     (q .below, c .before .loop-test .taken, omega (arith, s .pre .0, v .1), row-fits (s .args .kind) (s .args .time) (s .args .addr) (s .args .n) (c .before .before .loop .i) (c .before .before .loop .j) (s .args .state .now) _ (c .before .loop-test .taken) (s .pre .1) q)
 
-add-i : tie.Need-add-i Inv-loop μ-loop
-add-i c = search needs
-
-loop-less : tie.Need-loop-less Inv-loop μ-loop
-loop-less c = search needs
-
 loop-again : tie.Need-loop-again Inv-loop μ-loop
 loop-again c =
     let s = c .before .before .before .before .before .before .before in
@@ -54,8 +48,8 @@ keep-rows-spec =
     μ-loop
     loop-holds
     pass-row-requires
-    add-i
-    loop-less
+    (λ c. search needs)
+    (λ c. search needs)
     loop-again
     same-length
     returns)

@@ -5,9 +5,6 @@ use Rattle.sweep.proofs.Sweeping.{test-expired, test-via, test-root, te
 use Rattle.sweep.proofs.row_matches.Statement.{statement}
 use Rattle.sweep.proofs.row_matches.Tie as tie
 
-is-expired-requires : tie.Need-is-expired-requires
-is-expired-requires c κs = search needs
-
 returns : tie.Need-returns
 returns c =
     let s = c .before .before .before .args in
@@ -33,9 +30,6 @@ returns-3 c =
     let s = c .before .before .before .before .before .args in
     test-root (s .kind) (s .time) (s .addr) (rowAt (s .i) (viewRows (s .n) (s .state .now) .rows)) _ (c .before .if3 .taken) (c .root-is .ensures)
 
-place-requires : tie.Need-place-requires
-place-requires c κs = search needs
-
 returns-4 : tie.Need-returns-4
 returns-4 c =
     let s = c .before .before .before .before .before .args in
@@ -45,9 +39,9 @@ pub row-matches-spec : {M : Type 1} → statement M
 row-matches-spec =
     tie.close
     (tie.spec
-    is-expired-requires
+    (λ c κs. search needs)
     returns
     path-contains-requires
     returns-2
     root-is-requires
-    returns-3 place-requires returns-4)
+    returns-3 (λ c κs. search needs) returns-4)

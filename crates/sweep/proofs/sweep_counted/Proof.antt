@@ -3,21 +3,6 @@ use borrow.Author.Needs.{needs}
 use Rattle.sweep.proofs.sweep_counted.Statement.{statement}
 use Rattle.sweep.proofs.sweep_counted.Tie as tie
 
-any-matches-requires : tie.Need-any-matches-requires
-any-matches-requires c κs = search needs
-
-sweep-rows-requires : tie.Need-sweep-rows-requires
-sweep-rows-requires c κs = search needs
-
-same-length : tie.Need-same-length
-same-length c = search needs
-
-returns : tie.Need-returns
-returns c = search needs
-
-same-length-2 : tie.Need-same-length-2
-same-length-2 c = search needs
-
 returns-2 : tie.Need-returns-2
 returns-2 c =
     let s = c .before .before .before .before in
@@ -26,4 +11,4 @@ returns-2 c =
 pub sweep-counted-spec : {M : Type 1} → statement M
 sweep-counted-spec =
     tie.close
-    (tie.spec any-matches-requires sweep-rows-requires same-length returns same-length-2 returns-2)
+    (tie.spec (λ c κs. search needs) (λ c κs. search needs) (λ c. search needs) (λ c. search needs) (λ c. search needs) returns-2)

@@ -3,18 +3,6 @@ use Rattle.sweep.proofs.Sweeping.{swept}
 use Rattle.sweep.proofs.sweep_rows.Statement.{statement}
 use Rattle.sweep.proofs.sweep_rows.Tie as tie
 
-keep-rows-requires : tie.Need-keep-rows-requires
-keep-rows-requires c κs = search needs
-
-weight-of-requires : tie.Need-weight-of-requires
-weight-of-requires c κs = search needs
-
-shrink-requires : tie.Need-shrink-requires
-shrink-requires c κs = search needs
-
-same-length : tie.Need-same-length
-same-length c = search needs
-
 returns : tie.Need-returns
 returns c =
     let s = c .before .before .before .before .before .before .before .before .before .before .before .args in
@@ -24,4 +12,4 @@ returns c =
 pub sweep-rows-spec : {M : Type 1} → statement M
 sweep-rows-spec =
     tie.close
-    (tie.spec keep-rows-requires weight-of-requires shrink-requires same-length returns)
+    (tie.spec (λ c κs. search needs) (λ c κs. search needs) (λ c κs. search needs) (λ c. search needs) returns)

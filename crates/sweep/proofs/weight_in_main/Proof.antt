@@ -6,15 +6,6 @@ use Rattle.sweep.proofs.Sweeping.{weighs, weighs-nothing}
 use Rattle.sweep.proofs.weight_in_main.Statement.{statement}
 use Rattle.sweep.proofs.weight_in_main.Tie as tie
 
-place-requires : tie.Need-place-requires
-place-requires c κs = search needs
-
-weight-requires : tie.Need-weight-requires
-weight-requires c κs = search needs
-
-wide-requires : tie.Need-wide-requires
-wide-requires c κs = search needs
-
 returns : tie.Need-returns
 returns c =
     let s = c .before .before .before .before .before .args in
@@ -27,4 +18,4 @@ returns-2 c =
 
 pub weight-in-main-spec : {M : Type 1} → statement M
 weight-in-main-spec =
-    tie.close (tie.spec place-requires weight-requires wide-requires returns returns-2)
+    tie.close (tie.spec (λ c κs. search needs) (λ c κs. search needs) (λ c κs. search needs) returns returns-2)

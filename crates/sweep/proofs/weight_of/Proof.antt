@@ -17,22 +17,10 @@ Inv-loop state n sum₀ i₀ sum i = (i ≤ n) × (sum ≤ i * 256) × (sum + to
 abbrev μ-loop : tie.MeasureT-loop
 μ-loop state n sum₀ i₀ sum i = n - i
 
-loop-holds : tie.Need-loop-holds Inv-loop μ-loop
-loop-holds c = search needs
-
-weight-in-main-requires : tie.Need-weight-in-main-requires Inv-loop μ-loop
-weight-in-main-requires c κs = search needs
-
 add-sum : tie.Need-add-sum Inv-loop μ-loop
 add-sum c =
     let h = c .before .before .loop .inv .1 in
     omega (arith, c .weight-in-main .ensures .1, c .before .before .before .before .pre .0)
-
-add-i : tie.Need-add-i Inv-loop μ-loop
-add-i c = search needs
-
-loop-less : tie.Need-loop-less Inv-loop μ-loop
-loop-less c = search needs
 
 loop-again : tie.Need-loop-again Inv-loop μ-loop
 loop-again c =
@@ -53,10 +41,10 @@ weight-of-spec =
     (tie.spec
     Inv-loop
     μ-loop
-    loop-holds
-    weight-in-main-requires
+    (λ c. search needs)
+    (λ c κs. search needs)
     add-sum
-    add-i
-    loop-less
+    (λ c. search needs)
+    (λ c. search needs)
     loop-again
     returns)

@@ -13,13 +13,10 @@ row-count-requires c κs = head-there (c .before .before .args .state .now) (c .
 shrink-requires : tie.Need-shrink-requires
 shrink-requires c κs = (omega arith, sound-memory (c .before .before .before .before .args .state .now) (c .before .row-count .result) (c .before .before .before .before .pre) (c .before .row-count .ensures) .long)
 
-same-length : tie.Need-same-length
-same-length c = search needs
-
 returns : tie.Need-returns
 returns c =
     let m = c .before .before .shrink .last .0 in
     cleared (c .before .before .before .before .before .before .before .args .state .now) (c .before .before .before .before .row-count .result) m (c .before .before .before .before .before .before .before .pre) (c .before .before .before .before .row-count .ensures) (all-bytes m (λ i. c .slice-known2 .given i .fits)) (c .before .before .shrink .kept .0) (c .before .before .shrink .ensures)
 
 pub clear-unchecked-spec : {M : Type 1} → statement M
-clear-unchecked-spec = tie.close (tie.spec row-count-requires shrink-requires same-length returns)
+clear-unchecked-spec = tie.close (tie.spec row-count-requires shrink-requires (λ c. search needs) returns)

@@ -16,12 +16,6 @@ row-count-requires c κs = head-there (c .before .before .args .state .now) (c .
 sweep-counted-requires : tie.Need-sweep-counted-requires
 sweep-counted-requires c κs = sweepable (c .before .before .before .before .args .state .now) (c .before .row-count .result) (c .before .before .before .before .pre) (c .before .row-count .ensures)
 
-sub-t10 : tie.Need-sub-t10
-sub-t10 c = search needs
-
-same-length : tie.Need-same-length
-same-length c = search needs
-
 returns : tie.Need-returns
 returns c =
     let s = c .before .before .before .before .before .before .before in
@@ -32,4 +26,4 @@ returns c =
 
 pub invalidate-other-roots-unchecked-spec : {M : Type 1} → statement M
 invalidate-other-roots-unchecked-spec =
-    tie.close (tie.spec row-count-requires sweep-counted-requires sub-t10 same-length returns)
+    tie.close (tie.spec row-count-requires sweep-counted-requires (λ c. search needs) (λ c. search needs) returns)

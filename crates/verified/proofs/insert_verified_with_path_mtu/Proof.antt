@@ -7,12 +7,6 @@ use borrow.Author.Needs.{needs}
 use Rattle.verified.proofs.insert_verified_with_path_mtu.Statement.{statement}
 use Rattle.verified.proofs.insert_verified_with_path_mtu.Tie as tie
 
-is-sound-requires : tie.Need-is-sound-requires
-is-sound-requires c κs = search needs
-
-same-length : tie.Need-same-length
-same-length c = search needs
-
 returns : tie.Need-returns
 unfolding verifiedSaid
 returns c =
@@ -23,19 +17,13 @@ insert-verified-with-path-mtu-unchecked-requires :
     tie.Need-insert-verified-with-path-mtu-unchecked-requires
 insert-verified-with-path-mtu-unchecked-requires c κs = sym (c .before .before .is-sound .ensures) ∙ not-false _ (c .before .if1 .left)
 
-same-length-2 : tie.Need-same-length-2
-same-length-2 c = search needs
-
-returns-2 : tie.Need-returns-2
-returns-2 c = search needs
-
 pub insert-verified-with-path-mtu-spec : {M : Type 1} → statement M
 insert-verified-with-path-mtu-spec =
     tie.close
     (tie.spec
-    is-sound-requires
-    same-length
+    (λ c κs. search needs)
+    (λ c. search needs)
     returns
     insert-verified-with-path-mtu-unchecked-requires
-    same-length-2
-    returns-2)
+    (λ c. search needs)
+    (λ c. search needs))

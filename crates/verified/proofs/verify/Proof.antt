@@ -9,9 +9,6 @@ use Rattle.verified.proofs.verify.Tie as tie
 write-refusal-requires : tie.Need-write-refusal-requires
 write-refusal-requires c κs = head-there (c .before .before .args .state .now) (c .before .before .pre)
 
-same-length : tie.Need-same-length
-same-length c = search needs
-
 returns : tie.Need-returns
 unfolding verifiedSaid
 returns c =
@@ -30,9 +27,6 @@ no-place-for-requires c κs =
     let n = c .before in
     let s = n .before .before .before .before .before .before in
     rows-sound (s .args .state .now) (n .row-count .result) (s .pre) (n .row-count .ensures)
-
-same-length-2 : tie.Need-same-length-2
-same-length-2 c = search needs
 
 returns-2 : tie.Need-returns-2
 unfolding verifiedSaid
@@ -55,9 +49,6 @@ file-verified-requires c κs =
     let a = s .args in
     insert-asked (a .key) (a .path) (a .time) (a .state .now) (n .row-count .result) (w .write-refusal .result) (f .no-place-for .result) (s .pre) (w .write-refusal .ensures) (i .if1 .left) (n .row-count .ensures) (f .no-place-for .ensures) (c .before .if2 .left)
 
-same-length-3 : tie.Need-same-length-3
-same-length-3 c = search needs
-
 returns-3 : tie.Need-returns-3
 unfolding verifiedSaid
 returns-3 c =
@@ -77,12 +68,12 @@ verify-spec =
     tie.close
     (tie.spec
     write-refusal-requires
-    same-length
+    (λ c. search needs)
     returns
     row-count-requires
     no-place-for-requires
-    same-length-2
+    (λ c. search needs)
     returns-2
     file-verified-requires
-    same-length-3
+    (λ c. search needs)
     returns-3)

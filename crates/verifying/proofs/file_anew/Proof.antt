@@ -36,9 +36,6 @@ take-out-requires c κs =
     let s = c .before .before .before .before in
     (s .pre .0, found-within (s .args .n) (s .args .state .now) (s .args .key) (s .args .at) (s .pre .4))
 
-weight-requires : tie.Need-weight-requires
-weight-requires c κs = search needs
-
 cast-row-weight : tie.Need-cast-row-weight
 cast-row-weight c =
     let s = c .before .before .before .before .before .before .before .before in
@@ -62,9 +59,6 @@ file-in-room-requires c κs =
     let a = s .args in
     (row-asked (a .key) (a .path) (a .time) (a .n) (o .take-out .result) (w .weight .result) (a .state .now) (o .take-out .last .0) (s .pre .0) (key-out o) (w .weight .ensures) (r .make-room .last .0) (r .make-room .result) (room-sought r) (s .pre .2) (s .pre .3), omega (arith, ap (λ (p : Path). p .len) (e .verified-entry-of .ensures .1), s .pre .1 .short))
 
-same-length : tie.Need-same-length
-same-length c = search needs
-
 returns : tie.Need-returns
 returns c =
     let f = c .before .before in
@@ -82,9 +76,9 @@ file-anew-spec =
     (tie.spec
     verified-entry-of-requires
     take-out-requires
-    weight-requires
+    (λ c κs. search needs)
     cast-row-weight
     make-room-requires
     file-in-room-requires
-    same-length
+    (λ c. search needs)
     returns)

@@ -17,12 +17,6 @@ search-requires c κs =
     let s = c .before .before in
     rows-searchable (s .args .n) (s .args .state .now) (s .pre .0)
 
-enum-known-at : tie.Need-enum-known-at
-enum-known-at c = search needs
-
-weight-requires : tie.Need-weight-requires
-weight-requires c κs = search needs
-
 has-room-without-requires : tie.Need-has-room-without-requires
 has-room-without-requires c κs =
     let f = c .before .before .before .before .before in
@@ -46,9 +40,6 @@ verify-in-place-requires c κs =
     let i = t .at .given .0 .0 in
     let h = room-told i (w .weight .result) (a .path) (viewRows (a .n) (a .state .now)) (r .has-room-without .result) (w .weight .ensures) (r .has-room-without .ensures) (c .before .if1 .taken) .0 in
     (s .pre .0, row-inside (a .n) (a .state .now) (a .key) i (f .search .result) (f .search .ensures) (t .at .given .1), h, omega (arith, s .pre .2), s .pre .1 .short)
-
-same-length : tie.Need-same-length
-same-length c = search needs
 
 returns : tie.Need-returns
 returns c =
@@ -75,40 +66,22 @@ file-anew-requires c κs =
     let s = f .before .before .before in
     (s .pre .0, s .pre .1, s .pre .2, s .pre .3, sym (t .at .given .1) ∙ f .search .ensures)
 
-enum-told : tie.Need-enum-told
-enum-told c = search needs
-
-file-anew-requires-2 : tie.Need-file-anew-requires-2
-file-anew-requires-2 c κs = search needs
-
-same-length-2 : tie.Need-same-length-2
-same-length-2 c = search needs
-
-returns-2 : tie.Need-returns-2
-returns-2 c = search needs
-
-same-length-3 : tie.Need-same-length-3
-same-length-3 c = search needs
-
-returns-3 : tie.Need-returns-3
-returns-3 c = search needs
-
 pub file-verified-spec : {M : Type 1} → statement M
 file-verified-spec =
     tie.close
     (tie.spec
     search-requires
-    enum-known-at
-    weight-requires
+    (λ c. search needs)
+    (λ c κs. search needs)
     has-room-without-requires
     cast-verify-in-place
     verify-in-place-requires
-    same-length
+    (λ c. search needs)
     returns
     file-anew-requires
-    enum-told
-    file-anew-requires-2
-    same-length-2
-    returns-2
-    same-length-3
-    returns-3)
+    (λ c. search needs)
+    (λ c κs. search needs)
+    (λ c. search needs)
+    (λ c. search needs)
+    (λ c. search needs)
+    (λ c. search needs))

@@ -7,28 +7,10 @@ use borrow.Author.Needs.{needs}
 use Rattle.verifying.proofs.plain_entry.Statement.{statement}
 use Rattle.verifying.proofs.plain_entry.Tie as tie
 
-default-ttl-requires : tie.Need-default-ttl-requires
-default-ttl-requires c κs = search needs
-
-enum-known-at : tie.Need-enum-known-at
-enum-known-at c = search needs
-
 updated-entry-requires : tie.Need-updated-entry-requires
 updated-entry-requires c κs =
     let s = c .before .before .before .before .before in
     (within (s .args .n) _ (s .args .at) (c .before .at .given .1) (s .pre .1), s .pre .0)
-
-verified-entry-requires : tie.Need-verified-entry-requires
-verified-entry-requires c κs = search needs
-
-enum-told : tie.Need-enum-told
-enum-told c = search needs
-
-new-entry-requires : tie.Need-new-entry-requires
-new-entry-requires c κs = search needs
-
-verified-entry-requires-2 : tie.Need-verified-entry-requires-2
-verified-entry-requires-2 c κs = search needs
 
 returns : tie.Need-returns
 returns c =
@@ -54,12 +36,12 @@ pub plain-entry-spec : {M : Type 1} → statement M
 plain-entry-spec =
     tie.close
     (tie.spec
-    default-ttl-requires
-    enum-known-at
+    (λ c κs. search needs)
+    (λ c. search needs)
     updated-entry-requires
-    verified-entry-requires
-    enum-told
-    new-entry-requires
-    verified-entry-requires-2
+    (λ c κs. search needs)
+    (λ c. search needs)
+    (λ c κs. search needs)
+    (λ c κs. search needs)
     returns
     returns-2)

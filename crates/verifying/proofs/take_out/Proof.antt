@@ -6,9 +6,6 @@ use borrow.Author.Needs.{needs}
 use Rattle.verifying.proofs.take_out.Statement.{statement}
 use Rattle.verifying.proofs.take_out.Tie as tie
 
-enum-known-at : tie.Need-enum-known-at
-enum-known-at c = search needs
-
 remove-row-requires : tie.Need-remove-row-requires
 remove-row-requires c κs =
     let a = c .before .before in
@@ -22,12 +19,6 @@ sub-result c =
     let a = c .before .before .before .before .before in
     let s = a .before .before .before in
     omega (arith, within (s .args .n) _ (s .args .at) (a .at .given .1) (s .pre .1))
-
-enum-told : tie.Need-enum-told
-enum-told c = search needs
-
-same-length : tie.Need-same-length
-same-length c = search needs
 
 returns : tie.Need-returns
 returns c =
@@ -44,4 +35,4 @@ returns-2 c =
 pub take-out-spec : {M : Type 1} → statement M
 take-out-spec =
     tie.close
-    (tie.spec enum-known-at remove-row-requires sub-result enum-told same-length returns returns-2)
+    (tie.spec (λ c. search needs) remove-row-requires sub-result (λ c. search needs) (λ c. search needs) returns returns-2)

@@ -6,18 +6,6 @@ use borrow.Author.Needs.{needs}
 use Rattle.verifying.proofs.verified_entry_of.Statement.{statement}
 use Rattle.verifying.proofs.verified_entry_of.Tie as tie
 
-plain-entry-requires : tie.Need-plain-entry-requires
-plain-entry-requires c κs = search needs
-
-enum-told : tie.Need-enum-told
-enum-told c = search needs
-
-enum-known-mtu : tie.Need-enum-known-mtu
-enum-known-mtu c = search needs
-
-with-mtu-requires : tie.Need-with-mtu-requires
-with-mtu-requires c κs = search needs
-
 returns : tie.Need-returns
 returns c =
     let e = c .before .before in
@@ -34,4 +22,4 @@ returns-2 c =
 pub verified-entry-of-spec : {M : Type 1} → statement M
 verified-entry-of-spec =
     tie.close
-    (tie.spec plain-entry-requires enum-told enum-known-mtu with-mtu-requires returns returns-2)
+    (tie.spec (λ c κs. search needs) (λ c. search needs) (λ c. search needs) (λ c κs. search needs) returns returns-2)

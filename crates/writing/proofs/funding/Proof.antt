@@ -7,22 +7,10 @@ use borrow.Author.Needs.{needs}
 use Rattle.writing.proofs.funding.Statement.{statement}
 use Rattle.writing.proofs.funding.Tie as tie
 
-add-read-u8 : tie.Need-add-read-u8
-add-read-u8 c = search needs
-
-read-u8-requires : tie.Need-read-u8-requires
-read-u8-requires c κs = search needs
-
 returns : tie.Need-returns
 returns c =
     let a = c .before .before .before .args in
     uncharged (cut (a .at) 33 (a .input .now)) (number-at (a .at) 33 24 1 (a .input .now) (omega arith) ∙ sym (c .before .read-u8 .ensures) ∙ c .if1 .taken)
-
-add-read-u64 : tie.Need-add-read-u64
-add-read-u64 c = search needs
-
-read-u64-requires : tie.Need-read-u64-requires
-read-u64-requires c κs = search needs
 
 returns-2 : tie.Need-returns-2
 returns-2 c =
@@ -32,4 +20,4 @@ returns-2 c =
 pub funding-spec : {M : Type 1} → statement M
 funding-spec =
     tie.close
-    (tie.spec add-read-u8 read-u8-requires returns add-read-u64 read-u64-requires returns-2)
+    (tie.spec (λ c. search needs) (λ c κs. search needs) returns (λ c. search needs) (λ c κs. search needs) returns-2)

@@ -34,17 +34,11 @@ insert-stated-requires c κs =
     let z : x ≡ 0x13 = omega (arith, p, c .before .before .before .before .pre .4) in
     (c .before .before .before .before .pre .0, there (c .before .before .before .before .args .code) 33 (c .before .before .before .before .args .at) (c .before .before .before .before .args .input .now) (ap widthOf z) (c .before .before .before .before .pre .1) (omega arith))
 
-same-length : tie.Need-same-length
-same-length c = search needs
-
 returns : tie.Need-returns
 unfolding reads codeOf codes code
 returns c =
     let a = c .before .before .before .before .before .before .before .args in
     path-says (held (a .state .now) (a .pending)) (a .code) (drop (a .at) (a .input .now)) _ _ _ (ap (λ (b : ℕ). reads b (drop (a .at) (a .input .now))) (c .before .before .before .before .match .keys1)) (c .before .before .insert .ensures)
-
-same-length-2 : tie.Need-same-length-2
-same-length-2 c = search needs
 
 returns-2 : tie.Need-returns-2
 unfolding reads codeOf codes code
@@ -52,17 +46,11 @@ returns-2 c =
     let a = c .before .before .before .before .before .before .before .args in
     path-says (held (a .state .now) (a .pending)) (a .code) (drop (a .at) (a .input .now)) _ _ _ (ap (λ (b : ℕ). reads b (drop (a .at) (a .input .now))) (c .before .before .before .before .match .keys2)) (c .before .before .insert-with-ttl .ensures)
 
-same-length-3 : tie.Need-same-length-3
-same-length-3 c = search needs
-
 returns-3 : tie.Need-returns-3
 unfolding reads codeOf codes code
 returns-3 c =
     let a = c .before .before .before .before .before .before .before .args in
     path-says (held (a .state .now) (a .pending)) (a .code) (drop (a .at) (a .input .now)) _ _ _ ((ap (λ (b : ℕ). reads b (drop (a .at) (a .input .now))) (c .before .before .before .before .match .keys3)) ∙ funded-legal (cut (a .at) 33 (a .input .now)) _ (legal (a .code) (drop (a .at) (a .input .now)) (c .before .before .before .before .before .before .before .pre .2) (rw (c .before .before .before .before .match .keys3)))) (c .before .before .insert-funded .ensures)
-
-same-length-4 : tie.Need-same-length-4
-same-length-4 c = search needs
 
 returns-4 : tie.Need-returns-4
 unfolding reads codeOf codes code
@@ -82,11 +70,11 @@ hint-spec =
     insert-with-ttl-requires
     insert-funded-requires
     insert-stated-requires
-    same-length
+    (λ c. search needs)
     returns
-    same-length-2
+    (λ c. search needs)
     returns-2
-    same-length-3
+    (λ c. search needs)
     returns-3
-    same-length-4
+    (λ c. search needs)
     returns-4)

@@ -7,24 +7,6 @@ use borrow.Author.Needs.{needs}
 use Rattle.writing.proofs.insert_verified.Statement.{statement}
 use Rattle.writing.proofs.insert_verified.Tie as tie
 
-load-addr-requires : tie.Need-load-addr-requires
-load-addr-requires c κs = search needs
-
-add-read-u64 : tie.Need-add-read-u64
-add-read-u64 c = search needs
-
-read-u64-requires : tie.Need-read-u64-requires
-read-u64-requires c κs = search needs
-
-insert-verified-unchecked-requires : tie.Need-insert-verified-unchecked-requires
-insert-verified-unchecked-requires c κs = search needs
-
-verified-reply-requires : tie.Need-verified-reply-requires
-verified-reply-requires c κs = search needs
-
-same-length : tie.Need-same-length
-same-length c = search needs
-
 returns : tie.Need-returns
 returns c =
     let a = c .before .before .before .before .before .before .before .before .before .args in
@@ -34,10 +16,10 @@ pub insert-verified-spec : {M : Type 1} → statement M
 insert-verified-spec =
     tie.close
     (tie.spec
-    load-addr-requires
-    add-read-u64
-    read-u64-requires
-    insert-verified-unchecked-requires
-    verified-reply-requires
-    same-length
+    (λ c κs. search needs)
+    (λ c. search needs)
+    (λ c κs. search needs)
+    (λ c κs. search needs)
+    (λ c κs. search needs)
+    (λ c. search needs)
     returns)

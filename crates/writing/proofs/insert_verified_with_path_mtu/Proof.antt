@@ -7,30 +7,9 @@ use borrow.Author.Needs.{needs}
 use Rattle.writing.proofs.insert_verified_with_path_mtu.Statement.{statement}
 use Rattle.writing.proofs.insert_verified_with_path_mtu.Tie as tie
 
-load-addr-requires : tie.Need-load-addr-requires
-load-addr-requires c κs = search needs
-
-add-read-u64 : tie.Need-add-read-u64
-add-read-u64 c = search needs
-
-read-u64-requires : tie.Need-read-u64-requires
-read-u64-requires c κs = search needs
-
-add-read-u16 : tie.Need-add-read-u16
-add-read-u16 c = search needs
-
-read-u16-requires : tie.Need-read-u16-requires
-read-u16-requires c κs = search needs
-
 insert-verified-with-path-mtu-unchecked-requires :
     tie.Need-insert-verified-with-path-mtu-unchecked-requires
 insert-verified-with-path-mtu-unchecked-requires c κs = search needs
-
-verified-reply-requires : tie.Need-verified-reply-requires
-verified-reply-requires c κs = search needs
-
-same-length : tie.Need-same-length
-same-length c = search needs
 
 returns : tie.Need-returns
 returns c =
@@ -41,12 +20,12 @@ pub insert-verified-with-path-mtu-spec : {M : Type 1} → statement M
 insert-verified-with-path-mtu-spec =
     tie.close
     (tie.spec
-    load-addr-requires
-    add-read-u64
-    read-u64-requires
-    add-read-u16
-    read-u16-requires
+    (λ c κs. search needs)
+    (λ c. search needs)
+    (λ c κs. search needs)
+    (λ c. search needs)
+    (λ c κs. search needs)
     insert-verified-with-path-mtu-unchecked-requires
-    verified-reply-requires
-    same-length
+    (λ c κs. search needs)
+    (λ c. search needs)
     returns)

@@ -14,18 +14,12 @@ use Rattle.writing.proofs.on_sound.Tie as tie
 hint-requires : tie.Need-hint-requires
 hint-requires c κs = (c .before .before .before .before .pre .0, c .before .before .before .before .pre .1, c .before .before .before .before .pre .2, c .before .before .before .before .pre .3, c .before .if1 .taken)
 
-same-length : tie.Need-same-length
-same-length c = search needs
-
 returns : tie.Need-returns
 returns c = c .before .before .hint .ensures
 
 insert-verified-requires : tie.Need-insert-verified-requires
 unfolding widthOf codeOf codes code
 insert-verified-requires c κs = (c .before .before .before .before .before .pre .0, there (c .before .before .before .before .before .args .code) 24 (c .before .before .before .before .before .args .at) (c .before .before .before .before .before .args .input .now) (ap widthOf (c .before .if2 .taken)) (c .before .before .before .before .before .pre .1) (omega arith))
-
-same-length-2 : tie.Need-same-length-2
-same-length-2 c = search needs
 
 returns-2 : tie.Need-returns-2
 unfolding reads codeOf codes code
@@ -39,9 +33,6 @@ insert-verified-with-path-mtu-requires c κs =
     let z : c .before .before .before .before .before .args .code ≡ 0x15 = omega (arith, past (c .before .before .before .before .before .args .code) 0x14 (c .before .before .if1 .left) (c .before .if2 .left), c .before .before .before .before .before .pre .4) in
     (c .before .before .before .before .before .pre .0, there (c .before .before .before .before .before .args .code) 26 (c .before .before .before .before .before .args .at) (c .before .before .before .before .before .args .input .now) (ap widthOf z) (c .before .before .before .before .before .pre .1) (omega arith))
 
-same-length-3 : tie.Need-same-length-3
-same-length-3 c = search needs
-
 returns-3 : tie.Need-returns-3
 unfolding reads codeOf codes code
 returns-3 c =
@@ -54,11 +45,11 @@ on-sound-spec =
     tie.close
     (tie.spec
     hint-requires
-    same-length
+    (λ c. search needs)
     returns
     insert-verified-requires
-    same-length-2
+    (λ c. search needs)
     returns-2
     insert-verified-with-path-mtu-requires
-    same-length-3
+    (λ c. search needs)
     returns-3)

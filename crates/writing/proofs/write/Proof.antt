@@ -12,16 +12,10 @@ use Rattle.writing.proofs.write.Tie as tie
 bad-kind-requires : tie.Need-bad-kind-requires
 bad-kind-requires c κs = c .before .before .pre .1
 
-refused-requires : tie.Need-refused-requires
-refused-requires c κs = search needs
-
 returns : tie.Need-returns
 returns c =
     let a = c .before .before .before .before .before .args in
     bad-says (held (a .state .now) (a .pending)) (a .code) (drop (a .at) (a .input .now)) _ (sym (c .before .before .bad-kind .ensures) ∙ c .before .if1 .taken) (c .refused .ensures)
-
-refused-requires-2 : tie.Need-refused-requires-2
-refused-requires-2 c κs = search needs
 
 returns-2 : tie.Need-returns-2
 returns-2 c =
@@ -33,9 +27,6 @@ returns-2 c =
 on-sound-requires : tie.Need-on-sound-requires
 on-sound-requires c κs = (sym (c .before .before .before .before .before .before .pre .0) ∙ not-false _ (c .before .if2 .left), c .before .before .before .before .before .before .pre .1, sym (c .before .before .before .bad-kind .ensures) ∙ c .before .before .if1 .left, c .before .before .before .before .before .before .pre .2, c .before .before .before .before .before .before .pre .3)
 
-same-length : tie.Need-same-length
-same-length c = search needs
-
 returns-3 : tie.Need-returns-3
 returns-3 c = c .before .before .on-sound .ensures
 
@@ -44,10 +35,10 @@ write-spec =
     tie.close
     (tie.spec
     bad-kind-requires
-    refused-requires
+    (λ c κs. search needs)
     returns
-    refused-requires-2
+    (λ c κs. search needs)
     returns-2
     on-sound-requires
-    same-length
+    (λ c. search needs)
     returns-3)

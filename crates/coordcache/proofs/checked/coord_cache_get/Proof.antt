@@ -6,15 +6,6 @@ use borrow.Author.Needs.{needs}
 use Rattle.coordcache.proofs.checked.coord_cache_get.Statement.{statement}
 use Rattle.coordcache.proofs.checked.coord_cache_get.Tie as tie
 
-is-sound-requires : tie.Need-is-sound-requires
-is-sound-requires c κs = search needs
-
-refused-requires : tie.Need-refused-requires
-refused-requires c κs = search needs
-
-tell-requires : tie.Need-tell-requires
-tell-requires c κs = search needs
-
 returns : tie.Need-returns
 returns c =
     let s = c .before .before .before .before .before .before .args in
@@ -31,9 +22,9 @@ pub coord-cache-get-spec : {M : Type 1} → statement M
 coord-cache-get-spec =
     tie.close
     (tie.spec
-    is-sound-requires
-    refused-requires
-    tell-requires
+    (λ c κs. search needs)
+    (λ c κs. search needs)
+    (λ c κs. search needs)
     returns
     coord-cache-get-unchecked-requires
     returns-2)

@@ -6,24 +6,6 @@ use borrow.Author.Needs.{needs}
 use Rattle.coordcache.proofs.checked.coord_cache_insert_verified.Statement.{statement}
 use Rattle.coordcache.proofs.checked.coord_cache_insert_verified.Tie as tie
 
-address-requires : tie.Need-address-requires
-address-requires c κs = search needs
-
-path-from-requires : tie.Need-path-from-requires
-path-from-requires c κs = search needs
-
-insert-verified-requires : tie.Need-insert-verified-requires
-insert-verified-requires c κs = search needs
-
-verified-reply-requires : tie.Need-verified-reply-requires
-verified-reply-requires c κs = search needs
-
-tell-requires : tie.Need-tell-requires
-tell-requires c κs = search needs
-
-same-length : tie.Need-same-length
-same-length c = search needs
-
 returns : tie.Need-returns
 returns c =
     let s = c .before .before .before .before .before .before .before .before .before .before .before .args in
@@ -33,10 +15,10 @@ pub coord-cache-insert-verified-spec : {M : Type 1} → statement M
 coord-cache-insert-verified-spec =
     tie.close
     (tie.spec
-    address-requires
-    path-from-requires
-    insert-verified-requires
-    verified-reply-requires
-    tell-requires
-    same-length
+    (λ c κs. search needs)
+    (λ c κs. search needs)
+    (λ c κs. search needs)
+    (λ c κs. search needs)
+    (λ c κs. search needs)
+    (λ c. search needs)
     returns)

@@ -6,24 +6,6 @@ use borrow.Author.Needs.{needs}
 use Rattle.coordcache.proofs.checked.coord_cache_insert_verified_with_path_mtu.Statement.{statement}
 use Rattle.coordcache.proofs.checked.coord_cache_insert_verified_with_path_mtu.Tie as tie
 
-address-requires : tie.Need-address-requires
-address-requires c κs = search needs
-
-path-from-requires : tie.Need-path-from-requires
-path-from-requires c κs = search needs
-
-insert-verified-with-path-mtu-requires : tie.Need-insert-verified-with-path-mtu-requires
-insert-verified-with-path-mtu-requires c κs = search needs
-
-verified-reply-requires : tie.Need-verified-reply-requires
-verified-reply-requires c κs = search needs
-
-tell-requires : tie.Need-tell-requires
-tell-requires c κs = search needs
-
-same-length : tie.Need-same-length
-same-length c = search needs
-
 returns : tie.Need-returns
 returns c =
     let s = c .before .before .before .before .before .before .before .before .before .before .before .args in
@@ -33,10 +15,10 @@ pub coord-cache-insert-verified-with-path-mtu-spec : {M : Type 1} → statement 
 coord-cache-insert-verified-with-path-mtu-spec =
     tie.close
     (tie.spec
-    address-requires
-    path-from-requires
-    insert-verified-with-path-mtu-requires
-    verified-reply-requires
-    tell-requires
-    same-length
+    (λ c κs. search needs)
+    (λ c κs. search needs)
+    (λ c κs. search needs)
+    (λ c κs. search needs)
+    (λ c κs. search needs)
+    (λ c. search needs)
     returns)

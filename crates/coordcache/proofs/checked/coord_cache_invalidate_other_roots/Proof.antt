@@ -6,21 +6,6 @@ use borrow.Author.Needs.{needs}
 use Rattle.coordcache.proofs.checked.coord_cache_invalidate_other_roots.Statement.{statement}
 use Rattle.coordcache.proofs.checked.coord_cache_invalidate_other_roots.Tie as tie
 
-address-requires : tie.Need-address-requires
-address-requires c κs = search needs
-
-invalidate-other-roots-requires : tie.Need-invalidate-other-roots-requires
-invalidate-other-roots-requires c κs = search needs
-
-sweep-reply-requires : tie.Need-sweep-reply-requires
-sweep-reply-requires c κs = search needs
-
-tell-requires : tie.Need-tell-requires
-tell-requires c κs = search needs
-
-same-length : tie.Need-same-length
-same-length c = search needs
-
 returns : tie.Need-returns
 returns c =
     let s = c .before .before .before .before .before .before .before .before .before .args in
@@ -30,9 +15,9 @@ pub coord-cache-invalidate-other-roots-spec : {M : Type 1} → statement M
 coord-cache-invalidate-other-roots-spec =
     tie.close
     (tie.spec
-    address-requires
-    invalidate-other-roots-requires
-    sweep-reply-requires
-    tell-requires
-    same-length
+    (λ c κs. search needs)
+    (λ c κs. search needs)
+    (λ c κs. search needs)
+    (λ c κs. search needs)
+    (λ c. search needs)
     returns)

@@ -6,18 +6,6 @@ use borrow.Author.Needs.{needs}
 use Rattle.coordcache.proofs.checked.coord_cache_purge_expired.Statement.{statement}
 use Rattle.coordcache.proofs.checked.coord_cache_purge_expired.Tie as tie
 
-purge-expired-requires : tie.Need-purge-expired-requires
-purge-expired-requires c κs = search needs
-
-sweep-reply-requires : tie.Need-sweep-reply-requires
-sweep-reply-requires c κs = search needs
-
-tell-requires : tie.Need-tell-requires
-tell-requires c κs = search needs
-
-same-length : tie.Need-same-length
-same-length c = search needs
-
 returns : tie.Need-returns
 returns c =
     told (call (c .before .before .before .before .before .before .before .before .args .state .now) _) (c .before .before .sweep-reply .result) _ _ _ (c .before .before .sweep-reply .ensures ∙ ap reply (c .before .before .before .before .before .purge-expired .ensures .0)) (c .tell .ensures .0) (c .tell .ensures .1) (c .before .before .before .before .before .purge-expired .ensures .1)
@@ -26,8 +14,8 @@ pub coord-cache-purge-expired-spec : {M : Type 1} → statement M
 coord-cache-purge-expired-spec =
     tie.close
     (tie.spec
-    purge-expired-requires
-    sweep-reply-requires
-    tell-requires
-    same-length
+    (λ c κs. search needs)
+    (λ c κs. search needs)
+    (λ c κs. search needs)
+    (λ c. search needs)
     returns)

@@ -6,21 +6,6 @@ use borrow.Author.Needs.{needs}
 use Rattle.coordcache.proofs.unchecked.coord_cache_get_and_touch_unchecked.Statement.{statement}
 use Rattle.coordcache.proofs.unchecked.coord_cache_get_and_touch_unchecked.Tie as tie
 
-address-requires : tie.Need-address-requires
-address-requires c κs = search needs
-
-touch-place-requires : tie.Need-touch-place-requires
-touch-place-requires c κs = search needs
-
-part-reply-requires : tie.Need-part-reply-requires
-part-reply-requires c κs = search needs
-
-tell-requires : tie.Need-tell-requires
-tell-requires c κs = search needs
-
-same-length : tie.Need-same-length
-same-length c = search needs
-
 returns : tie.Need-returns
 returns c =
     let s = c .before .before .before .before .before .before .before .before .before in
@@ -31,9 +16,9 @@ pub coord-cache-get-and-touch-unchecked-spec : {M : Type 1} → statement M
 coord-cache-get-and-touch-unchecked-spec =
     tie.close
     (tie.spec
-    address-requires
-    touch-place-requires
-    part-reply-requires
-    tell-requires
-    same-length
+    (λ c κs. search needs)
+    (λ c κs. search needs)
+    (λ c κs. search needs)
+    (λ c κs. search needs)
+    (λ c. search needs)
     returns)

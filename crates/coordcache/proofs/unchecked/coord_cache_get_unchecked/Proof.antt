@@ -4,18 +4,6 @@ use borrow.Author.Needs.{needs}
 use Rattle.coordcache.proofs.unchecked.coord_cache_get_unchecked.Statement.{statement}
 use Rattle.coordcache.proofs.unchecked.coord_cache_get_unchecked.Tie as tie
 
-address-requires : tie.Need-address-requires
-address-requires c κs = search needs
-
-get-place-requires : tie.Need-get-place-requires
-get-place-requires c κs = search needs
-
-part-reply-requires : tie.Need-part-reply-requires
-part-reply-requires c κs = search needs
-
-tell-requires : tie.Need-tell-requires
-tell-requires c κs = search needs
-
 returns : tie.Need-returns
 returns c =
     let s = c .before .before .before .before .before .before in
@@ -25,8 +13,8 @@ pub coord-cache-get-unchecked-spec : {M : Type 1} → statement M
 coord-cache-get-unchecked-spec =
     tie.close
     (tie.spec
-    address-requires
-    get-place-requires
-    part-reply-requires
-    tell-requires
+    (λ c κs. search needs)
+    (λ c κs. search needs)
+    (λ c κs. search needs)
+    (λ c κs. search needs)
     returns)

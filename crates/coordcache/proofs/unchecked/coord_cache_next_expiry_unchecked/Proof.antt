@@ -6,15 +6,6 @@ use borrow.Author.Needs.{needs}
 use Rattle.coordcache.proofs.unchecked.coord_cache_next_expiry_unchecked.Statement.{statement}
 use Rattle.coordcache.proofs.unchecked.coord_cache_next_expiry_unchecked.Tie as tie
 
-next-expiry-unchecked-requires : tie.Need-next-expiry-unchecked-requires
-next-expiry-unchecked-requires c κs = search needs
-
-expiry-reply-requires : tie.Need-expiry-reply-requires
-expiry-reply-requires c κs = search needs
-
-tell-requires : tie.Need-tell-requires
-tell-requires c κs = search needs
-
 returns : tie.Need-returns
 returns c =
     told (call (c .before .before .before .before .before .args .state .now) _) (c .before .before .expiry-reply .result) _ _ _ (c .before .before .expiry-reply .ensures ∙ ap reply (c .before .before .before .next-expiry-unchecked .ensures .0)) (c .tell .ensures .0) (c .tell .ensures .1) (c .before .before .before .next-expiry-unchecked .ensures .1)
@@ -23,7 +14,7 @@ pub coord-cache-next-expiry-unchecked-spec : {M : Type 1} → statement M
 coord-cache-next-expiry-unchecked-spec =
     tie.close
     (tie.spec
-    next-expiry-unchecked-requires
-    expiry-reply-requires
-    tell-requires
+    (λ c κs. search needs)
+    (λ c κs. search needs)
+    (λ c κs. search needs)
     returns)

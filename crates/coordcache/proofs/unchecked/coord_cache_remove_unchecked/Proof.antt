@@ -5,24 +5,6 @@ use borrow.Author.Needs.{needs}
 use Rattle.coordcache.proofs.unchecked.coord_cache_remove_unchecked.Statement.{statement}
 use Rattle.coordcache.proofs.unchecked.coord_cache_remove_unchecked.Tie as tie
 
-address-requires : tie.Need-address-requires
-address-requires c κs = search needs
-
-keep-row-requires : tie.Need-keep-row-requires
-keep-row-requires c κs = search needs
-
-remove-unchecked-requires : tie.Need-remove-unchecked-requires
-remove-unchecked-requires c κs = search needs
-
-remove-reply-requires : tie.Need-remove-reply-requires
-remove-reply-requires c κs = search needs
-
-tell-requires : tie.Need-tell-requires
-tell-requires c κs = search needs
-
-same-length : tie.Need-same-length
-same-length c = search needs
-
 returns : tie.Need-returns
 returns c =
     let s = c .before .before .before .before .before .before .before .before .before .before .before .before .args in
@@ -33,10 +15,10 @@ pub coord-cache-remove-unchecked-spec : {M : Type 1} → statement M
 coord-cache-remove-unchecked-spec =
     tie.close
     (tie.spec
-    address-requires
-    keep-row-requires
-    remove-unchecked-requires
-    remove-reply-requires
-    tell-requires
-    same-length
+    (λ c κs. search needs)
+    (λ c κs. search needs)
+    (λ c κs. search needs)
+    (λ c κs. search needs)
+    (λ c κs. search needs)
+    (λ c. search needs)
     returns)

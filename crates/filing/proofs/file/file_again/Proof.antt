@@ -73,9 +73,6 @@ draw-stamp-requires c κs =
     let v = viewRows (a .n) l in
     (omega (arith, place-inside l (a .n) (a .key) (p .index-for .result) (p .index-for .ensures)), omega (arith, one-more-fits l (a .n) (s .pre .1), w1 .insert-saved .kept .0, w2 .set-stored-weight .kept .0), omega (arith, s .pre .3, inserted-seq (w2 .before .before .stored-with .result) _ (rowOf (a .row)) v (viewRows (a .n + 1) (w1 .insert-saved .last .0)) (viewRows (a .n + 1) (w2 .set-stored-weight .last .0)) (w1 .insert-saved .ensures) (w2 .set-stored-weight .ensures)))
 
-same-length : tie.Need-same-length
-same-length c = search needs
-
 returns : tie.Need-returns
 returns c =
     let w3 = c .before .before in
@@ -104,5 +101,5 @@ file-again-spec =
     set-stored-weight-requires
     last-used-requires
     draw-stamp-requires
-    same-length
+    (λ c. search needs)
     returns)

@@ -40,9 +40,6 @@ insert-row-requires c κs =
     let p = c .before .before .before .before .before .before .before .before .before .before .before .before .index-for in
     (omega (arith, place-inside l (a .n) (a .key) (p .result) (p .ensures)), omega (arith, one-more-fits l (a .n) (c .before .before .before .before .before .before .before .before .before .before .before .before .before .before .before .pre .1), c .before .before .before .before .next-key .kept .0, c .before .before .before .before .before .before .before .before .set-stored-weight .kept .0), c .before .before .before .before .before .before .before .before .before .before .before .before .before .before .before .pre .4)
 
-same-length : tie.Need-same-length
-same-length c = search needs
-
 returns : tie.Need-returns
 unfolding rowFrom entryFrom
 returns c =
@@ -65,5 +62,5 @@ file-new-spec =
     set-stored-weight-requires
     next-key-requires
     insert-row-requires
-    same-length
+    (λ c. search needs)
     returns)

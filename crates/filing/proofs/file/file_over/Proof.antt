@@ -11,22 +11,10 @@ use borrow.Author.Needs.{needs}
 use Rattle.filing.proofs.file.file_over.Statement.{statement}
 use Rattle.filing.proofs.file.file_over.Tie as tie
 
-index-without-requires : tie.Need-index-without-requires
-index-without-requires c κs = search needs
-
-weight-with-requires : tie.Need-weight-with-requires
-weight-with-requires c κs = search needs
-
-set-stored-weight-requires : tie.Need-set-stored-weight-requires
-set-stored-weight-requires c κs = search needs
-
 next-key-requires : tie.Need-next-key-requires
 next-key-requires c κs =
     let w = c .before .before .before .set-stored-weight in
     (omega (arith, c .before .before .before .before .before .before .before .before .before .pre .0 .fits, w .kept .0), omega (arith, same-seq _ _ _ (w .ensures), c .before .before .before .before .before .before .before .before .before .pre .1))
-
-set-row-count-requires : tie.Need-set-row-count-requires
-set-row-count-requires c κs = search needs
 
 exchange-row-requires : tie.Need-exchange-row-requires
 exchange-row-requires c κs =
@@ -34,9 +22,6 @@ exchange-row-requires c κs =
     let o = c .before .before .before .before .before .before .before .before .before .before .before .before .before .before .before .before .before .before .pre .0 in
     let p = c .before .before .before .before .before .before .before .before .before .before .before .before .before .before .before .index-without in
     (o .inside, place-without (a .state .now) (a .n) (a .i) (a .key) (p .result) (o .inside) (p .ensures), omega (arith, o .fits, c .before .before .before .before .before .before .before .before .before .before .before .before .set-stored-weight .kept .0, c .before .before .before .before .before .before .before .before .next-key .kept .0, c .before .before .before .before .set-row-count .kept .0), c .before .before .before .before .before .before .before .before .before .before .before .before .before .before .before .before .before .before .pre .2)
-
-same-length : tie.Need-same-length
-same-length c = search needs
 
 returns : tie.Need-returns
 unfolding rowFrom entryFrom
@@ -56,11 +41,11 @@ pub file-over-spec : {M : Type 1} → statement M
 file-over-spec =
     tie.close
     (tie.spec
-    index-without-requires
-    weight-with-requires
-    set-stored-weight-requires
+    (λ c κs. search needs)
+    (λ c κs. search needs)
+    (λ c κs. search needs)
     next-key-requires
-    set-row-count-requires
+    (λ c κs. search needs)
     exchange-row-requires
-    same-length
+    (λ c. search needs)
     returns)

@@ -4,15 +4,6 @@ use borrow.Author.Needs.{needs}
 use Rattle.filing.proofs.file.index_for.Statement.{statement}
 use Rattle.filing.proofs.file.index_for.Tie as tie
 
-search-requires : tie.Need-search-requires
-search-requires c κs = search needs
-
-enum-known-at : tie.Need-enum-known-at
-enum-known-at c = search needs
-
-enum-known-at-2 : tie.Need-enum-known-at-2
-enum-known-at-2 c = search needs
-
 returns : tie.Need-returns
 returns c =
     let s = c .before .before .before .before .before in
@@ -23,4 +14,4 @@ returns-2 c = sym (c .before .before .before .search .ensures) ∙ c .before .at
 
 pub index-for-spec : {M : Type 1} → statement M
 index-for-spec =
-    tie.close (tie.spec search-requires enum-known-at enum-known-at-2 returns returns-2)
+    tie.close (tie.spec (λ c κs. search needs) (λ c. search needs) (λ c. search needs) returns returns-2)

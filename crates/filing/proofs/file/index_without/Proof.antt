@@ -6,12 +6,6 @@ use borrow.Author.Needs.{needs}
 use Rattle.filing.proofs.file.index_without.Statement.{statement}
 use Rattle.filing.proofs.file.index_without.Tie as tie
 
-index-for-requires : tie.Need-index-for-requires
-index-for-requires c κs = search needs
-
-sub-result : tie.Need-sub-result
-sub-result c = search needs
-
 returns : tie.Need-returns
 returns c =
     let p = c .before in
@@ -29,4 +23,4 @@ returns-2 c =
     absent-before (a .key) (viewRows (a .n) l .rows) (a .i) (p .index-for .result) (s .pre .0) (omega (arith, view-length (a .n) l, s .pre .3)) (p .index-for .ensures) (c .if1 .left)
 
 pub index-without-spec : {M : Type 1} → statement M
-index-without-spec = tie.close (tie.spec index-for-requires sub-result returns returns-2)
+index-without-spec = tie.close (tie.spec (λ c κs. search needs) (λ c. search needs) returns returns-2)

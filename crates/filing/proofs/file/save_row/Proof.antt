@@ -16,29 +16,8 @@ Inv-loop state n i at row₀ k₀ row k = (k ≤ 1095) × (length row₀ ≡ 109
 abbrev μ-loop : tie.MeasureT-loop
 μ-loop state n i at row₀ k₀ row k = 1095 - k
 
-mul-at : tie.Need-mul-at Inv-loop μ-loop
-mul-at c = search needs
-
-add-at : tie.Need-add-at Inv-loop μ-loop
-add-at c = search needs
-
 loop-holds : tie.Need-loop-holds Inv-loop μ-loop
 loop-holds c = (omega arith, length-replicate {A = ℕ} 1095 0, refl, length-replicate {A = ℕ} 1095 0, refl)
-
-add-row : tie.Need-add-row Inv-loop μ-loop
-add-row c = search needs
-
-shared-slice-read-row : tie.Need-shared-slice-read-row Inv-loop μ-loop
-shared-slice-read-row c = search needs
-
-array-write-row : tie.Need-array-write-row Inv-loop μ-loop
-array-write-row c = search needs
-
-add-k : tie.Need-add-k Inv-loop μ-loop
-add-k c = search needs
-
-loop-less : tie.Need-loop-less Inv-loop μ-loop
-loop-less c = search needs
 
 loop-again : tie.Need-loop-again Inv-loop μ-loop
 loop-again c =
@@ -64,13 +43,13 @@ save-row-spec =
     (tie.spec
     Inv-loop
     μ-loop
-    mul-at
-    add-at
+    (λ c. search needs)
+    (λ c. search needs)
     loop-holds
-    add-row
-    shared-slice-read-row
-    array-write-row
-    add-k
-    loop-less
+    (λ c. search needs)
+    (λ c. search needs)
+    (λ c. search needs)
+    (λ c. search needs)
+    (λ c. search needs)
     loop-again
     returns)

@@ -5,18 +5,12 @@ use borrow.Author.Needs.{needs}
 use Rattle.filing.proofs.refile.refile.Statement.{statement}
 use Rattle.filing.proofs.refile.refile.Tie as tie
 
-set-weight-requires : tie.Need-set-weight-requires
-set-weight-requires c κs = search needs
-
 restamp-requires : tie.Need-restamp-requires
 restamp-requires c κs =
     let w = c .before .before .before in
     let s = w .before .before .before in
     let a = s .args in
     (s .pre .0, omega (arith, s .pre .1, w .set-weight .kept .0), omega (arith, weighed-seq _ (a .i) (viewRows (a .n) (a .state .now)) (viewRows (a .n) (w .set-weight .last .0)) (w .set-weight .ensures), s .pre .2))
-
-same-length : tie.Need-same-length
-same-length c = search needs
 
 returns : tie.Need-returns
 returns c =
@@ -26,4 +20,4 @@ returns c =
     weighed-refiled (a .weight) (a .i) (viewRows (a .n) (a .state .now)) (viewRows (a .n) (w1 .set-weight .last .0)) _ (w1 .set-weight .ensures) (w2 .restamp .ensures)
 
 pub refile-spec : {M : Type 1} → statement M
-refile-spec = tie.close (tie.spec set-weight-requires restamp-requires same-length returns)
+refile-spec = tie.close (tie.spec (λ c κs. search needs) restamp-requires (λ c. search needs) returns)

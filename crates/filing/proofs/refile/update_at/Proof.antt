@@ -4,21 +4,6 @@ use borrow.Author.Needs.{needs}
 use Rattle.filing.proofs.refile.update_at.Statement.{statement}
 use Rattle.filing.proofs.refile.update_at.Tie as tie
 
-add-times-requires : tie.Need-add-times-requires
-add-times-requires c κs = search needs
-
-set-path-requires : tie.Need-set-path-requires
-set-path-requires c κs = search needs
-
-set-times-requires : tie.Need-set-times-requires
-set-times-requires c κs = search needs
-
-mark-hint-requires : tie.Need-mark-hint-requires
-mark-hint-requires c κs = search needs
-
-same-length : tie.Need-same-length
-same-length c = search needs
-
 returns : tie.Need-returns
 returns c =
     let w3 = c .before .before in
@@ -33,9 +18,9 @@ pub update-at-spec : {M : Type 1} → statement M
 update-at-spec =
     tie.close
     (tie.spec
-    add-times-requires
-    set-path-requires
-    set-times-requires
-    mark-hint-requires
-    same-length
+    (λ c κs. search needs)
+    (λ c κs. search needs)
+    (λ c κs. search needs)
+    (λ c κs. search needs)
+    (λ c. search needs)
     returns)

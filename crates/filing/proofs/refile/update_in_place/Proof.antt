@@ -7,18 +7,12 @@ use borrow.Author.Needs.{needs}
 use Rattle.filing.proofs.refile.update_in_place.Statement.{statement}
 use Rattle.filing.proofs.refile.update_in_place.Tie as tie
 
-update-at-requires : tie.Need-update-at-requires
-update-at-requires c κs = search needs
-
 refile-requires : tie.Need-refile-requires
 refile-requires c κs =
     let w = c .before .before .before in
     let s = w .before .before .before in
     let a = s .args in
     (omega (arith, s .pre .0), omega (arith, s .pre .1, w .update-at .kept .0), omega (arith, rewritten-seq _ (a .i) (viewRows (a .n) (a .state .now)) (viewRows (a .n) (w .update-at .last .0)) (w .update-at .ensures), s .pre .2))
-
-same-length : tie.Need-same-length
-same-length c = search needs
 
 returns : tie.Need-returns
 returns c =
@@ -31,4 +25,4 @@ returns c =
 
 pub update-in-place-spec : {M : Type 1} → statement M
 update-in-place-spec =
-    tie.close (tie.spec update-at-requires refile-requires same-length returns)
+    tie.close (tie.spec (λ c κs. search needs) refile-requires (λ c. search needs) returns)

@@ -9,21 +9,6 @@ use borrow.Author.Needs.{needs}
 use Rattle.insertion.proofs.exchange.exchange_row.Statement.{statement}
 use Rattle.insertion.proofs.exchange.exchange_row.Tie as tie
 
-open-place-requires : tie.Need-open-place-requires
-open-place-requires c κs = search needs
-
-mul-write-row : tie.Need-mul-write-row
-mul-write-row c = search needs
-
-add-write-row : tie.Need-add-write-row
-add-write-row c = search needs
-
-write-row-requires : tie.Need-write-row-requires
-write-row-requires c κs = search needs
-
-same-length : tie.Need-same-length
-same-length c = search needs
-
 returns : tie.Need-returns
 returns c =
     let w2 = c .before .before in
@@ -41,9 +26,9 @@ pub exchange-row-spec : {M : Type 1} → statement M
 exchange-row-spec =
     tie.close
     (tie.spec
-    open-place-requires
-    mul-write-row
-    add-write-row
-    write-row-requires
-    same-length
+    (λ c κs. search needs)
+    (λ c. search needs)
+    (λ c. search needs)
+    (λ c κs. search needs)
+    (λ c. search needs)
     returns)

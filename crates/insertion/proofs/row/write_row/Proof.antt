@@ -5,27 +5,6 @@ use borrow.Author.Needs.{needs}
 use Rattle.insertion.proofs.row.write_row.Statement.{statement}
 use Rattle.insertion.proofs.row.write_row.Tie as tie
 
-store-addr-requires : tie.Need-store-addr-requires
-store-addr-requires c κs = search needs
-
-add-store-path : tie.Need-add-store-path
-add-store-path c = search needs
-
-store-path-requires : tie.Need-store-path-requires
-store-path-requires c κs = search needs
-
-add-write-times : tie.Need-add-write-times
-add-write-times c = search needs
-
-write-times-requires : tie.Need-write-times-requires
-write-times-requires c κs = search needs
-
-add-write-marks : tie.Need-add-write-marks
-add-write-marks c = search needs
-
-write-marks-requires : tie.Need-write-marks-requires
-write-marks-requires c κs = search needs
-
 add-write-stamp : tie.Need-add-write-stamp
 add-write-stamp c =
     let w2 = c .before .before .before .before .before .before .before .before .before .before .before in
@@ -66,13 +45,13 @@ pub write-row-spec : {M : Type 1} → statement M
 write-row-spec =
     tie.close
     (tie.spec
-    store-addr-requires
-    add-store-path
-    store-path-requires
-    add-write-times
-    write-times-requires
-    add-write-marks
-    write-marks-requires
+    (λ c κs. search needs)
+    (λ c. search needs)
+    (λ c κs. search needs)
+    (λ c. search needs)
+    (λ c κs. search needs)
+    (λ c. search needs)
+    (λ c κs. search needs)
     add-write-stamp
     write-stamp-requires
     same-length

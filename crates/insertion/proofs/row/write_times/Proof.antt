@@ -7,24 +7,6 @@ use borrow.Author.Needs.{needs}
 use Rattle.insertion.proofs.row.write_times.Statement.{statement}
 use Rattle.insertion.proofs.row.write_times.Tie as tie
 
-write-u64-requires : tie.Need-write-u64-requires
-write-u64-requires c κs = search needs
-
-add-write-u64 : tie.Need-add-write-u64
-add-write-u64 c = search needs
-
-write-u64-requires-2 : tie.Need-write-u64-requires-2
-write-u64-requires-2 c κs = search needs
-
-add-write-u64-2 : tie.Need-add-write-u64-2
-add-write-u64-2 c = search needs
-
-write-u64-requires-3 : tie.Need-write-u64-requires-3
-write-u64-requires-3 c κs = search needs
-
-same-length : tie.Need-same-length
-same-length c = search needs
-
 returns : tie.Need-returns
 returns c =
     let w3 = c .before .before in
@@ -38,10 +20,10 @@ pub write-times-spec : {M : Type 1} → statement M
 write-times-spec =
     tie.close
     (tie.spec
-    write-u64-requires
-    add-write-u64
-    write-u64-requires-2
-    add-write-u64-2
-    write-u64-requires-3
-    same-length
+    (λ c κs. search needs)
+    (λ c. search needs)
+    (λ c κs. search needs)
+    (λ c. search needs)
+    (λ c κs. search needs)
+    (λ c. search needs)
     returns)

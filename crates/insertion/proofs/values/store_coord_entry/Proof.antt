@@ -8,24 +8,6 @@ use borrow.Author.Needs.{needs}
 use Rattle.insertion.proofs.values.store_coord_entry.Statement.{statement}
 use Rattle.insertion.proofs.values.store_coord_entry.Tie as tie
 
-store-addr-requires : tie.Need-store-addr-requires
-store-addr-requires c κs = search needs
-
-add-write-u64 : tie.Need-add-write-u64
-add-write-u64 c = search needs
-
-write-u64-requires : tie.Need-write-u64-requires
-write-u64-requires c κs = search needs
-
-add-write-u64-2 : tie.Need-add-write-u64-2
-add-write-u64-2 c = search needs
-
-write-u64-requires-2 : tie.Need-write-u64-requires-2
-write-u64-requires-2 c κs = search needs
-
-same-length : tie.Need-same-length
-same-length c = search needs
-
 returns : tie.Need-returns
 unfolding coordEntriesBytes
 returns c =
@@ -42,10 +24,10 @@ pub store-coord-entry-spec : {M : Type 1} → statement M
 store-coord-entry-spec =
     tie.close
     (tie.spec
-    store-addr-requires
-    add-write-u64
-    write-u64-requires
-    add-write-u64-2
-    write-u64-requires-2
-    same-length
+    (λ c κs. search needs)
+    (λ c. search needs)
+    (λ c κs. search needs)
+    (λ c. search needs)
+    (λ c κs. search needs)
+    (λ c. search needs)
     returns)

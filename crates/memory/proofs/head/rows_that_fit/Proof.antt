@@ -8,12 +8,9 @@ returns : tie.Need-returns
 unfolding capacity
 returns c = omega arith
 
-sub-result : tie.Need-sub-result
-sub-result c = search needs
-
 returns-2 : tie.Need-returns-2
 unfolding capacity
 returns-2 c = omega arith
 
 pub rows-that-fit-spec : {M : Type 1} → statement M
-rows-that-fit-spec = tie.close (tie.spec returns sub-result returns-2)
+rows-that-fit-spec = tie.close (tie.spec returns (λ c. search needs) returns-2)

@@ -4,16 +4,10 @@ use borrow.Author.Needs.{needs}
 use Rattle.memory.proofs.head.set_stored_weight.Statement.{statement}
 use Rattle.memory.proofs.head.set_stored_weight.Tie as tie
 
-write-u64-requires : tie.Need-write-u64-requires
-write-u64-requires c κs = search needs
-
-same-length : tie.Need-same-length
-same-length c = search needs
-
 returns : tie.Need-returns
 returns c =
     let s = c .before .before .before .before .before in
     rw (c .before .before .write-u64 .ensures) (stored-weight-view (s .args .n) (s .args .state .now) (s .args .v) (small8 (s .args .v) (s .fits .v .fits)) (s .pre))
 
 pub set-stored-weight-spec : {M : Type 1} → statement M
-set-stored-weight-spec = tie.close (tie.spec write-u64-requires same-length returns)
+set-stored-weight-spec = tie.close (tie.spec (λ c κs. search needs) (λ c. search needs) returns)

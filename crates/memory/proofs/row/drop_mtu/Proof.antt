@@ -4,15 +4,9 @@ use borrow.Author.Needs.{needs}
 use Rattle.memory.proofs.row.drop_mtu.Statement.{statement}
 use Rattle.memory.proofs.row.drop_mtu.Tie as tie
 
-set-mtu-requires : tie.Need-set-mtu-requires
-set-mtu-requires c κs = search needs
-
-same-length : tie.Need-same-length
-same-length c = search needs
-
 returns : tie.Need-returns
 unfolding dropMtu withMtu
 returns c = c .before .before .set-mtu .ensures
 
 pub drop-mtu-spec : {M : Type 1} → statement M
-drop-mtu-spec = tie.close (tie.spec set-mtu-requires same-length returns)
+drop-mtu-spec = tie.close (tie.spec (λ c κs. search needs) (λ c. search needs) returns)

@@ -6,18 +6,6 @@ use borrow.Author.Needs.{needs}
 use Rattle.memory.proofs.row.expires_at.Statement.{statement}
 use Rattle.memory.proofs.row.expires_at.Tie as tie
 
-mul-read-u64 : tie.Need-mul-read-u64
-mul-read-u64 c = search needs
-
-add-read-u64 : tie.Need-add-read-u64
-add-read-u64 c = search needs
-
-add-read-u64-2 : tie.Need-add-read-u64-2
-add-read-u64-2 c = search needs
-
-read-u64-requires : tie.Need-read-u64-requires
-read-u64-requires c κs = search needs
-
 returns : tie.Need-returns
 unfolding entryOf pathOf
 returns c =
@@ -26,4 +14,4 @@ returns c =
 
 pub expires-at-spec : {M : Type 1} → statement M
 expires-at-spec =
-    tie.close (tie.spec mul-read-u64 add-read-u64 add-read-u64-2 read-u64-requires returns)
+    tie.close (tie.spec (λ c. search needs) (λ c. search needs) (λ c. search needs) (λ c κs. search needs) returns)

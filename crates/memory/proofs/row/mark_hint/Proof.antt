@@ -4,15 +4,9 @@ use borrow.Author.Needs.{needs}
 use Rattle.memory.proofs.row.mark_hint.Statement.{statement}
 use Rattle.memory.proofs.row.mark_hint.Tie as tie
 
-set-source-requires : tie.Need-set-source-requires
-set-source-requires c κs = search needs
-
-same-length : tie.Need-same-length
-same-length c = search needs
-
 returns : tie.Need-returns
 unfolding markHint withSource
 returns c = c .before .before .set-source .ensures
 
 pub mark-hint-spec : {M : Type 1} → statement M
-mark-hint-spec = tie.close (tie.spec set-source-requires same-length returns)
+mark-hint-spec = tie.close (tie.spec (λ c κs. search needs) (λ c. search needs) returns)

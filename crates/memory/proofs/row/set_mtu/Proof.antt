@@ -10,33 +10,6 @@ use Rattle.memory.proofs.row.set_mtu.Tie as tie
 small2 : (v : ℕ) → v < 65536 → Small 2 v
 small2 v h = omega arith
 
-mul-write-u8 : tie.Need-mul-write-u8
-mul-write-u8 c = search needs
-
-add-write-u8 : tie.Need-add-write-u8
-add-write-u8 c = search needs
-
-add-write-u8-2 : tie.Need-add-write-u8-2
-add-write-u8-2 c = search needs
-
-write-u8-requires : tie.Need-write-u8-requires
-write-u8-requires c κs = search needs
-
-mul-write-u16 : tie.Need-mul-write-u16
-mul-write-u16 c = search needs
-
-add-write-u16 : tie.Need-add-write-u16
-add-write-u16 c = search needs
-
-add-write-u16-2 : tie.Need-add-write-u16-2
-add-write-u16-2 c = search needs
-
-write-u16-requires : tie.Need-write-u16-requires
-write-u16-requires c κs = search needs
-
-same-length : tie.Need-same-length
-same-length c = search needs
-
 returns : tie.Need-returns
 returns c =
     let s = c .before .before .before .before .before .before .before .before .before in
@@ -46,13 +19,13 @@ pub set-mtu-spec : {M : Type 1} → statement M
 set-mtu-spec =
     tie.close
     (tie.spec
-    mul-write-u8
-    add-write-u8
-    add-write-u8-2
-    write-u8-requires
-    mul-write-u16
-    add-write-u16
-    add-write-u16-2
-    write-u16-requires
-    same-length
+    (λ c. search needs)
+    (λ c. search needs)
+    (λ c. search needs)
+    (λ c κs. search needs)
+    (λ c. search needs)
+    (λ c. search needs)
+    (λ c. search needs)
+    (λ c κs. search needs)
+    (λ c. search needs)
     returns)

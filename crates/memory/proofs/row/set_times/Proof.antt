@@ -4,33 +4,6 @@ use borrow.Author.Needs.{needs}
 use Rattle.memory.proofs.row.set_times.Statement.{statement}
 use Rattle.memory.proofs.row.set_times.Tie as tie
 
-mul-write-u64 : tie.Need-mul-write-u64
-mul-write-u64 c = search needs
-
-add-write-u64 : tie.Need-add-write-u64
-add-write-u64 c = search needs
-
-add-write-u64-2 : tie.Need-add-write-u64-2
-add-write-u64-2 c = search needs
-
-write-u64-requires : tie.Need-write-u64-requires
-write-u64-requires c κs = search needs
-
-mul-write-u64-2 : tie.Need-mul-write-u64-2
-mul-write-u64-2 c = search needs
-
-add-write-u64-3 : tie.Need-add-write-u64-3
-add-write-u64-3 c = search needs
-
-add-write-u64-4 : tie.Need-add-write-u64-4
-add-write-u64-4 c = search needs
-
-write-u64-requires-2 : tie.Need-write-u64-requires-2
-write-u64-requires-2 c κs = search needs
-
-same-length : tie.Need-same-length
-same-length c = search needs
-
 returns : tie.Need-returns
 returns c =
     let s = c .before .before .before .before .before .before .before .before .before in
@@ -40,13 +13,13 @@ pub set-times-spec : {M : Type 1} → statement M
 set-times-spec =
     tie.close
     (tie.spec
-    mul-write-u64
-    add-write-u64
-    add-write-u64-2
-    write-u64-requires
-    mul-write-u64-2
-    add-write-u64-3
-    add-write-u64-4
-    write-u64-requires-2
-    same-length
+    (λ c. search needs)
+    (λ c. search needs)
+    (λ c. search needs)
+    (λ c κs. search needs)
+    (λ c. search needs)
+    (λ c. search needs)
+    (λ c. search needs)
+    (λ c κs. search needs)
+    (λ c. search needs)
     returns)

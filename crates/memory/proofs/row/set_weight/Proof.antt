@@ -4,21 +4,6 @@ use borrow.Author.Needs.{needs}
 use Rattle.memory.proofs.row.set_weight.Statement.{statement}
 use Rattle.memory.proofs.row.set_weight.Tie as tie
 
-mul-write-u8 : tie.Need-mul-write-u8
-mul-write-u8 c = search needs
-
-add-write-u8 : tie.Need-add-write-u8
-add-write-u8 c = search needs
-
-add-write-u8-2 : tie.Need-add-write-u8-2
-add-write-u8-2 c = search needs
-
-write-u8-requires : tie.Need-write-u8-requires
-write-u8-requires c κs = search needs
-
-same-length : tie.Need-same-length
-same-length c = search needs
-
 returns : tie.Need-returns
 returns c =
     let w = c .before .before in
@@ -29,4 +14,4 @@ returns c =
 pub set-weight-spec : {M : Type 1} → statement M
 set-weight-spec =
     tie.close
-    (tie.spec mul-write-u8 add-write-u8 add-write-u8-2 write-u8-requires same-length returns)
+    (tie.spec (λ c. search needs) (λ c. search needs) (λ c. search needs) (λ c κs. search needs) (λ c. search needs) returns)

@@ -15,38 +15,8 @@ Inv-loop state₀ n i j from to k₀ state k = (k ≤ 1095) × (length state ≡
 abbrev μ-loop : tie.MeasureT-loop
 μ-loop state₀ n i j from to k₀ state k = 1095 - k
 
-mul-from : tie.Need-mul-from Inv-loop μ-loop
-mul-from c = search needs
-
-add-from : tie.Need-add-from Inv-loop μ-loop
-add-from c = search needs
-
-mul-to : tie.Need-mul-to Inv-loop μ-loop
-mul-to c = search needs
-
-add-to : tie.Need-add-to Inv-loop μ-loop
-add-to c = search needs
-
 loop-holds : tie.Need-loop-holds Inv-loop μ-loop
 loop-holds c = (omega arith, refl, refl, refl, refl)
-
-add-state : tie.Need-add-state Inv-loop μ-loop
-add-state c = search needs
-
-slice-read-state : tie.Need-slice-read-state Inv-loop μ-loop
-slice-read-state c = search needs
-
-add-state-2 : tie.Need-add-state-2 Inv-loop μ-loop
-add-state-2 c = search needs
-
-slice-write-state : tie.Need-slice-write-state Inv-loop μ-loop
-slice-write-state c = search needs
-
-add-k : tie.Need-add-k Inv-loop μ-loop
-add-k c = search needs
-
-loop-less : tie.Need-loop-less Inv-loop μ-loop
-loop-less c = search needs
 
 loop-again : tie.Need-loop-again Inv-loop μ-loop
 loop-again c =
@@ -71,17 +41,17 @@ copy-row-spec =
     (tie.spec
     Inv-loop
     μ-loop
-    mul-from
-    add-from
-    mul-to
-    add-to
+    (λ c. search needs)
+    (λ c. search needs)
+    (λ c. search needs)
+    (λ c. search needs)
     loop-holds
-    add-state
-    slice-read-state
-    add-state-2
-    slice-write-state
-    add-k
-    loop-less
+    (λ c. search needs)
+    (λ c. search needs)
+    (λ c. search needs)
+    (λ c. search needs)
+    (λ c. search needs)
+    (λ c. search needs)
     loop-again
     same-length
     returns)

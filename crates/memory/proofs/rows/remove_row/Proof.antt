@@ -4,21 +4,6 @@ use borrow.Author.Needs.{needs}
 use Rattle.memory.proofs.rows.remove_row.Statement.{statement}
 use Rattle.memory.proofs.rows.remove_row.Tie as tie
 
-weight-without-requires : tie.Need-weight-without-requires
-weight-without-requires c κs = search needs
-
-close-gap-requires : tie.Need-close-gap-requires
-close-gap-requires c κs = search needs
-
-sub-shrink : tie.Need-sub-shrink
-sub-shrink c = search needs
-
-shrink-requires : tie.Need-shrink-requires
-shrink-requires c κs = search needs
-
-same-length : tie.Need-same-length
-same-length c = search needs
-
 returns : tie.Need-returns
 returns c =
     let s = c .before .before .before .before .before .before .before .before .before .before .before in
@@ -29,9 +14,9 @@ pub remove-row-spec : {M : Type 1} → statement M
 remove-row-spec =
     tie.close
     (tie.spec
-    weight-without-requires
-    close-gap-requires
-    sub-shrink
-    shrink-requires
-    same-length
+    (λ c κs. search needs)
+    (λ c κs. search needs)
+    (λ c. search needs)
+    (λ c κs. search needs)
+    (λ c. search needs)
     returns)

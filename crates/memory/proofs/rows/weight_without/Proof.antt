@@ -10,18 +10,6 @@ use borrow.Author.Needs.{needs}
 use Rattle.memory.proofs.rows.weight_without.Statement.{statement}
 use Rattle.memory.proofs.rows.weight_without.Tie as tie
 
-stored-weight-requires : tie.Need-stored-weight-requires
-stored-weight-requires c κs = search needs
-
-place-requires : tie.Need-place-requires
-place-requires c κs = search needs
-
-weight-requires : tie.Need-weight-requires
-weight-requires c κs = search needs
-
-wide-requires : tie.Need-wide-requires
-wide-requires c κs = search needs
-
 sub-result : tie.Need-sub-result
 sub-result c =
     let s = c .before .before .before .before .before .before in
@@ -53,10 +41,10 @@ pub weight-without-spec : {M : Type 1} → statement M
 weight-without-spec =
     tie.close
     (tie.spec
-    stored-weight-requires
-    place-requires
-    weight-requires
-    wide-requires
+    (λ c κs. search needs)
+    (λ c κs. search needs)
+    (λ c κs. search needs)
+    (λ c κs. search needs)
     sub-result
     returns
     returns-2)

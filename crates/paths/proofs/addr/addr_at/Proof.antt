@@ -16,24 +16,6 @@ Inv-loop state at x same₀ i₀ same i = (i ≤ 16) × (length x ≡ 16) × (sa
 abbrev μ-loop : tie.MeasureT-loop
 μ-loop state at x same₀ i₀ same i = 16 - i
 
-loop-holds : tie.Need-loop-holds Inv-loop μ-loop
-loop-holds c = search needs
-
-array-read-same : tie.Need-array-read-same Inv-loop μ-loop
-array-read-same c = search needs
-
-add-same : tie.Need-add-same Inv-loop μ-loop
-add-same c = search needs
-
-shared-slice-read-same : tie.Need-shared-slice-read-same Inv-loop μ-loop
-shared-slice-read-same c = search needs
-
-add-i : tie.Need-add-i Inv-loop μ-loop
-add-i c = search needs
-
-loop-less : tie.Need-loop-less Inv-loop μ-loop
-loop-less c = search needs
-
 loop-again : tie.Need-loop-again Inv-loop μ-loop
 loop-again c =
     let s = c .before .before .before .before .args in
@@ -53,11 +35,11 @@ addr-at-spec =
     (tie.spec
     Inv-loop
     μ-loop
-    loop-holds
-    array-read-same
-    add-same
-    shared-slice-read-same
-    add-i
-    loop-less
+    (λ c. search needs)
+    (λ c. search needs)
+    (λ c. search needs)
+    (λ c. search needs)
+    (λ c. search needs)
+    (λ c. search needs)
     loop-again
     returns)

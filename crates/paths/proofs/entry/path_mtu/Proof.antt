@@ -5,12 +5,6 @@ use Rattle.paths.proofs.Values.{mtu-known, mtu-unknown}
 use Rattle.paths.proofs.entry.path_mtu.Statement.{statement}
 use Rattle.paths.proofs.entry.path_mtu.Tie as tie
 
-mtu-mark-requires : tie.Need-mtu-mark-requires
-mtu-mark-requires c κs = search needs
-
-mtu-requires : tie.Need-mtu-requires
-mtu-requires c κs = search needs
-
 returns : tie.Need-returns
 returns c =
     let m = c .before .before in
@@ -24,4 +18,4 @@ returns-2 c =
     mtu-unknown (rowAt (s .i) (viewRows (s .n) (s .state .now) .rows) .entry) (m .mtu-mark .ensures) (c .if1 .left)
 
 pub path-mtu-spec : {M : Type 1} → statement M
-path-mtu-spec = tie.close (tie.spec mtu-mark-requires mtu-requires returns returns-2)
+path-mtu-spec = tie.close (tie.spec (λ c κs. search needs) (λ c κs. search needs) returns returns-2)

@@ -4,12 +4,6 @@ use borrow.Author.Needs.{needs}
 use Rattle.paths.proofs.path.held_elements.Statement.{statement}
 use Rattle.paths.proofs.path.held_elements.Tie as tie
 
-path-len-requires : tie.Need-path-len-requires
-path-len-requires c κs = search needs
-
-cast-len : tie.Need-cast-len
-cast-len c = search needs
-
 returns : tie.Need-returns
 returns c =
     let s = c .before .before .before in
@@ -23,4 +17,4 @@ returns-2 c =
     (omega (arith, e, c .before .path-len .ensures), omega arith)
 
 pub held-elements-spec : {M : Type 1} → statement M
-held-elements-spec = tie.close (tie.spec path-len-requires cast-len returns returns-2)
+held-elements-spec = tie.close (tie.spec (λ c κs. search needs) (λ c. search needs) returns returns-2)

@@ -17,38 +17,8 @@ Inv-loop state n i places entries₀ place₀ entries place = (place ≤ 32) × 
 abbrev μ-loop : tie.MeasureT-loop
 μ-loop state n i places entries₀ place₀ entries place = 32 - place
 
-mul-places : tie.Need-mul-places Inv-loop μ-loop
-mul-places c = search needs
-
-add-places : tie.Need-add-places Inv-loop μ-loop
-add-places c = search needs
-
-add-places-2 : tie.Need-add-places-2 Inv-loop μ-loop
-add-places-2 c = search needs
-
 loop-holds : tie.Need-loop-holds Inv-loop μ-loop
 loop-holds c = (omega arith, refl, refl, refl)
-
-mul-load-coord-entry : tie.Need-mul-load-coord-entry Inv-loop μ-loop
-mul-load-coord-entry c = search needs
-
-add-load-coord-entry : tie.Need-add-load-coord-entry Inv-loop μ-loop
-add-load-coord-entry c = search needs
-
-load-coord-entry-requires : tie.Need-load-coord-entry-requires Inv-loop μ-loop
-load-coord-entry-requires c κs = search needs
-
-mul-entries : tie.Need-mul-entries Inv-loop μ-loop
-mul-entries c = search needs
-
-array-set-from-entries : tie.Need-array-set-from-entries Inv-loop μ-loop
-array-set-from-entries c = search needs
-
-add-place : tie.Need-add-place Inv-loop μ-loop
-add-place c = search needs
-
-loop-less : tie.Need-loop-less Inv-loop μ-loop
-loop-less c = search needs
 
 loop-again : tie.Need-loop-again Inv-loop μ-loop
 loop-again c =
@@ -56,12 +26,6 @@ loop-again c =
     let s = p .before .before in
     let n = places-length (s .args .n) (s .args .i) (s .args .state .now) (s .pre .0) in
     (omega arith, p .loop .inv .1, stored (rowPath (s .args .n) (s .args .i) (s .args .state .now) .entries) _ (p .loop .entries) (p .loop .place) (c .load-coord-entry .result) (c .load-coord-entry .result) (p .loop .inv .2) (c .load-coord-entry .ensures ∙ sym (place-at (s .args .n) (s .args .i) (s .args .state .now) (s .pre .0) (p .loop .place) _ (omega arith))) (omega arith) (omega arith), simp length-set (p .loop .inv .3))
-
-path-len-requires : tie.Need-path-len-requires Inv-loop μ-loop
-path-len-requires c κs = search needs
-
-cast-len : tie.Need-cast-len Inv-loop μ-loop
-cast-len c = search needs
 
 returns : tie.Need-returns Inv-loop μ-loop
 returns c =
@@ -76,18 +40,18 @@ load-path-spec =
     (tie.spec
     Inv-loop
     μ-loop
-    mul-places
-    add-places
-    add-places-2
+    (λ c. search needs)
+    (λ c. search needs)
+    (λ c. search needs)
     loop-holds
-    mul-load-coord-entry
-    add-load-coord-entry
-    load-coord-entry-requires
-    mul-entries
-    array-set-from-entries
-    add-place
-    loop-less
+    (λ c. search needs)
+    (λ c. search needs)
+    (λ c κs. search needs)
+    (λ c. search needs)
+    (λ c. search needs)
+    (λ c. search needs)
+    (λ c. search needs)
     loop-again
-    path-len-requires
-    cast-len
+    (λ c κs. search needs)
+    (λ c. search needs)
     returns)

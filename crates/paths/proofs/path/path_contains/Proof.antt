@@ -16,45 +16,15 @@ Inv-loop state n i a len places k₀ k = (k ≤ len) × (contains a (rowPath n i
 abbrev μ-loop : tie.MeasureT-loop
 μ-loop state n i a len places k₀ k = len - k
 
-path-len-requires : tie.Need-path-len-requires Inv-loop μ-loop
-path-len-requires c κs = search needs
-
-cast-len : tie.Need-cast-len Inv-loop μ-loop
-cast-len c = search needs
-
-mul-places : tie.Need-mul-places Inv-loop μ-loop
-mul-places c = search needs
-
-add-places : tie.Need-add-places Inv-loop μ-loop
-add-places c = search needs
-
-add-places-2 : tie.Need-add-places-2 Inv-loop μ-loop
-add-places-2 c = search needs
-
 loop-holds : tie.Need-loop-holds Inv-loop μ-loop
 unfolding contains
 loop-holds c = search needs
-
-mul-addr-at : tie.Need-mul-addr-at Inv-loop μ-loop
-mul-addr-at c = search needs
-
-add-addr-at : tie.Need-add-addr-at Inv-loop μ-loop
-add-addr-at c = search needs
-
-addr-at-requires : tie.Need-addr-at-requires Inv-loop μ-loop
-addr-at-requires c κs = search needs
 
 returns : tie.Need-returns Inv-loop μ-loop
 returns c =
     let p = c .before .before .before in
     let s = p .before .before .before in
     sym (p .loop .inv .1 ∙ search-hit (s .args .n) (s .args .i) (s .args .state .now) (s .pre .0) (s .args .a) (p .loop .k) (s .pre .2) (omega arith) (sym (c .before .addr-at .ensures) ∙ c .if1 .taken))
-
-add-k : tie.Need-add-k Inv-loop μ-loop
-add-k c = search needs
-
-loop-less : tie.Need-loop-less Inv-loop μ-loop
-loop-less c = search needs
 
 loop-again : tie.Need-loop-again Inv-loop μ-loop
 loop-again c =
@@ -74,17 +44,17 @@ path-contains-spec =
     (tie.spec
     Inv-loop
     μ-loop
-    path-len-requires
-    cast-len
-    mul-places
-    add-places
-    add-places-2
+    (λ c κs. search needs)
+    (λ c. search needs)
+    (λ c. search needs)
+    (λ c. search needs)
+    (λ c. search needs)
     loop-holds
-    mul-addr-at
-    add-addr-at
-    addr-at-requires
+    (λ c. search needs)
+    (λ c. search needs)
+    (λ c κs. search needs)
     returns
-    add-k
-    loop-less
+    (λ c. search needs)
+    (λ c. search needs)
     loop-again
     returns-2)

@@ -18,57 +18,21 @@ Inv-loop state n i path held places k₀ k = (k ≤ held) × (samePath (rowPath 
 abbrev μ-loop : tie.MeasureT-loop
 μ-loop state n i path held places k₀ k = held - k
 
-held-elements-requires : tie.Need-held-elements-requires Inv-loop μ-loop
-held-elements-requires c κs = search needs
-
-count-requires : tie.Need-count-requires Inv-loop μ-loop
-count-requires c κs = search needs
-
 returns : tie.Need-returns Inv-loop μ-loop
 unfolding samePath
 returns c =
     let s = c .before .before .before .before .args in
     sym (lengths-differ (elements (rowPath (s .n) (s .i) (s .state .now))) (elements (s .t4)) (λ e. c .if1 .taken (c .before .before .held-elements .ensures .0 ∙ e ∙ sym (c .before .count .ensures .0))))
 
-mul-places : tie.Need-mul-places Inv-loop μ-loop
-mul-places c = search needs
-
-add-places : tie.Need-add-places Inv-loop μ-loop
-add-places c = search needs
-
-add-places-2 : tie.Need-add-places-2 Inv-loop μ-loop
-add-places-2 c = search needs
-
 loop-holds : tie.Need-loop-holds Inv-loop μ-loop
 unfolding samePath
 loop-holds c = search needs
-
-mul-e : tie.Need-mul-e Inv-loop μ-loop
-mul-e c = search needs
-
-element-copy-out-e : tie.Need-element-copy-out-e Inv-loop μ-loop
-element-copy-out-e c = search needs
-
-mul-coord-entry-at : tie.Need-mul-coord-entry-at Inv-loop μ-loop
-mul-coord-entry-at c = search needs
-
-add-coord-entry-at : tie.Need-add-coord-entry-at Inv-loop μ-loop
-add-coord-entry-at c = search needs
-
-coord-entry-at-requires : tie.Need-coord-entry-at-requires Inv-loop μ-loop
-coord-entry-at-requires c κs = search needs
 
 returns-2 : tie.Need-returns-2 Inv-loop μ-loop
 returns-2 c =
     let s = c .before .before .before .before .before .before .before .before .before in
     let e = sym (c .before .coord-entry-at .ensures) ∙ not-true _ (c .if2 .taken) in
     sym (c .before .before .before .before .loop .inv .1 ∙ path-turn (s .args .n) (s .args .i) (s .args .state .now) (s .pre .0) (s .args .t4) (c .before .before .before .before .loop .k) (omega (arith, c .before .before .before .before .before .before .before .held-elements .ensures)) (omega (arith, c .before .before .before .before .before .before .before .held-elements .ensures)) (omega (arith, c .before .before .before .before .before .before .before .held-elements .ensures, c .before .before .before .before .before .before .count .ensures, c .before .before .before .before .before .if1 .left)) ∙ simp e)
-
-add-k : tie.Need-add-k Inv-loop μ-loop
-add-k c = search needs
-
-loop-less : tie.Need-loop-less Inv-loop μ-loop
-loop-less c = search needs
 
 loop-again : tie.Need-loop-again Inv-loop μ-loop
 loop-again c =
@@ -87,20 +51,20 @@ path-is-spec =
     (tie.spec
     Inv-loop
     μ-loop
-    held-elements-requires
-    count-requires
+    (λ c κs. search needs)
+    (λ c κs. search needs)
     returns
-    mul-places
-    add-places
-    add-places-2
+    (λ c. search needs)
+    (λ c. search needs)
+    (λ c. search needs)
     loop-holds
-    mul-e
-    element-copy-out-e
-    mul-coord-entry-at
-    add-coord-entry-at
-    coord-entry-at-requires
+    (λ c. search needs)
+    (λ c. search needs)
+    (λ c. search needs)
+    (λ c. search needs)
+    (λ c κs. search needs)
     returns-2
-    add-k
-    loop-less
+    (λ c. search needs)
+    (λ c. search needs)
     loop-again
     returns-3)

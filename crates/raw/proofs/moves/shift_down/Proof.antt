@@ -14,26 +14,8 @@ Inv-loop s₀ at end stop i₀ s i = (at ≤ i) × ((i ≤ stop) × ((s ≡ down
 abbrev μ-loop : tie.MeasureT-loop
 μ-loop s₀ at end stop i₀ s i = stop - i
 
-sub-stop : tie.Need-sub-stop Inv-loop μ-loop
-sub-stop c = search needs
-
 loop-holds : tie.Need-loop-holds Inv-loop μ-loop
 loop-holds c = (search needs, (search needs, (down-start _ (c .args .at) 1095, refl)))
-
-add-s : tie.Need-add-s Inv-loop μ-loop
-add-s c = search needs
-
-slice-read-s : tie.Need-slice-read-s Inv-loop μ-loop
-slice-read-s c = search needs
-
-slice-write-s : tie.Need-slice-write-s Inv-loop μ-loop
-slice-write-s c = search needs
-
-add-i : tie.Need-add-i Inv-loop μ-loop
-add-i c = search needs
-
-loop-less : tie.Need-loop-less Inv-loop μ-loop
-loop-less c = search needs
 
 loop-again : tie.Need-loop-again Inv-loop μ-loop
 loop-again c =
@@ -64,13 +46,13 @@ shift-down-spec =
     (tie.spec
     Inv-loop
     μ-loop
-    sub-stop
+    (λ c. search needs)
     loop-holds
-    add-s
-    slice-read-s
-    slice-write-s
-    add-i
-    loop-less
+    (λ c. search needs)
+    (λ c. search needs)
+    (λ c. search needs)
+    (λ c. search needs)
+    (λ c. search needs)
     loop-again
     same-length
     returns)

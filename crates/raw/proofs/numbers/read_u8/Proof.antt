@@ -4,11 +4,8 @@ use Rattle.raw.proofs.NumberLaws.{byte-number}
 use Rattle.raw.proofs.numbers.read_u8.Statement.{statement}
 use Rattle.raw.proofs.numbers.read_u8.Tie as tie
 
-shared-slice-read-result : tie.Need-shared-slice-read-result
-shared-slice-read-result c = search needs
-
 returns : tie.Need-returns
 returns c = byte-number (c .before .args .s .now) (c .before .args .at) (c .before .pre)
 
 pub read-u8-spec : {M : Type 1} → statement M
-read-u8-spec = tie.close (tie.spec shared-slice-read-result returns)
+read-u8-spec = tie.close (tie.spec (λ c. search needs) returns)

@@ -3,14 +3,8 @@ use borrow.Author.Needs.{needs}
 use Rattle.raw.proofs.numbers.write_u8.Statement.{statement}
 use Rattle.raw.proofs.numbers.write_u8.Tie as tie
 
-slice-write-s : tie.Need-slice-write-s
-slice-write-s c = search needs
-
-same-length : tie.Need-same-length
-same-length c = search needs
-
 returns : tie.Need-returns
 returns c = byte-store _ _ _ (c .fits .v .fits)
 
 pub write-u8-spec : {M : Type 1} → statement M
-write-u8-spec = tie.close (tie.spec slice-write-s same-length returns)
+write-u8-spec = tie.close (tie.spec (λ c. search needs) (λ c. search needs) returns)

@@ -34,21 +34,6 @@ up : (c : tie.After-victim Inv-loop μ-loop) →
     Taken (capacity (a .state .now)) (viewRows (a .n) (a .state .now)) (c .before .before .before .before .before .before .lowest-stamp .result .count) (l .examined) (viewRows (a .n) (l .state)) (c .victim .given .0 .0)
 up c = taken _ _ _ _ _ _ _ (bound (c .before .before .before .before .before .before .before .before)) (omega (arith, c .before .before .before .if1 .left)) (found-at _ _ _ (c .before .before .loop .inv .1) (c .victim .given .1)) (c .before .before .loop .inv .2) (c .before .before .before .before .before .before .before .before .before .before .before .before .pre .1)
 
-max-entries-requires : tie.Need-max-entries-requires Inv-loop μ-loop
-max-entries-requires c κs = search needs
-
-probation-bound-requires : tie.Need-probation-bound-requires Inv-loop μ-loop
-probation-bound-requires c κs = search needs
-
-lowest-stamp-requires : tie.Need-lowest-stamp-requires Inv-loop μ-loop
-lowest-stamp-requires c κs = search needs
-
-stored-weight-requires : tie.Need-stored-weight-requires Inv-loop μ-loop
-stored-weight-requires c κs = search needs
-
-same-length : tie.Need-same-length Inv-loop μ-loop
-same-length c = search needs
-
 returns : tie.Need-returns Inv-loop μ-loop
 returns c =
     let a = c .before .before .before .before .before .before .before .before .before .args in
@@ -57,19 +42,10 @@ returns c =
 loop-holds : tie.Need-loop-holds Inv-loop μ-loop
 loop-holds c = (refl, c .before .before .before .lowest-stamp .ensures .row, evict-start _ _ (viewRows (c .before .before .before .before .before .before .before .before .before .args .n) (c .before .before .before .before .before .before .before .before .before .args .state .now)) (c .before .before .before .before .before .before .before .before .before .pre .1) (c .before .before .before .lowest-stamp .ensures .count))
 
-enum-told : tie.Need-enum-told Inv-loop μ-loop
-enum-told c = search needs
-
-same-length-2 : tie.Need-same-length-2 Inv-loop μ-loop
-same-length-2 c = search needs
-
 returns-2 : tie.Need-returns-2 Inv-loop μ-loop
 returns-2 c =
     let e = c .enum-told .given .1 in
     (ap (λ (s : State). walkFrom s (c .before .before .loop .examined)) (without-none _ _ e) ∙ evict-ends _ _ _ _ _ (found-none _ _ (c .before .before .loop .inv .1) e) (c .before .before .loop .inv .2), at-none _ _ e)
-
-enum-known-victim : tie.Need-enum-known-victim Inv-loop μ-loop
-enum-known-victim c = search needs
 
 add-examined : tie.Need-add-examined Inv-loop μ-loop
 add-examined c = omega (arith, up (c .before) .fits, c .before .before .before .before .before .before .before .before .before .before .before .before .before .pre .2)
@@ -100,9 +76,6 @@ loop-again c =
     let k = c .before .before .before .before .restamp .kept .0 in
     (omega arith, c .lowest-stamp2 .ensures .row, rw (c .before .before .before .before .restamp .ensures) (up (c .before .before .before .before .before .before .before .before .before .before) .restamped (sym (c .before .before .before .before .before .before .before .is-stale .ensures) ∙ c .before .before .before .before .before .before .if2 .taken)))
 
-same-length-3 : tie.Need-same-length-3 Inv-loop μ-loop
-same-length-3 c = search needs
-
 returns-3 : tie.Need-returns-3 Inv-loop μ-loop
 returns-3 c =
     let a = c .before .before .before .before .before .before .before .before .before .before .before .before .before .before .before .before .args in
@@ -115,22 +88,22 @@ make-probation-room-spec =
     (tie.spec
     Inv-loop
     μ-loop
-    max-entries-requires
-    probation-bound-requires
-    lowest-stamp-requires
-    stored-weight-requires
-    same-length
+    (λ c κs. search needs)
+    (λ c κs. search needs)
+    (λ c κs. search needs)
+    (λ c κs. search needs)
+    (λ c. search needs)
     returns
     loop-holds
-    enum-told
-    same-length-2
+    (λ c. search needs)
+    (λ c. search needs)
     returns-2
-    enum-known-victim
+    (λ c. search needs)
     add-examined
     is-stale-requires
     restamp-requires
     lowest-stamp-requires-2
     loop-less
     loop-again
-    same-length-3
+    (λ c. search needs)
     returns-3)

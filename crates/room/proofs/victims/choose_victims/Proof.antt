@@ -48,12 +48,6 @@ latest : (c : tie.After-slice-known3 Inv-loop μ-loop) → LastAside (c .before 
 unfolding withRows
 latest c = rw (c .before .before .set-place .ensures) (last-turn _ _ _ _ _ _ (c .before .before .before .before .before .before .before .before .before .before .before .before .before .before .before .loop .inv .2) (step (c .before .before .before .before .before .before .before .before .before .before .before .before) .inside _ (c .before .before .before .before .before .before .before .before .found .given .1)))
 
-max-entries-requires : tie.Need-max-entries-requires Inv-loop μ-loop
-max-entries-requires c κs = search needs
-
-stored-weight-requires : tie.Need-stored-weight-requires Inv-loop μ-loop
-stored-weight-requires c κs = search needs
-
 loop-holds : tie.Need-loop-holds Inv-loop μ-loop
 loop-holds c =
     let s = c .before .before .before .before .before .args in
@@ -68,9 +62,6 @@ next-victim-requires c κs =
 add-examined : tie.Need-add-examined Inv-loop μ-loop
 add-examined c = omega (arith, step (c .before .before) .fits, c .before .before .before .before .before .before .before .before .before .before .before .pre .2)
 
-enum-told : tie.Need-enum-told Inv-loop μ-loop
-enum-told c = search needs
-
 same-length : tie.Need-same-length Inv-loop μ-loop
 same-length c =
     let k = c .before .before .before .before .before .next-victim .kept .0 in
@@ -79,9 +70,6 @@ same-length c =
 returns : tie.Need-returns Inv-loop μ-loop
 unfolding chosenOf
 returns c = (sym (step (c .before .before .before .before) .none-left (c .enum-told .given .1)), λ e. contradiction e refl)
-
-enum-known-found : tie.Need-enum-known-found Inv-loop μ-loop
-enum-known-found c = search needs
 
 sub-left : tie.Need-sub-left Inv-loop μ-loop
 sub-left c =
@@ -93,9 +81,6 @@ weight-requires c κs =
     let h = rw view-length at (step (c .before .before .before .before .before .before) .inside _ (c .before .before .found .given .1)) in
     let k = c .before .before .before .before .before .before .before .next-victim .kept .0 in
     omega arith
-
-wide-requires : tie.Need-wide-requires Inv-loop μ-loop
-wide-requires c κs = search needs
 
 sub-stored : tie.Need-sub-stored Inv-loop μ-loop
 sub-stored c =
@@ -149,18 +134,18 @@ choose-victims-spec =
     (tie.spec
     Inv-loop
     μ-loop
-    max-entries-requires
-    stored-weight-requires
+    (λ c κs. search needs)
+    (λ c κs. search needs)
     loop-holds
     next-victim-requires
     add-examined
-    enum-told
+    (λ c. search needs)
     same-length
     returns
-    enum-known-found
+    (λ c. search needs)
     sub-left
     weight-requires
-    wide-requires
+    (λ c κs. search needs)
     sub-stored
     set-place-requires
     has-room-requires

@@ -8,12 +8,6 @@ use borrow.Author.Needs.{needs}
 use Rattle.room.proofs.victims.drop_aside.Statement.{statement}
 use Rattle.room.proofs.victims.drop_aside.Tie as tie
 
-sweep-rows-requires : tie.Need-sweep-rows-requires
-sweep-rows-requires c κs = search needs
-
-same-length : tie.Need-same-length
-same-length c = search needs
-
 returns : tie.Need-returns
 returns c =
     let s = c .before .before .before .before .before .args in
@@ -21,4 +15,4 @@ returns c =
     (c .before .before .sweep-rows .ensures .0, c .before .before .sweep-rows .ensures .2 ∙ ap (λ (rs : List Row). withOnlyRows rs v) (kept-aside 0 _ (v .rows)))
 
 pub drop-aside-spec : {M : Type 1} → statement M
-drop-aside-spec = tie.close (tie.spec sweep-rows-requires same-length returns)
+drop-aside-spec = tie.close (tie.spec (λ c κs. search needs) (λ c. search needs) returns)

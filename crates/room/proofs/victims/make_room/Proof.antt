@@ -29,17 +29,8 @@ stored c = c .stored-weight .ensures ∙ same-head 0 (c .before .before .before 
 aside : (c : tie.After-choose-victims) → Waiting (viewRows (c .before .before .before .before .before .before .before .before .before .before .before .before .before .before .args .n) (c .before .before .before .before .before .before .before .before .before .before .before .before .before .before .args .state .now)) (viewRows (c .before .before .before .before .before .before .before .before .before .before .before .before .before .before .args .n) (c .choose-victims .last .0))
 aside c = waiting _ _ _ _ _ (c .choose-victims .result) (c .before .before .before .before .before .before .before .before .before .before .before .before .before .before .pre .1) (c .choose-victims .ensures .0)
 
-max-entries-requires : tie.Need-max-entries-requires
-max-entries-requires c κs = search needs
-
 cut-to-bound-requires : tie.Need-cut-to-bound-requires
 cut-to-bound-requires c κs = omega (arith, most c, sound-small _ _ (c .before .before .before .pre .1) .max)
-
-lowest-of-main-requires : tie.Need-lowest-of-main-requires
-lowest-of-main-requires c κs = search needs
-
-stored-weight-requires : tie.Need-stored-weight-requires
-stored-weight-requires c κs = search needs
 
 -- the weights that are held against B
 weights : (c : tie.After-stored-weight) → (c .before .before .before .max-entries .result ≤ 1024) × (c .stored-weight .result ≤ 262144) × (c .before .before .cut-to-bound .result ≤ weightBound (c .before .before .before .max-entries .result))
@@ -50,12 +41,6 @@ weights c =
 has-room-requires : tie.Need-has-room-requires
 has-room-requires c κs = weights c
 
-room-there-requires : tie.Need-room-there-requires
-room-there-requires c κs = search needs
-
-same-length : tie.Need-same-length
-same-length c = search needs
-
 returns : tie.Need-returns
 returns c =
     let a = c .before .before .before .before .before .before .before .before .before .args in
@@ -64,12 +49,6 @@ returns c =
 
 has-room-requires-2 : tie.Need-has-room-requires-2
 has-room-requires-2 c κs = weights (c .before .before .before .before)
-
-room-there-requires-2 : tie.Need-room-there-requires-2
-room-there-requires-2 c κs = search needs
-
-same-length-2 : tie.Need-same-length-2
-same-length-2 c = search needs
 
 returns-2 : tie.Need-returns-2
 returns-2 c =
@@ -84,9 +63,6 @@ choose-victims-requires c κs =
 
 sub-if4 : tie.Need-sub-if4
 sub-if4 c = omega (arith, c .before .before .before .before .choose-victims .ensures .1 (c .before .if3 .taken) .last .few)
-
-same-length-3 : tie.Need-same-length-3
-same-length-3 c = search needs
 
 returns-3 : tie.Need-returns-3
 returns-3 c =
@@ -103,21 +79,12 @@ drop-aside-requires : tie.Need-drop-aside-requires
 drop-aside-requires c κs =
     (few _ _ (c .before .before .before .before .before .before .before .before .before .before .before .before .before .before .before .before .before .before .before .before .pre .1), omega (arith, c .before .before .before .before .before .before .choose-victims .kept .0, c .before .before .before .before .before .before .before .before .before .before .before .before .before .before .before .before .before .before .before .before .pre .0), aside (c .before .before .before .before .before .before) .paths)
 
-same-length-4 : tie.Need-same-length-4
-same-length-4 c = search needs
-
 returns-4 : tie.Need-returns-4
 returns-4 c =
     let a = c .before .before .before .before .before .before .before .before .before .before .before .before .before .before .before .before .before .before .before .before .before .before .before .args in
     let h = c .before .before .before .before .before .before .before .before .before .choose-victims in
     let d = c .before .before .drop-aside in
     (sought-none _ _ refl ∙ room-made (a .time) (a .w) (c .before .before .before .before .before .before .before .before .before .before .before .before .before .before .before .before .before .before .before .cut-to-bound .result) (viewRows (a .n) (a .state .now)) (viewRows (a .n) (h .last .0)) _ (h .result) (cut (c .before .before .before .before .before .before .before .before .before .before .before .before .before .before .before .before .before .before .before)) (h .ensures .0) (c .before .before .before .before .before .before .if3 .taken) (d .ensures .1), d .ensures .0, at-none _ _ refl, λ e. contradiction refl e)
-
-put-back-requires : tie.Need-put-back-requires
-put-back-requires c κs = search needs
-
-same-length-5 : tie.Need-same-length-5
-same-length-5 c = search needs
 
 returns-5 : tie.Need-returns-5
 returns-5 c =
@@ -130,25 +97,25 @@ pub make-room-spec : {M : Type 1} → statement M
 make-room-spec =
     tie.close
     (tie.spec
-    max-entries-requires
+    (λ c κs. search needs)
     cut-to-bound-requires
-    stored-weight-requires
+    (λ c κs. search needs)
     has-room-requires
-    room-there-requires
-    same-length
+    (λ c κs. search needs)
+    (λ c. search needs)
     returns
-    lowest-of-main-requires
+    (λ c κs. search needs)
     has-room-requires-2
-    room-there-requires-2
-    same-length-2
+    (λ c κs. search needs)
+    (λ c. search needs)
     returns-2
     choose-victims-requires
     sub-if4
-    same-length-3
+    (λ c. search needs)
     returns-3
     drop-aside-requires
-    same-length-4
+    (λ c. search needs)
     returns-4
-    put-back-requires
-    same-length-5
+    (λ c κs. search needs)
+    (λ c. search needs)
     returns-5)

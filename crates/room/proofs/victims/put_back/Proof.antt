@@ -18,22 +18,10 @@ abbrev μ-loop : tie.MeasureT-loop
 loop-holds : tie.Need-loop-holds Inv-loop μ-loop
 loop-holds c = (omega arith, refl, backed-start (viewRows (c .before .args .n) (c .before .args .state .now)))
 
-put-row-back-requires : tie.Need-put-row-back-requires Inv-loop μ-loop
-put-row-back-requires c κs = search needs
-
-add-i : tie.Need-add-i Inv-loop μ-loop
-add-i c = search needs
-
-loop-less : tie.Need-loop-less Inv-loop μ-loop
-loop-less c = search needs
-
 loop-again : tie.Need-loop-again Inv-loop μ-loop
 loop-again c =
     let k = c .before .before .put-row-back .kept .0 in
     (omega arith, omega arith, backed-turn (c .before .before .before .before .before .loop .i) _ _ _ (c .before .before .before .before .before .loop .inv .2) (c .before .before .put-row-back .ensures))
-
-same-length : tie.Need-same-length Inv-loop μ-loop
-same-length c = search needs
 
 returns : tie.Need-returns Inv-loop μ-loop
 returns c =
@@ -48,9 +36,9 @@ put-back-spec =
     Inv-loop
     μ-loop
     loop-holds
-    put-row-back-requires
-    add-i
-    loop-less
+    (λ c κs. search needs)
+    (λ c. search needs)
+    (λ c. search needs)
     loop-again
-    same-length
+    (λ c. search needs)
     returns)

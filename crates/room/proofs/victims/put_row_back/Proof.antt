@@ -5,22 +5,10 @@ use borrow.Author.Needs.{needs}
 use Rattle.room.proofs.victims.put_row_back.Statement.{statement}
 use Rattle.room.proofs.victims.put_row_back.Tie as tie
 
-place-requires : tie.Need-place-requires
-place-requires c κs = search needs
-
-set-place-requires : tie.Need-set-place-requires
-set-place-requires c κs = search needs
-
-same-length : tie.Need-same-length
-same-length c = search needs
-
 returns : tie.Need-returns
 returns c =
     let s = c .before .before .before .before .before .before .before .before .args in
     back-here (s .i) (viewRows (s .n) (s .state .now)) _ (sym (c .before .before .before .before .before .place .ensures) ∙ c .before .before .before .before .if1 .taken) (c .before .before .set-place .ensures)
-
-same-length-2 : tie.Need-same-length-2
-same-length-2 c = search needs
 
 returns-2 : tie.Need-returns-2
 returns-2 c =
@@ -30,4 +18,4 @@ returns-2 c =
 pub put-row-back-spec : {M : Type 1} → statement M
 put-row-back-spec =
     tie.close
-    (tie.spec place-requires set-place-requires same-length returns same-length-2 returns-2)
+    (tie.spec (λ c κs. search needs) (λ c κs. search needs) (λ c. search needs) returns (λ c. search needs) returns-2)

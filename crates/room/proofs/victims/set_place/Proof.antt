@@ -4,18 +4,6 @@ use borrow.Author.Needs.{needs}
 use Rattle.room.proofs.victims.set_place.Statement.{statement}
 use Rattle.room.proofs.victims.set_place.Tie as tie
 
-stamp-first-requires : tie.Need-stamp-first-requires
-stamp-first-requires c κs = search needs
-
-stamp-seq-requires : tie.Need-stamp-seq-requires
-stamp-seq-requires c κs = search needs
-
-set-stamp-requires : tie.Need-set-stamp-requires
-set-stamp-requires c κs = search needs
-
-same-length : tie.Need-same-length
-same-length c = search needs
-
 returns : tie.Need-returns
 returns c =
     let s = c .before .before .before .before .before .before .before .before .before .args in
@@ -24,4 +12,4 @@ returns c =
 pub set-place-spec : {M : Type 1} → statement M
 set-place-spec =
     tie.close
-    (tie.spec stamp-first-requires stamp-seq-requires set-stamp-requires same-length returns)
+    (tie.spec (λ c κs. search needs) (λ c κs. search needs) (λ c κs. search needs) (λ c. search needs) returns)

@@ -6,19 +6,10 @@ use Rattle.search.proofs.KeyBytes.{key-bytes}
 use Rattle.search.proofs.keys.key_order.Statement.{statement}
 use Rattle.search.proofs.keys.key_order.Tie as tie
 
-mul-order-to : tie.Need-mul-order-to
-mul-order-to c = search needs
-
-add-order-to : tie.Need-add-order-to
-add-order-to c = search needs
-
-order-to-requires : tie.Need-order-to-requires
-order-to-requires c κs = search needs
-
 returns : tie.Need-returns
 returns c =
     let s = c .before .before in
     c .order-to .ensures ∙ ap (λ (a : NodeAddr). orderOf a (s .args .key)) (key-bytes (s .args .n) (s .args .i) (s .args .state .now) (s .pre .0))
 
 pub key-order-spec : {M : Type 1} → statement M
-key-order-spec = tie.close (tie.spec mul-order-to add-order-to order-to-requires returns)
+key-order-spec = tie.close (tie.spec (λ c. search needs) (λ c. search needs) (λ c κs. search needs) returns)

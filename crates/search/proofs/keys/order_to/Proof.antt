@@ -5,9 +5,6 @@ use Rattle.search.proofs.KeyBytes.{high-less, high-greater, low-less, l
 use Rattle.search.proofs.keys.order_to.Statement.{statement}
 use Rattle.search.proofs.keys.order_to.Tie as tie
 
-be-u64-requires : tie.Need-be-u64-requires
-be-u64-requires c κs = search needs
-
 slice-aggregate-be-u64 : tie.Need-slice-aggregate-be-u64
 slice-aggregate-be-u64 c = search needs
 
@@ -25,12 +22,6 @@ returns-2 c =
     let d = c .before .before in
     let s = d .before .before .before .before .before in
     high-greater (s .args .at) (s .args .state .now) (s .args .key) (s .pre) (slice-aggregate-be-u64 (d .before)) (d .before .before .be-u64 .ensures) (d .be-u642 .ensures) (c .if2 .taken)
-
-add-be-u64 : tie.Need-add-be-u64
-add-be-u64 c = search needs
-
-be-u64-requires-3 : tie.Need-be-u64-requires-3
-be-u64-requires-3 c κs = search needs
 
 slice-aggregate-be-u64-2 : tie.Need-slice-aggregate-be-u64-2
 slice-aggregate-be-u64-2 c = search needs
@@ -66,13 +57,13 @@ pub order-to-spec : {M : Type 1} → statement M
 order-to-spec =
     tie.close
     (tie.spec
-    be-u64-requires
+    (λ c κs. search needs)
     slice-aggregate-be-u64
     be-u64-requires-2
     returns
     returns-2
-    add-be-u64
-    be-u64-requires-3
+    (λ c. search needs)
+    (λ c κs. search needs)
     slice-aggregate-be-u64-2
     be-u64-requires-4
     returns-3

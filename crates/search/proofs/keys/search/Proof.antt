@@ -21,31 +21,10 @@ slice-aggregate-be-u64 c = search needs
 be-u64-requires : tie.Need-be-u64-requires Inv-loop μ-loop
 be-u64-requires c κs = omega (arith, slice-aggregate-be-u64 c)
 
-rows-in-requires : tie.Need-rows-in-requires Inv-loop μ-loop
-rows-in-requires c κs = search needs
-
 loop-holds : tie.Need-loop-holds Inv-loop μ-loop
 loop-holds c =
     let s = c .before .before .before .before .before in
     (omega arith, halved-start _ _ (s .args .n) (rows-length (s .args .n) (s .args .state .now)))
-
-probe-requires : tie.Need-probe-requires Inv-loop μ-loop
-probe-requires c κs = search needs
-
-key-order-requires : tie.Need-key-order-requires Inv-loop μ-loop
-key-order-requires c κs = search needs
-
-guess-from-requires : tie.Need-guess-from-requires Inv-loop μ-loop
-guess-from-requires c κs = search needs
-
-enum-told : tie.Need-enum-told Inv-loop μ-loop
-enum-told c = search needs
-
-add-lo : tie.Need-add-lo Inv-loop μ-loop
-add-lo c = search needs
-
-loop-less : tie.Need-loop-less Inv-loop μ-loop
-loop-less c = search needs
 
 loop-again : tie.Need-loop-again Inv-loop μ-loop
 loop-again c =
@@ -55,9 +34,6 @@ loop-again c =
     let s = p .before .before .before .before .before .before in
     (p .loop .inv .0, halved-less (p .loop .inv .1) (s .pre .0) (m .probe .result) (m .probe .ensures .0) (m .probe .ensures .1) (sym (k .key-order .ensures) ∙ c .enum-told .given .1))
 
-enum-told-2 : tie.Need-enum-told-2 Inv-loop μ-loop
-enum-told-2 c = search needs
-
 returns : tie.Need-returns Inv-loop μ-loop
 returns c =
     let k = c .before .before .before in
@@ -65,12 +41,6 @@ returns c =
     let p = m .before .before in
     let s = p .before .before .before .before .before .before in
     halved-equal (p .loop .inv .1) (s .pre .0) (m .probe .result) (m .probe .ensures .0) (m .probe .ensures .1) (sym (k .key-order .ensures) ∙ c .enum-told2 .given .1)
-
-enum-told-3 : tie.Need-enum-told-3 Inv-loop μ-loop
-enum-told-3 c = search needs
-
-loop-less-2 : tie.Need-loop-less-2 Inv-loop μ-loop
-loop-less-2 c = search needs
 
 loop-again-2 : tie.Need-loop-again-2 Inv-loop μ-loop
 loop-again-2 c =
@@ -91,18 +61,18 @@ search-spec =
     μ-loop
     slice-aggregate-be-u64
     be-u64-requires
-    rows-in-requires
+    (λ c κs. search needs)
     loop-holds
-    probe-requires
-    key-order-requires
-    guess-from-requires
-    enum-told
-    add-lo
-    loop-less
+    (λ c κs. search needs)
+    (λ c κs. search needs)
+    (λ c κs. search needs)
+    (λ c. search needs)
+    (λ c. search needs)
+    (λ c. search needs)
     loop-again
-    enum-told-2
+    (λ c. search needs)
     returns
-    enum-told-3
-    loop-less-2
+    (λ c. search needs)
+    (λ c. search needs)
     loop-again-2
     returns-2)

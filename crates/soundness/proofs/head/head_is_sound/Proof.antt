@@ -20,16 +20,10 @@ returns-2 c =
     let k : s .rows < s .max + probationBound (s .max) = omega arith in
     simp (le-leb _ _ h, lt-leb _ _ k)
 
-probation-bound-requires : tie.Need-probation-bound-requires
-probation-bound-requires c κs = search needs
-
-add-result : tie.Need-add-result
-add-result c = search needs
-
 returns-3 : tie.Need-returns-3
 unfolding headSound
 returns-3 c = let h : c .before .before .before .args .rows ≤ 1024 = omega arith in simp (c .probation-bound .ensures, le-leb _ _ h)
 
 pub head-is-sound-spec : {M : Type 1} → statement M
 head-is-sound-spec =
-    tie.close (tie.spec returns returns-2 probation-bound-requires add-result returns-3)
+    tie.close (tie.spec returns returns-2 (λ c κs. search needs) (λ c. search needs) returns-3)

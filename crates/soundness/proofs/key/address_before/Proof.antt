@@ -18,32 +18,11 @@ Inv-loop s a b at₀ at = (at ≤ 16) × (bytesBefore (cut a 16 s) (cut b 16 s) 
 abbrev μ-loop : tie.MeasureT-loop
 μ-loop s a b at₀ at = 16 - at
 
-loop-holds : tie.Need-loop-holds Inv-loop μ-loop
-loop-holds c = search needs
-
-add-x : tie.Need-add-x Inv-loop μ-loop
-add-x c = search needs
-
-shared-slice-read-x : tie.Need-shared-slice-read-x Inv-loop μ-loop
-shared-slice-read-x c = search needs
-
-add-y : tie.Need-add-y Inv-loop μ-loop
-add-y c = search needs
-
-shared-slice-read-y : tie.Need-shared-slice-read-y Inv-loop μ-loop
-shared-slice-read-y c = search needs
-
 returns : tie.Need-returns Inv-loop μ-loop
 returns c =
     let l = c .before .before .before .before in
     let g = l .before .args in
     sym (l .loop .inv .1 ∙ bytes-differ (g .s .now) (g .a) (g .b) (l .loop .at) (l .before .pre .0) (l .before .pre .1) (omega arith) (c .if1 .taken))
-
-add-at : tie.Need-add-at Inv-loop μ-loop
-add-at c = search needs
-
-loop-less : tie.Need-loop-less Inv-loop μ-loop
-loop-less c = search needs
 
 loop-again : tie.Need-loop-again Inv-loop μ-loop
 loop-again c =
@@ -65,13 +44,13 @@ address-before-spec =
     (tie.spec
     Inv-loop
     μ-loop
-    loop-holds
-    add-x
-    shared-slice-read-x
-    add-y
-    shared-slice-read-y
+    (λ c. search needs)
+    (λ c. search needs)
+    (λ c. search needs)
+    (λ c. search needs)
+    (λ c. search needs)
     returns
-    add-at
-    loop-less
+    (λ c. search needs)
+    (λ c. search needs)
     loop-again
     returns-2)

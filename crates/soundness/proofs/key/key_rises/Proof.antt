@@ -10,24 +10,6 @@ use Rattle.soundness.proofs.KeyLaws.{keys-before, leads-next, leads-non
 use Rattle.soundness.proofs.key.key_rises.Statement.{statement}
 use Rattle.soundness.proofs.key.key_rises.Tie as tie
 
-add-j : tie.Need-add-j
-add-j c = search needs
-
-mul-address-before : tie.Need-mul-address-before
-mul-address-before c = search needs
-
-add-address-before : tie.Need-add-address-before
-add-address-before c = search needs
-
-mul-address-before-2 : tie.Need-mul-address-before-2
-mul-address-before-2 c = search needs
-
-add-address-before-2 : tie.Need-add-address-before-2
-add-address-before-2 c = search needs
-
-address-before-requires : tie.Need-address-before-requires
-address-before-requires c κs = search needs
-
 returns : tie.Need-returns
 returns c =
     let s = c .before .before .before in
@@ -49,11 +31,11 @@ pub key-rises-spec : {M : Type 1} → statement M
 key-rises-spec =
     tie.close
     (tie.spec
-    add-j
-    mul-address-before
-    add-address-before
-    mul-address-before-2
-    add-address-before-2
-    address-before-requires
+    (λ c. search needs)
+    (λ c. search needs)
+    (λ c. search needs)
+    (λ c. search needs)
+    (λ c. search needs)
+    (λ c κs. search needs)
     returns
     returns-2)

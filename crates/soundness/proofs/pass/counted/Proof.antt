@@ -9,12 +9,6 @@ use Rattle.soundness.specs.Parts.{tallied}
 use Rattle.soundness.proofs.pass.counted.Statement.{statement}
 use Rattle.soundness.proofs.pass.counted.Tie as tie
 
-add-t5 : tie.Need-add-t5
-add-t5 c = search needs
-
-add-t7 : tie.Need-add-t7
-add-t7 c = search needs
-
 returns : tie.Need-returns
 unfolding tallied
 returns c =
@@ -22,9 +16,6 @@ returns c =
     let h : s .place < 2 = omega arith in
     let n : s .place ≡ 2 → ⊥ = λ e. omega arith in
     simp (lt-ltb _ _ h, ne-eqb _ _ n, add-zero)
-
-add-t8 : tie.Need-add-t8
-add-t8 c = search needs
 
 returns-2 : tie.Need-returns-2
 unfolding tallied
@@ -35,4 +26,4 @@ unfolding tallied
 returns-3 c = let h : 2 ≤ c .before .before .args .place = omega arith in simp (le-ltb _ _ h, ne-eqb _ _ (c .if2 .left), add-zero)
 
 pub counted-spec : {M : Type 1} → statement M
-counted-spec = tie.close (tie.spec add-t5 add-t7 returns add-t8 returns-2 returns-3)
+counted-spec = tie.close (tie.spec (λ c. search needs) (λ c. search needs) returns (λ c. search needs) returns-2 returns-3)

@@ -18,9 +18,6 @@ abbrev μ-loop : tie.MeasureT-loop
 loop-holds : tie.Need-loop-holds Inv-loop μ-loop
 loop-holds c = (omega arith, passing-start _ _)
 
-row-is-sound-requires : tie.Need-row-is-sound-requires Inv-loop μ-loop
-row-is-sound-requires c κs = search needs
-
 returns : tie.Need-returns Inv-loop μ-loop
 returns c =
     let p = c .before .before .before in
@@ -29,9 +26,6 @@ returns c =
     let h : p .loop .i < length rs = rw view-length (omega arith) in
     row-stops (s .seq) rs (p .loop .t) (p .loop .i) (p .loop .inv .1) h _ _ _ (c .before .row-is-sound .ensures) (c .if1 .taken)
 
-key-rises-requires : tie.Need-key-rises-requires Inv-loop μ-loop
-key-rises-requires c κs = search needs
-
 returns-2 : tie.Need-returns-2 Inv-loop μ-loop
 returns-2 c =
     let p = c .before .before .before .before .before in
@@ -39,21 +33,6 @@ returns-2 c =
     let rs = viewRows (s .n) (s .state .now) .rows in
     let h : p .loop .i < length rs = rw view-length (omega arith) in
     key-stops (s .seq) rs (p .loop .t) (p .loop .i) (p .loop .inv .1) h _ _ _ (c .before .key-rises .ensures) (c .if2 .taken)
-
-place-requires : tie.Need-place-requires Inv-loop μ-loop
-place-requires c κs = search needs
-
-weight-requires : tie.Need-weight-requires Inv-loop μ-loop
-weight-requires c κs = search needs
-
-counted-requires : tie.Need-counted-requires Inv-loop μ-loop
-counted-requires c κs = search needs
-
-add-i : tie.Need-add-i Inv-loop μ-loop
-add-i c = search needs
-
-loop-less : tie.Need-loop-less Inv-loop μ-loop
-loop-less c = search needs
 
 loop-again : tie.Need-loop-again Inv-loop μ-loop
 loop-again c =
@@ -82,14 +61,14 @@ rows-are-sound-spec =
     Inv-loop
     μ-loop
     loop-holds
-    row-is-sound-requires
+    (λ c κs. search needs)
     returns
-    key-rises-requires
+    (λ c κs. search needs)
     returns-2
-    place-requires
-    weight-requires
-    counted-requires
-    add-i
-    loop-less
+    (λ c κs. search needs)
+    (λ c κs. search needs)
+    (λ c κs. search needs)
+    (λ c. search needs)
+    (λ c. search needs)
     loop-again
     returns-3)

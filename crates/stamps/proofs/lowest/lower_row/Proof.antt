@@ -6,21 +6,9 @@ use Rattle.stamps.specs.Walked.{lowerRow}
 use Rattle.stamps.proofs.lowest.lower_row.Statement.{statement}
 use Rattle.stamps.proofs.lowest.lower_row.Tie as tie
 
-place-requires : tie.Need-place-requires
-place-requires c κs = search needs
-
 returns : tie.Need-returns
 unfolding lowerRow atPlace
 returns c = rw (ne-eqb _ _ (λ e. c .if1 .taken (c .before .place .ensures ∙ e)))
-
-stamp-first-requires : tie.Need-stamp-first-requires
-stamp-first-requires c κs = search needs
-
-stamp-seq-requires : tie.Need-stamp-seq-requires
-stamp-seq-requires c κs = search needs
-
-lower-of-requires : tie.Need-lower-of-requires
-lower-of-requires c κs = search needs
 
 returns-2 : tie.Need-returns-2
 unfolding lowerRow atPlace
@@ -30,9 +18,9 @@ pub lower-row-spec : {M : Type 1} → statement M
 lower-row-spec =
     tie.close
     (tie.spec
-    place-requires
+    (λ c κs. search needs)
     returns
-    stamp-first-requires
-    stamp-seq-requires
-    lower-of-requires
+    (λ c κs. search needs)
+    (λ c κs. search needs)
+    (λ c κs. search needs)
     returns-2)

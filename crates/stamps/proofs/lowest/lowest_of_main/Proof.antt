@@ -18,21 +18,12 @@ Inv-loop state n parked₀ by_use₀ count₀ i₀ p b count i = Counted inMain 
 abbrev μ-loop : tie.MeasureT-loop
 μ-loop state n parked₀ by_use₀ count₀ i₀ p b count i = i
 
-no-row-requires : tie.Need-no-row-requires Inv-loop μ-loop
-no-row-requires c κs = search needs
-
-no-row-requires-2 : tie.Need-no-row-requires-2 Inv-loop μ-loop
-no-row-requires-2 c κs = search needs
-
 loop-holds : tie.Need-loop-holds Inv-loop μ-loop
 loop-holds c =
     let s = c .before .before .before .args in
     let rs = viewRows (s .n) (s .state .now) .rows in
     let e = view-length (s .n) (s .state .now) in
     (counted-start inMain (s .n) rs (omega (arith, e)), rw (c .before .no-row .ensures) (down-start parked (s .n) rs (omega (arith, e))), rw (c .no-row2 .ensures) (down-start byUse (s .n) rs (omega (arith, e))))
-
-sub-i : tie.Need-sub-i Inv-loop μ-loop
-sub-i c = search needs
 
 lower-row-requires : tie.Need-lower-row-requires Inv-loop μ-loop
 lower-row-requires c κs =
@@ -49,14 +40,8 @@ place-requires c κs =
     let h = c .before .before .before .loop .inv .0 .within in
     omega arith
 
-cast-count : tie.Need-cast-count Inv-loop μ-loop
-cast-count c = search needs
-
 add-count : tie.Need-add-count Inv-loop μ-loop
 add-count c = omega (arith, counted-fits inMain (c .before .before .before .before .before .before .before .before .args .n) (c .before .before .before .before .loop .i) (c .before .before .before .before .loop .count) (ltb (c .place .result) 2) (viewRows (c .before .before .before .before .before .before .before .before .args .n) (c .before .before .before .before .before .before .before .before .args .state .now) .rows) (c .before .before .before .loop-test .taken) (c .before .before .before .before .loop .inv .0))
-
-loop-less : tie.Need-loop-less Inv-loop μ-loop
-loop-less c = search needs
 
 loop-again : tie.Need-loop-again Inv-loop μ-loop
 unfolding inMain
@@ -66,12 +51,6 @@ loop-again c =
     let rs = viewRows (s .n) (s .state .now) .rows in
     let e = view-length (s .n) (s .state .now) in
     (counted-turn inMain (s .n) (l .i) (l .i - 1) (l .count) (ltb (c .place .result) 2) rs (omega arith) (omega (arith, e, l .inv .0 .within)) (ap (λ (x : ℕ). ltb x 2) (c .place .ensures)) (l .inv .0), rw (c .before .before .lower-row .ensures) (down-row parked (s .n) (l .i) (l .i - 1) rs (l .parked) (omega arith) (omega (arith, e, l .inv .0 .within)) (omega (arith, l .inv .0 .within)) (l .inv .1)), rw (c .before .lower-row2 .ensures) (down-row byUse (s .n) (l .i) (l .i - 1) rs (l .by-use) (omega arith) (omega (arith, e, l .inv .0 .within)) (omega (arith, l .inv .0 .within)) (l .inv .2)))
-
-row-of-requires : tie.Need-row-of-requires Inv-loop μ-loop
-row-of-requires c κs = search needs
-
-row-of-requires-2 : tie.Need-row-of-requires-2 Inv-loop μ-loop
-row-of-requires-2 c κs = search needs
 
 returns : tie.Need-returns Inv-loop μ-loop
 returns c =
@@ -90,17 +69,17 @@ lowest-of-main-spec =
     (tie.spec
     Inv-loop
     μ-loop
-    no-row-requires
-    no-row-requires-2
+    (λ c κs. search needs)
+    (λ c κs. search needs)
     loop-holds
-    sub-i
+    (λ c. search needs)
     lower-row-requires
     lower-row-requires-2
     place-requires
-    cast-count
+    (λ c. search needs)
     add-count
-    loop-less
+    (λ c. search needs)
     loop-again
-    row-of-requires
-    row-of-requires-2
+    (λ c κs. search needs)
+    (λ c κs. search needs)
     returns)

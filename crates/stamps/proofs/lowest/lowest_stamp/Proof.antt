@@ -17,18 +17,12 @@ Inv-loop state n place best₀ count₀ i₀ best count i = Counted (atPlace pla
 abbrev μ-loop : tie.MeasureT-loop
 μ-loop state n place best₀ count₀ i₀ best count i = i
 
-no-row-requires : tie.Need-no-row-requires Inv-loop μ-loop
-no-row-requires c κs = search needs
-
 loop-holds : tie.Need-loop-holds Inv-loop μ-loop
 loop-holds c =
     let s = c .before .before .args in
     let rs = viewRows (s .n) (s .state .now) .rows in
     let e = view-length (s .n) (s .state .now) in
     (counted-start (atPlace (s .place)) (s .n) rs (omega (arith, e)), rw (c .no-row .ensures) (down-start (s .place) (s .n) rs (omega (arith, e))))
-
-sub-i : tie.Need-sub-i Inv-loop μ-loop
-sub-i c = search needs
 
 lower-row-requires : tie.Need-lower-row-requires Inv-loop μ-loop
 lower-row-requires c κs =
@@ -40,14 +34,8 @@ place-requires c κs =
     let h = c .before .before .loop .inv .0 .within in
     omega arith
 
-cast-count : tie.Need-cast-count Inv-loop μ-loop
-cast-count c = search needs
-
 add-count : tie.Need-add-count Inv-loop μ-loop
 add-count c = omega (arith, counted-fits (atPlace (c .before .before .before .before .before .before .args .place)) (c .before .before .before .before .before .before .args .n) (c .before .before .before .loop .i) (c .before .before .before .loop .count) (eqb (c .place .result) (c .before .before .before .before .before .before .args .place)) (viewRows (c .before .before .before .before .before .before .args .n) (c .before .before .before .before .before .before .args .state .now) .rows) (c .before .before .loop-test .taken) (c .before .before .before .loop .inv .0))
-
-loop-less : tie.Need-loop-less Inv-loop μ-loop
-loop-less c = search needs
 
 loop-again : tie.Need-loop-again Inv-loop μ-loop
 unfolding atPlace
@@ -57,9 +45,6 @@ loop-again c =
     let rs = viewRows (s .n) (s .state .now) .rows in
     let e = view-length (s .n) (s .state .now) in
     (counted-turn (atPlace (s .place)) (s .n) (l .i) (l .i - 1) (l .count) (eqb (c .place .result) (s .place)) rs (omega arith) (omega (arith, e, l .inv .0 .within)) (ap (λ (x : ℕ). eqb x (s .place)) (c .place .ensures)) (l .inv .0), rw (c .before .lower-row .ensures) (down-row (s .place) (s .n) (l .i) (l .i - 1) rs (l .best) (omega arith) (omega (arith, e, l .inv .0 .within)) (omega (arith, l .inv .0 .within)) (l .inv .1)))
-
-row-of-requires : tie.Need-row-of-requires Inv-loop μ-loop
-row-of-requires c κs = search needs
 
 returns : tie.Need-returns Inv-loop μ-loop
 returns c =
@@ -77,14 +62,14 @@ lowest-stamp-spec =
     (tie.spec
     Inv-loop
     μ-loop
-    no-row-requires
+    (λ c κs. search needs)
     loop-holds
-    sub-i
+    (λ c. search needs)
     lower-row-requires
     place-requires
-    cast-count
+    (λ c. search needs)
     add-count
-    loop-less
+    (λ c. search needs)
     loop-again
-    row-of-requires
+    (λ c κs. search needs)
     returns)

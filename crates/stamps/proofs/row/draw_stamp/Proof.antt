@@ -4,15 +4,6 @@ use borrow.Author.Needs.{needs}
 use Rattle.stamps.proofs.row.draw_stamp.Statement.{statement}
 use Rattle.stamps.proofs.row.draw_stamp.Tie as tie
 
-next-key-requires : tie.Need-next-key-requires
-next-key-requires c κs = search needs
-
-set-stamp-requires : tie.Need-set-stamp-requires
-set-stamp-requires c κs = search needs
-
-same-length : tie.Need-same-length
-same-length c = search needs
-
 returns : tie.Need-returns
 returns c =
     let s = c .before .before .before .before .before .before .before .before .before .args in
@@ -21,4 +12,4 @@ returns c =
 
 pub draw-stamp-spec : {M : Type 1} → statement M
 draw-stamp-spec =
-    tie.close (tie.spec next-key-requires set-stamp-requires same-length returns)
+    tie.close (tie.spec (λ c κs. search needs) (λ c κs. search needs) (λ c. search needs) returns)

@@ -3,15 +3,9 @@ use borrow.Author.Needs.{needs}
 use Rattle.stamps.proofs.row.is_stale.Statement.{statement}
 use Rattle.stamps.proofs.row.is_stale.Tie as tie
 
-stamp-first-requires : tie.Need-stamp-first-requires
-stamp-first-requires c κs = search needs
-
-last-used-requires : tie.Need-last-used-requires
-last-used-requires c κs = search needs
-
 returns : tie.Need-returns
 unfolding stale
 returns c = rw (c .before .stamp-first .ensures, c .last-used .ensures)
 
 pub is-stale-spec : {M : Type 1} → statement M
-is-stale-spec = tie.close (tie.spec stamp-first-requires last-used-requires returns)
+is-stale-spec = tie.close (tie.spec (λ c κs. search needs) (λ c κs. search needs) returns)

@@ -8,21 +8,6 @@ use borrow.Author.Needs.{needs}
 use Rattle.stamps.proofs.row.restamp.Statement.{statement}
 use Rattle.stamps.proofs.row.restamp.Tie as tie
 
-place-requires : tie.Need-place-requires
-place-requires c κs = search needs
-
-filed-place-requires : tie.Need-filed-place-requires
-filed-place-requires c κs = search needs
-
-last-used-requires : tie.Need-last-used-requires
-last-used-requires c κs = search needs
-
-draw-stamp-requires : tie.Need-draw-stamp-requires
-draw-stamp-requires c κs = search needs
-
-same-length : tie.Need-same-length
-same-length c = search needs
-
 returns : tie.Need-returns
 returns c =
     let s = c .before .before .before .before .before .before .before .before .before .before .args in
@@ -35,9 +20,9 @@ pub restamp-spec : {M : Type 1} → statement M
 restamp-spec =
     tie.close
     (tie.spec
-    place-requires
-    filed-place-requires
-    last-used-requires
-    draw-stamp-requires
-    same-length
+    (λ c κs. search needs)
+    (λ c κs. search needs)
+    (λ c κs. search needs)
+    (λ c κs. search needs)
+    (λ c. search needs)
     returns)

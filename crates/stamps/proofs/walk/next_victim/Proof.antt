@@ -47,17 +47,8 @@ parks : (c : tie.Then2 Inv-loop μ-loop) →
     Turn (seeking (c .before .before .before .before .before .before .before .before .before .before .before .before .before .before .before .args .time)) (c .before .before .before .before .before .before .before .before .before .before .before .before .before .before .before .args .time) (c .before .before .before .before .before .before .before .next .given .0 .0) (c .before .before .before .before .before .before .before .before .before .loop .examined) v (park (c .before .before .before .before .before .before .before .next .given .0 .0) v)
 parks c = park-turn _ _ _ _ (row (c .before .before .before .before .before .before .before)) (sym (c .before .before .before .before .is-stale .ensures) ∙ c .before .before .before .if1 .left) (sym (c .before .is-verified .ensures) ∙ c .if2 .taken)
 
-return-lapsed-requires : tie.Need-return-lapsed-requires Inv-loop μ-loop
-return-lapsed-requires c κs = search needs
-
 loop-holds : tie.Need-loop-holds Inv-loop μ-loop
 loop-holds c = (refl, c .before .before .return-lapsed .ensures .1, going-start (seeking _) _ (walkFrom _ _))
-
-enum-told : tie.Need-enum-told Inv-loop μ-loop
-enum-told c = search needs
-
-enum-known-next : tie.Need-enum-known-next Inv-loop μ-loop
-enum-known-next c = search needs
 
 add-examined : tie.Need-add-examined Inv-loop μ-loop
 add-examined c =
@@ -155,10 +146,10 @@ next-victim-spec =
     (tie.spec
     Inv-loop
     μ-loop
-    return-lapsed-requires
+    (λ c κs. search needs)
     loop-holds
-    enum-told
-    enum-known-next
+    (λ c. search needs)
+    (λ c. search needs)
     add-examined
     is-stale-requires
     restamp-requires

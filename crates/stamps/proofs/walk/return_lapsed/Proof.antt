@@ -38,28 +38,16 @@ turn c = lapsed-turn _ _ _ _ (row (c .before .before .before .before)) (rw (c .b
 loop-holds : tie.Need-loop-holds Inv-loop μ-loop
 loop-holds c = (refl, c .before .pre .2 .parked, c .before .pre .2 .byUse, going-start (waking (c .before .args .time)) (c .before .args .time) (walkFrom (viewRows (c .before .args .n) (c .before .args .state .now)) 0))
 
-enum-told : tie.Need-enum-told Inv-loop μ-loop
-enum-told c = search needs
-
-same-length : tie.Need-same-length Inv-loop μ-loop
-same-length c = search needs
-
 returns : tie.Need-returns Inv-loop μ-loop
 returns c =
     let l = c .before .before .loop in
     let s = c .before .before .before .before .args in
     (lapsed-ends (s .time) (l .rows) (walkFrom (viewRows (s .n) (s .state .now)) 0) (viewRows (s .n) (l .state)) (found-none _ _ (l .inv .1) (c .enum-told .given .1)) (l .inv .3), l .inv .2)
 
-enum-known-parked : tie.Need-enum-known-parked Inv-loop μ-loop
-enum-known-parked c = search needs
-
 stamp-first-requires : tie.Need-stamp-first-requires Inv-loop μ-loop
 stamp-first-requires c κs =
     let i = inside (c .before .before) in
     omega arith
-
-same-length-2 : tie.Need-same-length-2 Inv-loop μ-loop
-same-length-2 c = search needs
 
 returns-2 : tie.Need-returns-2 Inv-loop μ-loop
 returns-2 c =
@@ -106,12 +94,12 @@ return-lapsed-spec =
     Inv-loop
     μ-loop
     loop-holds
-    enum-told
-    same-length
+    (λ c. search needs)
+    (λ c. search needs)
     returns
-    enum-known-parked
+    (λ c. search needs)
     stamp-first-requires
-    same-length-2
+    (λ c. search needs)
     returns-2
     restamp-requires
     add-rows

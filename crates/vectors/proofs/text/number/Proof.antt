@@ -10,37 +10,16 @@ Inv-loop line nth r₀ i₀ r i = i ≤ length line
 abbrev μ-loop : tie.MeasureT-loop
 μ-loop line nth r₀ i₀ r i = length line - i
 
-loop-holds : tie.Need-loop-holds Inv-loop μ-loop
-loop-holds c = search needs
-
-shared-slice-read-fed : tie.Need-shared-slice-read-fed Inv-loop μ-loop
-shared-slice-read-fed c = search needs
-
-fed-requires : tie.Need-fed-requires Inv-loop μ-loop
-fed-requires c κs = search needs
-
-add-i : tie.Need-add-i Inv-loop μ-loop
-add-i c = search needs
-
-loop-less : tie.Need-loop-less Inv-loop μ-loop
-loop-less c = search needs
-
-loop-again : tie.Need-loop-again Inv-loop μ-loop
-loop-again c = search needs
-
-returns : tie.Need-returns Inv-loop μ-loop
-returns c = search needs
-
 pub number-spec : {M : Type 1} → statement M
 number-spec =
     tie.close
     (tie.spec
     Inv-loop
     μ-loop
-    loop-holds
-    shared-slice-read-fed
-    fed-requires
-    add-i
-    loop-less
-    loop-again
-    returns)
+    (λ c. search needs)
+    (λ c. search needs)
+    (λ c κs. search needs)
+    (λ c. search needs)
+    (λ c. search needs)
+    (λ c. search needs)
+    (λ c. search needs))

@@ -5,20 +5,11 @@ use Rattle.coord.proofs.Laws.{no-first, first-element}
 use Rattle.coord.proofs.coord.Path.starts_at.Statement.{statement}
 use Rattle.coord.proofs.coord.Path.starts_at.Tie as tie
 
-count-requires : tie.Need-count-requires
-count-requires c κs = search needs
-
 returns : tie.Need-returns
 unfolding startsAt
 returns c =
     let n = c .before in
     sym (no-first _ (elements (n .before .args .t1)) (sym (n .count .ensures .0) ∙ c .if1 .taken))
-
-element-copy-out-x : tie.Need-element-copy-out-x
-element-copy-out-x c = search needs
-
-same-as-requires : tie.Need-same-as-requires
-same-as-requires c κs = search needs
 
 returns-2 : tie.Need-returns-2
 unfolding startsAt
@@ -28,4 +19,4 @@ returns-2 c =
 
 pub starts-at-spec : {M : Type 1} → statement M
 starts-at-spec =
-    tie.close (tie.spec count-requires returns element-copy-out-x same-as-requires returns-2)
+    tie.close (tie.spec (λ c κs. search needs) returns (λ c. search needs) (λ c κs. search needs) returns-2)

@@ -15,27 +15,12 @@ Inv-loop x y i₀ i = (i ≤ 16) × (length x ≡ 16) × (length y ≡ 16) × (s
 abbrev μ-loop : tie.MeasureT-loop
 μ-loop x y i₀ i = 16 - i
 
-loop-holds : tie.Need-loop-holds Inv-loop μ-loop
-loop-holds c = search needs
-
-array-read-if1 : tie.Need-array-read-if1 Inv-loop μ-loop
-array-read-if1 c = search needs
-
-array-read-if1-2 : tie.Need-array-read-if1-2 Inv-loop μ-loop
-array-read-if1-2 c = search needs
-
 returns : tie.Need-returns Inv-loop μ-loop
 unfolding sameAddr
 returns c =
     let l = c .before .before in
     let s = l .before .before .before .args in
     sym (l .loop .inv .3 ∙ same-stop (s .self .0) (s .other .0) (l .loop .i) (omega arith) (omega arith) (c .if1 .taken))
-
-add-i : tie.Need-add-i Inv-loop μ-loop
-add-i c = search needs
-
-loop-less : tie.Need-loop-less Inv-loop μ-loop
-loop-less c = search needs
 
 loop-again : tie.Need-loop-again Inv-loop μ-loop
 loop-again c =
@@ -56,11 +41,11 @@ same-as-spec =
     (tie.spec
     Inv-loop
     μ-loop
-    loop-holds
-    array-read-if1
-    array-read-if1-2
+    (λ c. search needs)
+    (λ c. search needs)
+    (λ c. search needs)
     returns
-    add-i
-    loop-less
+    (λ c. search needs)
+    (λ c. search needs)
     loop-again
     returns-2)

@@ -3,12 +3,6 @@ use Rattle.types.specs.Values.{covers}
 use Rattle.types.proofs.placed.Funding.covers.Statement.{statement}
 use Rattle.types.proofs.placed.Funding.covers.Tie as tie
 
-enum-known-self : tie.Need-enum-known-self
-enum-known-self c = search needs
-
-enum-told : tie.Need-enum-told
-enum-told c = search needs
-
 returns : tie.Need-returns
 unfolding covers
 returns c = rw (c .before .self .given .1)
@@ -18,4 +12,4 @@ unfolding covers
 returns-2 c = search needs
 
 pub covers-spec : {M : Type 1} → statement M
-covers-spec = tie.close (tie.spec enum-known-self enum-told returns returns-2)
+covers-spec = tie.close (tie.spec (λ c. search needs) (λ c. search needs) returns returns-2)

@@ -4,24 +4,6 @@ use Rattle.types.proofs.Laws.{as-bit}
 use Rattle.types.proofs.placed.Placed.reply.Statement.{statement}
 use Rattle.types.proofs.placed.Placed.reply.Tie as tie
 
-code-requires : tie.Need-code-requires
-code-requires c κs = search needs
-
-cast-o : tie.Need-cast-o
-cast-o c = search needs
-
-code-requires-2 : tie.Need-code-requires-2
-code-requires-2 c κs = search needs
-
-cast-s : tie.Need-cast-s
-cast-s c = search needs
-
-cast-u : tie.Need-cast-u
-cast-u c = search needs
-
-says-requires : tie.Need-says-requires
-says-requires c κs = search needs
-
 returns : tie.Need-returns
 unfolding placedReply
 returns c =
@@ -30,4 +12,4 @@ returns c =
 
 pub reply-spec : {M : Type 1} → statement M
 reply-spec =
-    tie.close (tie.spec code-requires cast-o code-requires-2 cast-s cast-u says-requires returns)
+    tie.close (tie.spec (λ c κs. search needs) (λ c. search needs) (λ c κs. search needs) (λ c. search needs) (λ c. search needs) (λ c κs. search needs) returns)

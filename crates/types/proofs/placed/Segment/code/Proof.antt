@@ -3,12 +3,6 @@ use Rattle.types.specs.Values.{segmentCode}
 use Rattle.types.proofs.placed.Segment.code.Statement.{statement}
 use Rattle.types.proofs.placed.Segment.code.Tie as tie
 
-enum-told : tie.Need-enum-told
-enum-told c = search needs
-
-enum-told-2 : tie.Need-enum-told-2
-enum-told-2 c = search needs
-
 returns : tie.Need-returns
 unfolding segmentCode
 returns c = search needs
@@ -18,4 +12,4 @@ unfolding segmentCode
 returns-2 c = search needs
 
 pub code-spec : {M : Type 1} → statement M
-code-spec = tie.close (tie.spec enum-told enum-told-2 returns returns-2)
+code-spec = tie.close (tie.spec (λ c. search needs) (λ c. search needs) returns returns-2)

@@ -6,19 +6,13 @@ use Rattle.types.specs.Values.{tallied}
 use Rattle.types.proofs.reply.Tally.counted.Statement.{statement}
 use Rattle.types.proofs.reply.Tally.counted.Tie as tie
 
-up-one-requires : tie.Need-up-one-requires
-up-one-requires c κs = search needs
-
 returns : tie.Need-returns
 unfolding tallied
 returns c = simp (eq-eqb _ _ (c .before .if1 .taken), c .up-one .ensures)
-
-up-one-requires-2 : tie.Need-up-one-requires-2
-up-one-requires-2 c κs = search needs
 
 returns-2 : tie.Need-returns-2
 unfolding tallied
 returns-2 c = simp (ne-eqb _ _ (c .before .if1 .left), c .up-one2 .ensures)
 
 pub counted-spec : {M : Type 1} → statement M
-counted-spec = tie.close (tie.spec up-one-requires returns up-one-requires-2 returns-2)
+counted-spec = tie.close (tie.spec (λ c κs. search needs) returns (λ c κs. search needs) returns-2)

@@ -3,12 +3,9 @@ use Rattle.types.specs.Values.{statsReply}
 use Rattle.types.proofs.stats.CacheStats.reply.Statement.{statement}
 use Rattle.types.proofs.stats.CacheStats.reply.Tie as tie
 
-says-requires : tie.Need-says-requires
-says-requires c κs = search needs
-
 returns : tie.Need-returns
 unfolding statsReply
 returns c = search needs
 
 pub reply-spec : {M : Type 1} → statement M
-reply-spec = tie.close (tie.spec says-requires returns)
+reply-spec = tie.close (tie.spec (λ c κs. search needs) returns)
