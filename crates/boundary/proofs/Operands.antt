@@ -7,16 +7,16 @@ use mathlib.Core.Option.{Option, none, some}
 use mathlib.Core.Bool.{Bool, true, false}
 use lib.ListN.{length, take, drop, replicate}
 use lib.Seq.{take-all}
-use Rattle.coord.specs.declared.node_addr.NodeAddr.{NodeAddr}
-use Rattle.coord.specs.declared.coord.CoordEntry.{CoordEntry}
-use Rattle.coord.specs.declared.coord.Path.{Path}
-use Rattle.coord.specs.Paths.{zeroEntry}
+use Rattle.types.specs.declared.node_addr.NodeAddr.{NodeAddr}
+use Rattle.types.specs.declared.coord.CoordEntry.{CoordEntry}
+use Rattle.types.specs.declared.coord.Path.{Path}
+use Rattle.types.specs.Paths.{zeroEntry}
 use Rattle.rules.specs.Records.{State}
 use Rattle.rules.specs.Rows.{find}
 use Rattle.rules.specs.Sound.{sound}
 use Rattle.rules.specs.Memory.{coordEntriesOf, cut, capacity, view, viewRows}
 use Rattle.rules.proofs.Public.{SoundMemory}
-use Rattle.paths.proofs.Places.{entries-length}
+use Rattle.entries.proofs.Places.{entries-length}
 use Rattle.boundary.specs.Exported.{pathFrom, rowHeld, rowTaken}
 
 -- ---- a path

@@ -1,13 +1,13 @@
 // Operands as they come from another language, and replies as they go there.
-use coord::coord::CoordEntry;
-use coord::coord::Path;
-use coord::node_addr::NodeAddr;
 use search::answers::Search;
+use types::coord::CoordEntry;
+use types::coord::Path;
+use types::node_addr::NodeAddr;
 use types::placed::Funding;
 use types::reply::Reply;
 ghost use mathlib.Core.Path.{_≡_};
 ghost use Prim.Native.Nat.{min};
-ghost use Rattle.coord.specs.Paths.{zeroEntry};
+ghost use Rattle.types.specs.Paths.{zeroEntry};
 ghost use mathlib.Core.Bool.{true};
 ghost use mathlib.Core.Option.{some};
 ghost use Prim.Native.Nat.{_≤_};
@@ -61,7 +61,7 @@ pub fn path_from(bytes: &[u8]) -> Path
     let mut entries = [zero; 32];
     let mut k = 0;
     while k < held {
-        entries[k] = paths::addr::load_coord_entry(bytes, k * ELEMENT);
+        entries[k] = entries::addr::load_coord_entry(bytes, k * ELEMENT);
         k += 1;
     }
     Path { entries, len }

@@ -63,7 +63,7 @@ fn refusals(memory: &mut [u8], before: &[u8]) -> u64
 // 1 if fresh is done, and what it leaves is a sound state, else 0.
 fn renewed(memory: &mut [u8]) -> u64 {
     let said = asking::ask(memory, FRESH_2);
-    if (said.refusal == 0) & soundness::is_sound(memory) {
+    if (said.refusal == 0) & state::check::is_sound(memory) {
         1
     } else {
         0

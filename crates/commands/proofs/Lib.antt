@@ -1,1 +1,6 @@
+pub mod Codes
+pub mod Operands
+pub mod Typing
+pub mod Replying
+pub mod Taking
 pub mod Obeying

@@ -8,10 +8,10 @@ use mathlib.Core.Bool.{Bool, true, false, cond, _||_}
 use lib.Dec.{eqb, leb}
 use lib.ListN.{length, take, drop, length-drop}
 use borrow.Author.Tests.{le-leb, lt-leb, ne-eqb, leb-true}
-use Rattle.coord.specs.declared.coord.Path.{Path}
-use Rattle.coord.specs.declared.coord.CoordEntry.{CoordEntry}
-use Rattle.coord.specs.declared.coord.Appended.{Appended}
-use Rattle.coord.specs.Paths.{emptyPath, appended}
+use Rattle.types.specs.declared.coord.Path.{Path}
+use Rattle.types.specs.declared.coord.CoordEntry.{CoordEntry}
+use Rattle.types.specs.declared.coord.Appended.{Appended}
+use Rattle.types.specs.Paths.{emptyPath, appended}
 use Rattle.types.specs.Values.{says, refuses}
 use Rattle.rules.specs.Cases.{maybe, Every}
 use Rattle.rules.specs.Sound.{sound}
@@ -23,13 +23,13 @@ use Rattle.rules.specs.Commands.{Code, Command, Decoded, Element, WithPath, Pla
 use Rattle.rules.proofs.Addresses.{contradiction}
 use Rattle.rules.proofs.SoundTest.{and-case}
 use Rattle.rules.proofs.MemoryLaws.{bytes-drop}
-use Rattle.decoding.specs.Widths.{widthOf}
-use Rattle.decoding.specs.OnMemory.{Held, Obeyed, answered, pended, obey, refusedSix, obeyByte, whole, reads, obeyWhole, held, badKind, Says}
-use Rattle.decoding.proofs.Operands.{known, of-whole, number-at, first-at, asks}
-use Rattle.decoding.proofs.Typing.{typed-path, typed-request, call-same, fresh-sound}
-use Rattle.asking.proofs.Replying.{number-reply}
-use Rattle.writing.proofs.Taking.{takes, bad-none}
-use Rattle.commands.specs.declared.AfterCommand.{AfterCommand}
+use Rattle.commands.specs.Widths.{widthOf}
+use Rattle.commands.specs.OnMemory.{Held, Obeyed, answered, pended, obey, refusedSix, obeyByte, whole, reads, obeyWhole, held, badKind, Says}
+use Rattle.commands.proofs.Operands.{known, of-whole, number-at, first-at, asks}
+use Rattle.commands.proofs.Typing.{typed-path, typed-request, call-same, fresh-sound}
+use Rattle.commands.proofs.Replying.{number-reply}
+use Rattle.commands.proofs.Taking.{takes, bad-none}
+use Rattle.commands.specs.declared.command.AfterCommand.{AfterCommand}
 use Rattle.commands.specs.After.{Answers}
 
 pub same-code : (h : Held) (b k : ℕ) (bs : List ℕ) (r : AfterCommand) (m : List ℕ) → b ≡ k → Answers (obeyWhole h k bs) r m → Answers (obeyWhole h b bs) r m

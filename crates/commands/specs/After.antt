@@ -4,8 +4,8 @@ use mathlib.Core.Path.{_≡_}
 use mathlib.Core.List.{List}
 use Rattle.rules.specs.Sound.{sound}
 use Rattle.rules.specs.Memory.{capacity, view}
-use Rattle.decoding.specs.OnMemory.{Obeyed}
-use Rattle.commands.specs.declared.AfterCommand.{AfterCommand}
+use Rattle.commands.specs.OnMemory.{Obeyed}
+use Rattle.commands.specs.declared.command.AfterCommand.{AfterCommand}
 
 -- a command's reply, pending path and memory, and whether that memory is sound
 pub record Answers (o : Obeyed) (r : AfterCommand) (m : List ℕ) : Type 0 where

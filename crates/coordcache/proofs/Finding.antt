@@ -7,7 +7,7 @@ use mathlib.Core.Bool.{true, false}
 use lib.Dec.{eqb}
 use lib.ListN.{length}
 use borrow.Author.Tests.{eq-eqb, ne-eqb}
-use Rattle.coord.specs.declared.node_addr.NodeAddr.{NodeAddr}
+use Rattle.types.specs.declared.node_addr.NodeAddr.{NodeAddr}
 use Rattle.types.specs.declared.reply.Reply.{Reply}
 use Rattle.types.specs.Values.{says, refuses}
 use Rattle.rules.specs.Sound.{sound}
@@ -19,13 +19,13 @@ use Rattle.rules.specs.Lent.{Bytes, Typed, call, gotPart}
 use Rattle.rules.proofs.RowLists.{by-cond}
 use Rattle.rules.proofs.MemoryLaws.{length-cut}
 use Rattle.rules.proofs.GotPart.{got-after-touch}
-use Rattle.paths.specs.declared.path.PathPlace.{PathPlace}
+use Rattle.entries.specs.declared.path.PathPlace.{PathPlace}
 use Rattle.lookups.specs.Steps.{StandsAt, placeFound}
 use Rattle.lookups.proofs.Refusing.{one-got}
-use Rattle.decoding.specs.OnMemory.{partReply}
-use Rattle.decoding.proofs.Operands.{one-replied}
-use Rattle.decoding.proofs.Typing.{lent-sound}
-use Rattle.asking.proofs.Replying.{got-reply}
+use Rattle.commands.specs.OnMemory.{partReply}
+use Rattle.commands.proofs.Operands.{one-replied}
+use Rattle.commands.proofs.Typing.{lent-sound}
+use Rattle.commands.proofs.Replying.{got-reply}
 use Rattle.boundary.specs.Exported.{Told, PartAt, rowTaken}
 use Rattle.coordcache.specs.Places.{placeTold}
 use Rattle.coordcache.proofs.Telling.{told}

@@ -7,8 +7,8 @@ use mathlib.Core.Option.{some}
 use mathlib.Core.Bool.{Bool, true, false}
 use mir.Val.{boolByte}
 use borrow.Author.Tests.{ne-eqb}
-use Rattle.coord.specs.declared.node_addr.NodeAddr.{NodeAddr}
-use Rattle.coord.specs.declared.coord.Path.{Path}
+use Rattle.types.specs.declared.node_addr.NodeAddr.{NodeAddr}
+use Rattle.types.specs.declared.coord.Path.{Path}
 use Rattle.types.specs.declared.placed.Funding.{Funding}
 use Rattle.types.specs.declared.reply.Reply.{Reply}
 use Rattle.types.specs.Values.{bit, refuses}
@@ -18,7 +18,7 @@ use Rattle.rules.specs.Answers.{refusalOf}
 use Rattle.rules.specs.Memory.{capacity, view}
 use Rattle.rules.specs.Commands.{reply}
 use Rattle.rules.specs.Lent.{Lent, call}
-use Rattle.asking.proofs.Replying.{number-reply}
+use Rattle.commands.proofs.Replying.{number-reply}
 use Rattle.boundary.specs.Exported.{Told, fundingFrom, funded}
 
 -- a reply is its number and its values

@@ -23,14 +23,14 @@ ghost use Rattle.coordcache.specs.Places.{placeTold};
 pub extern "C" fn coord_cache_is_sound(state: &[u8]) -> u8
     ensures { λ r. ⌜ (r ≡ bit (sound (capacity (now (state .entry))) (view (now (state .entry))))) × (now (state .exit) ≡ now (state .entry)) ⌝ }
 {
-    soundness::is_sound(state) as u8
+    state::check::is_sound(state) as u8
 }
 
 #[no_mangle]
 pub extern "C" fn coord_cache_fresh(state: &mut [u8], max: u64, ttl: u64) -> u8
     ensures { λ r. ⌜ (r ≡ refusalOf (lent (now (state .entry)) (Fresh max ttl) .answer)) × (now (state .exit) ≡ lent (now (state .entry)) (Fresh max ttl) .memory) ⌝ }
 {
-    fresh::fresh(state, max, ttl)
+    state::fresh::fresh(state, max, ttl)
 }
 
 // Hints: outcome, added weight, segment, unfunded, examined.
@@ -46,8 +46,8 @@ pub extern "C" fn coord_cache_insert(
 {
     let k = address(key);
     let p = path_from(path);
-    let answer = hints::insert(state, k, p, time);
-    tell(replies::hint_reply(answer), values)
+    let answer = placement::calls::insert(state, k, p, time);
+    tell(replies::answer::hint_reply(answer), values)
 }
 
 #[no_mangle]
@@ -63,8 +63,8 @@ pub extern "C" fn coord_cache_insert_with_ttl(
 {
     let k = address(key);
     let p = path_from(path);
-    let answer = hints::insert_with_ttl(state, k, p, time, ttl);
-    tell(replies::hint_reply(answer), values)
+    let answer = placement::calls::insert_with_ttl(state, k, p, time, ttl);
+    tell(replies::answer::hint_reply(answer), values)
 }
 
 #[no_mangle]
@@ -85,8 +85,8 @@ pub extern "C" fn coord_cache_insert_funded(
     let k = address(key);
     let p = path_from(path);
     let paid = funding(kind, amount);
-    let answer = hints::insert_funded(state, k, p, time, paid);
-    tell(replies::hint_reply(answer), values)
+    let answer = placement::calls::insert_funded(state, k, p, time, paid);
+    tell(replies::answer::hint_reply(answer), values)
 }
 
 #[no_mangle]
@@ -107,8 +107,8 @@ pub extern "C" fn coord_cache_insert_stated(
     let k = address(key);
     let p = path_from(path);
     let paid = funding(kind, amount);
-    let answer = hints::insert_stated(state, k, p, time, paid);
-    tell(replies::hint_reply(answer), values)
+    let answer = placement::calls::insert_stated(state, k, p, time, paid);
+    tell(replies::answer::hint_reply(answer), values)
 }
 
 // Verified inserts: 0, weight, 0, 0, examined.
@@ -124,8 +124,8 @@ pub extern "C" fn coord_cache_insert_verified(
 {
     let k = address(key);
     let p = path_from(path);
-    let answer = verified::insert_verified(state, k, p, time);
-    tell(replies::verified_reply(answer), values)
+    let answer = verification::calls::insert_verified(state, k, p, time);
+    tell(replies::answer::verified_reply(answer), values)
 }
 
 #[no_mangle]
@@ -141,8 +141,8 @@ pub extern "C" fn coord_cache_insert_verified_with_path_mtu(
 {
     let k = address(key);
     let p = path_from(path);
-    let answer = verified::insert_verified_with_path_mtu(state, k, p, time, mtu);
-    tell(replies::verified_reply(answer), values)
+    let answer = verification::calls::insert_verified_with_path_mtu(state, k, p, time, mtu);
+    tell(replies::answer::verified_reply(answer), values)
 }
 
 // Lookups: found, length. The elements stand in the state from byte `at` on.
@@ -156,7 +156,7 @@ pub extern "C" fn coord_cache_get(
 ) -> u8
     ensures { λ r. ⌜ Told (call (now (state .entry)) (Get (addressFrom (now (key .entry))) time)) r (now (values .exit)) (now (state .exit)) × PartAt (now (at .exit)) (now (state .exit)) (gotPart (addressFrom (now (key .entry))) time (now (state .entry))) × (now (at .exit) ≡ placeTold r (now (at .entry)) (addressFrom (now (key .entry))) time (now (state .exit))) ⌝ }
 {
-    if !soundness::is_sound(state) {
+    if !state::check::is_sound(state) {
         return tell(refused(1), values);
     }
     coord_cache_get_unchecked(state, key, time, values, at)
@@ -172,7 +172,7 @@ pub extern "C" fn coord_cache_get_and_touch(
 ) -> u8
     ensures { λ r. ⌜ Told (call (now (state .entry)) (GetAndTouch (addressFrom (now (key .entry))) time)) r (now (values .exit)) (now (state .exit)) × PartAt (now (at .exit)) (now (state .exit)) (gotPart (addressFrom (now (key .entry))) time (now (state .exit))) × (now (at .exit) ≡ placeTold r (now (at .entry)) (addressFrom (now (key .entry))) time (now (state .exit))) ⌝ }
 {
-    if !soundness::is_sound(state) {
+    if !state::check::is_sound(state) {
         return tell(refused(1), values);
     }
     coord_cache_get_and_touch_unchecked(state, key, time, values, at)
@@ -188,7 +188,7 @@ pub extern "C" fn coord_cache_remove(
 ) -> u8
     ensures { λ r. ⌜ Told (call (now (state .entry)) (Remove (addressFrom (now (key .entry))))) r (now (values .exit)) (now (state .exit)) × (now (row .exit) ≡ rowTaken (addressFrom (now (key .entry))) (now (state .entry)) (now (row .entry))) ⌝ }
 {
-    if !soundness::is_sound(state) {
+    if !state::check::is_sound(state) {
         return tell(refused(1), values);
     }
     coord_cache_remove_unchecked(state, key, values, row)
@@ -200,8 +200,8 @@ pub extern "C" fn coord_cache_demote(state: &mut [u8], key: &[u8; 16], values: &
     ensures { λ r. ⌜ Told (call (now (state .entry)) (Demote (addressFrom (now (key .entry))))) r (now (values .exit)) (now (state .exit)) ⌝ }
 {
     let k = address(key);
-    let answer = keyed::demote(state, k);
-    tell(replies::demote_reply(answer), values)
+    let answer = lookups::keyed::demote(state, k);
+    tell(replies::answer::demote_reply(answer), values)
 }
 
 #[no_mangle]
@@ -213,7 +213,7 @@ pub extern "C" fn coord_cache_clear_path_mtu(
     ensures { λ r. ⌜ Told (call (now (state .entry)) (ClearPathMtu (addressFrom (now (key .entry))))) r (now (values .exit)) (now (state .exit)) ⌝ }
 {
     let k = address(key);
-    let answer = keyed::clear_path_mtu(state, k);
+    let answer = lookups::keyed::clear_path_mtu(state, k);
     tell(refused(answer), values)
 }
 
@@ -227,7 +227,7 @@ pub extern "C" fn coord_cache_purge_expired(
     ensures { λ r. ⌜ Told (call (now (state .entry)) (PurgeExpired time)) r (now (values .exit)) (now (state .exit)) ⌝ }
 {
     let answer = sweeps::purge_expired(state, time);
-    tell(replies::sweep_reply(answer), values)
+    tell(replies::answer::sweep_reply(answer), values)
 }
 
 #[no_mangle]
@@ -248,7 +248,7 @@ pub extern "C" fn coord_cache_invalidate_via_node(
 {
     let a = address(addr);
     let answer = sweeps::invalidate_via_node(state, a);
-    tell(replies::sweep_reply(answer), values)
+    tell(replies::answer::sweep_reply(answer), values)
 }
 
 #[no_mangle]
@@ -261,7 +261,7 @@ pub extern "C" fn coord_cache_invalidate_other_roots(
 {
     let a = address(addr);
     let answer = sweeps::invalidate_other_roots(state, a);
-    tell(replies::sweep_reply(answer), values)
+    tell(replies::answer::sweep_reply(answer), values)
 }
 
 // Entries, max, expired, mean age.
@@ -270,7 +270,7 @@ pub extern "C" fn coord_cache_stats(state: &[u8], time: u64, values: &mut [u64; 
     ensures { λ r. ⌜ Told (call (now (state .entry)) (Stats time)) r (now (values .exit)) (now (state .exit)) ⌝ }
 {
     let answer = statistics::stats(state, time);
-    tell(replies::stats_reply(answer), values)
+    tell(replies::answer::stats_reply(answer), values)
 }
 
 // Whether a row is held, and the smallest expires_at.
@@ -279,5 +279,5 @@ pub extern "C" fn coord_cache_next_expiry(state: &[u8], values: &mut [u64; 5]) -
     ensures { λ r. ⌜ Told (call (now (state .entry)) NextExpiry) r (now (values .exit)) (now (state .exit)) ⌝ }
 {
     let answer = statistics::next_expiry(state);
-    tell(replies::expiry_reply(answer), values)
+    tell(replies::answer::expiry_reply(answer), values)
 }

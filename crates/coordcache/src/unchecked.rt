@@ -28,8 +28,8 @@ pub extern "C" fn coord_cache_insert_unchecked(
 {
     let k = address(key);
     let p = path_from(path);
-    let answer = hints::insert_unchecked(state, k, p, time);
-    tell(replies::hint_reply(answer), values)
+    let answer = placement::calls::insert_unchecked(state, k, p, time);
+    tell(replies::answer::hint_reply(answer), values)
 }
 
 #[no_mangle]
@@ -46,8 +46,8 @@ pub extern "C" fn coord_cache_insert_with_ttl_unchecked(
 {
     let k = address(key);
     let p = path_from(path);
-    let answer = hints::insert_with_ttl_unchecked(state, k, p, time, ttl);
-    tell(replies::hint_reply(answer), values)
+    let answer = placement::calls::insert_with_ttl_unchecked(state, k, p, time, ttl);
+    tell(replies::answer::hint_reply(answer), values)
 }
 
 #[no_mangle]
@@ -69,8 +69,8 @@ pub extern "C" fn coord_cache_insert_funded_unchecked(
     let k = address(key);
     let p = path_from(path);
     let paid = funding(kind, amount);
-    let answer = hints::insert_funded_unchecked(state, k, p, time, paid);
-    tell(replies::hint_reply(answer), values)
+    let answer = placement::calls::insert_funded_unchecked(state, k, p, time, paid);
+    tell(replies::answer::hint_reply(answer), values)
 }
 
 #[no_mangle]
@@ -92,8 +92,8 @@ pub extern "C" fn coord_cache_insert_stated_unchecked(
     let k = address(key);
     let p = path_from(path);
     let paid = funding(kind, amount);
-    let answer = hints::insert_stated_unchecked(state, k, p, time, paid);
-    tell(replies::hint_reply(answer), values)
+    let answer = placement::calls::insert_stated_unchecked(state, k, p, time, paid);
+    tell(replies::answer::hint_reply(answer), values)
 }
 
 // Verified inserts: 0, weight, 0, 0, examined.
@@ -110,8 +110,8 @@ pub extern "C" fn coord_cache_insert_verified_unchecked(
 {
     let k = address(key);
     let p = path_from(path);
-    let answer = verified::insert_verified_unchecked(state, k, p, time);
-    tell(replies::verified_reply(answer), values)
+    let answer = verification::calls::insert_verified_unchecked(state, k, p, time);
+    tell(replies::answer::verified_reply(answer), values)
 }
 
 #[no_mangle]
@@ -128,8 +128,14 @@ pub extern "C" fn coord_cache_insert_verified_with_path_mtu_unchecked(
 {
     let k = address(key);
     let p = path_from(path);
-    let answer = verified::insert_verified_with_path_mtu_unchecked(state, k, p, time, mtu);
-    tell(replies::verified_reply(answer), values)
+    let answer = verification::calls::insert_verified_with_path_mtu_unchecked(
+        state,
+        k,
+        p,
+        time,
+        mtu,
+    );
+    tell(replies::answer::verified_reply(answer), values)
 }
 
 // Lookups: found, length. The elements stand in the state from byte `at` on.
@@ -145,9 +151,9 @@ pub extern "C" fn coord_cache_get_unchecked(
     ensures { λ r. ⌜ Told (call (now (state .entry)) (Get (addressFrom (now (key .entry))) time)) r (now (values .exit)) (now (state .exit)) × PartAt (now (at .exit)) (now (state .exit)) (gotPart (addressFrom (now (key .entry))) time (now (state .entry))) × (now (at .exit) ≡ placeTold r (now (at .entry)) (addressFrom (now (key .entry))) time (now (state .exit))) ⌝ }
 {
     let k = address(key);
-    let place = lookups::get_place(state, k, time);
+    let place = lookups::lookup::get_place(state, k, time);
     *at = place.at as u64;
-    tell(asking::part_reply(place.bytes), values)
+    tell(commands::ask::part_reply(place.bytes), values)
 }
 
 #[no_mangle]
@@ -162,9 +168,9 @@ pub extern "C" fn coord_cache_get_and_touch_unchecked(
     ensures { λ r. ⌜ Told (call (now (state .entry)) (GetAndTouch (addressFrom (now (key .entry))) time)) r (now (values .exit)) (now (state .exit)) × PartAt (now (at .exit)) (now (state .exit)) (gotPart (addressFrom (now (key .entry))) time (now (state .exit))) × (now (at .exit) ≡ placeTold r (now (at .entry)) (addressFrom (now (key .entry))) time (now (state .exit))) ⌝ }
 {
     let k = address(key);
-    let place = lookups::touch_place(state, k, time);
+    let place = lookups::lookup::touch_place(state, k, time);
     *at = place.at as u64;
-    tell(asking::part_reply(place.bytes), values)
+    tell(commands::ask::part_reply(place.bytes), values)
 }
 
 // Found; the bytes of the row that leaves go into `row`.
@@ -180,9 +186,9 @@ pub extern "C" fn coord_cache_remove_unchecked(
 {
     let k = address(key);
     keep_row(state, k, row);
-    let answer = keyed::remove_unchecked(state, k);
+    let answer = lookups::keyed::remove_unchecked(state, k);
     let removal = answer.removal;
-    tell(replies::remove_reply(removal), values)
+    tell(replies::answer::remove_reply(removal), values)
 }
 
 // Whether the key is held.
@@ -196,8 +202,8 @@ pub extern "C" fn coord_cache_demote_unchecked(
     ensures { λ r. ⌜ Told (call (now (state .entry)) (Demote (addressFrom (now (key .entry))))) r (now (values .exit)) (now (state .exit)) ⌝ }
 {
     let k = address(key);
-    let answer = keyed::demote_unchecked(state, k);
-    tell(replies::demote_reply(answer), values)
+    let answer = lookups::keyed::demote_unchecked(state, k);
+    tell(replies::answer::demote_reply(answer), values)
 }
 
 #[no_mangle]
@@ -210,7 +216,7 @@ pub extern "C" fn coord_cache_clear_path_mtu_unchecked(
     ensures { λ r. ⌜ Told (call (now (state .entry)) (ClearPathMtu (addressFrom (now (key .entry))))) r (now (values .exit)) (now (state .exit)) ⌝ }
 {
     let k = address(key);
-    let answer = keyed::clear_path_mtu_unchecked(state, k);
+    let answer = lookups::keyed::clear_path_mtu_unchecked(state, k);
     tell(refused(answer), values)
 }
 
@@ -225,7 +231,7 @@ pub extern "C" fn coord_cache_purge_expired_unchecked(
     ensures { λ r. ⌜ Told (call (now (state .entry)) (PurgeExpired time)) r (now (values .exit)) (now (state .exit)) ⌝ }
 {
     let answer = sweeps::purge_expired_unchecked(state, time);
-    tell(replies::sweep_reply(answer), values)
+    tell(replies::answer::sweep_reply(answer), values)
 }
 
 #[no_mangle]
@@ -248,7 +254,7 @@ pub extern "C" fn coord_cache_invalidate_via_node_unchecked(
 {
     let a = address(addr);
     let answer = sweeps::invalidate_via_node_unchecked(state, a);
-    tell(replies::sweep_reply(answer), values)
+    tell(replies::answer::sweep_reply(answer), values)
 }
 
 #[no_mangle]
@@ -262,7 +268,7 @@ pub extern "C" fn coord_cache_invalidate_other_roots_unchecked(
 {
     let a = address(addr);
     let answer = sweeps::invalidate_other_roots_unchecked(state, a);
-    tell(replies::sweep_reply(answer), values)
+    tell(replies::answer::sweep_reply(answer), values)
 }
 
 // Entries, max, expired, mean age.
@@ -272,7 +278,7 @@ pub extern "C" fn coord_cache_stats_unchecked(state: &[u8], time: u64, values: &
     ensures { λ r. ⌜ Told (call (now (state .entry)) (Stats time)) r (now (values .exit)) (now (state .exit)) ⌝ }
 {
     let answer = statistics::stats_unchecked(state, time);
-    tell(replies::stats_reply(answer), values)
+    tell(replies::answer::stats_reply(answer), values)
 }
 
 // Whether a row is held, and the smallest expires_at.
@@ -282,5 +288,5 @@ pub extern "C" fn coord_cache_next_expiry_unchecked(state: &[u8], values: &mut [
     ensures { λ r. ⌜ Told (call (now (state .entry)) NextExpiry) r (now (values .exit)) (now (state .exit)) ⌝ }
 {
     let answer = statistics::next_expiry_unchecked(state);
-    tell(replies::expiry_reply(answer), values)
+    tell(replies::answer::expiry_reply(answer), values)
 }

@@ -1,11 +1,11 @@
 // Commands from standard input, one line each to standard output: 24 rows, starting fresh at max 8, ttl 300000. Input of any
 // length runs in the same memory. At its end, or where it cannot read or write, the tally goes to standard error.
-use coord::coord::Path;
 use libc::STDERR_FILENO;
 use libc::STDIN_FILENO;
 use libc::STDOUT_FILENO;
-use runs::Stop;
-use stream::Ran;
+use stream::run::Ran;
+use stream::stop::Stop;
+use types::coord::Path;
 use types::reply::Tally;
 ghost use mathlib.Core.Path.{_≡_};
 ghost use lib.ListN.{length};
@@ -115,10 +115,10 @@ fn run_some(memory: &mut [u8], input: &mut [u8], output: &mut [u8], s: Session) 
     }
     let pending = s.pending;
     let tally = s.tally;
-    let ran = stream::run(memory, pending, tally, &input[0..filled], s.last, output);
+    let ran = stream::run::run(memory, pending, tally, &input[0..filled], s.last, output);
     let used = ran.used;
     let written = ran.written;
-    let left = stream::keep_unused(input, used, filled);
+    let left = stream::run::keep_unused(input, used, filled);
     let t = s.after(ran, left);
     if io::write_all(STDOUT_FILENO, &output[0..written]) {
         return t;
@@ -142,7 +142,7 @@ fn turn(memory: &mut [u8], input: &mut [u8], output: &mut [u8], s: Session) -> S
 // uses up.
 // 24 rows are room enough for max 8, so fresh is done (runs, StreamDemand.fresh-24).
 fn serve(memory: &mut [u8], input: &mut [u8], output: &mut [u8]) -> Tally {
-    fresh::fresh(memory, 8, 300000);
+    state::fresh::fresh(memory, 8, 300000);
     let mut s = Session::new();
     let mut turns = u64::MAX;
     while 0 < turns {

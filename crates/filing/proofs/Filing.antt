@@ -7,7 +7,7 @@ use Prim.Native.Nat.{ℕ, zero, suc, _+_, _*_, _/_, _-_, _≤_, _<_}
 use native.Mathlib.Omega.{arith}
 use lib.Dec.{ltb}
 use lib.ListN.{length, take, drop, length-append, length-take, length-drop}
-use Rattle.coord.specs.declared.node_addr.NodeAddr.{NodeAddr}
+use Rattle.types.specs.declared.node_addr.NodeAddr.{NodeAddr}
 use Rattle.rules.specs.Records.{Entry, Row, State}
 use Rattle.rules.specs.Rows.{rowAt, inMain, find, changeRow, insertInOrder, weighRows, mainWeight, withRows}
 use Rattle.rules.specs.Sound.{sound, ascends}
@@ -22,7 +22,7 @@ use Rattle.search.specs.ByKey.{searched}
 use Rattle.search.proofs.SearchLaws.{absent-inside, absent-insert, none-searched}
 use Rattle.memory.proofs.RowLaws.{view-length}
 use Rattle.memory.specs.Edits.{withSeq, withStoredWeight, stampedAs}
-use Rattle.insertion.specs.Insertions.{inserted}
+use Rattle.rows.specs.Insertions.{inserted}
 
 -- ---- what a sound memory with a free row gives
 

@@ -8,8 +8,8 @@ use native.Mathlib.Omega.{arith}
 use lib.Dec.{ltb}
 use lib.ListN.{length, drop, length-replicate}
 use lib.Seq.{drop-at}
-use Rattle.coord.specs.declared.node_addr.NodeAddr.{NodeAddr}
-use Rattle.coord.specs.Addresses.{sameAddr, addrBefore}
+use Rattle.types.specs.declared.node_addr.NodeAddr.{NodeAddr}
+use Rattle.types.specs.Addresses.{sameAddr, addrBefore}
 use Rattle.rules.specs.Records.{Entry, Row, State}
 use Rattle.rules.specs.Rows.{rowAt, inMain, find, nextIndex, total, withoutRow, weighRows, withRows, withOnlyRows, zeroRows}
 use Rattle.rules.specs.Sound.{ascends}
@@ -24,7 +24,7 @@ use Rattle.search.proofs.Halves.{first-before, rest-ascends}
 use Rattle.search.proofs.SearchLaws.{absent-inside, absent-none, none-searched}
 use Rattle.memory.proofs.RowLaws.{length-without, view-length}
 use Rattle.memory.specs.Edits.{withSeq, withStoredWeight, withRowCount}
-use Rattle.insertion.specs.Insertions.{exchanged}
+use Rattle.rows.specs.Insertions.{exchanged}
 use Rattle.filing.proofs.Filing.{in-order}
 
 -- ---- the place of a key once row i is gone

@@ -1,3 +1,5 @@
 pub mod Filing
 pub mod Refiling
 pub mod FilingOver
+pub mod Replaced
+pub mod Seeking

@@ -3,7 +3,7 @@ use mathlib.Core.Path.{_≡_, refl, ap, _∙_}
 use mathlib.Core.List.{List}
 use Prim.Native.Nat.{ℕ, _+_, _<_}
 use lib.ListN.{length}
-use Rattle.coord.specs.declared.coord.Path.{Path}
+use Rattle.types.specs.declared.coord.Path.{Path}
 use Rattle.rules.specs.Records.{Entry, Row, State}
 use Rattle.rules.specs.Rows.{rowAt, inMain, changeRow, withRows}
 use Rattle.rules.specs.Entries.{update, markHint, addTimes}
@@ -11,7 +11,7 @@ use Rattle.rules.specs.Room.{refiled, raised, stamp, refile, restamp}
 use Rattle.rules.specs.Lookups.{rewrite, withEntry}
 use Rattle.memory.specs.Edits.{withWeight, withTimes}
 use Rattle.memory.proofs.Changes.{change-at, change-twice, row-changed}
-use Rattle.insertion.specs.Insertions.{withPath}
+use Rattle.rows.specs.Insertions.{withPath}
 
 -- ---- an update
 

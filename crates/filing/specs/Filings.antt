@@ -5,9 +5,9 @@ use mathlib.Core.Bool.{true}
 use mathlib.Core.List.{List}
 use mathlib.Core.Option.{none}
 use lib.ListN.{length}
-use Rattle.coord.specs.declared.coord.Path.{Path}
-use Rattle.coord.specs.declared.node_addr.NodeAddr.{NodeAddr}
-use Rattle.coord.specs.Paths.{asWritten, pathPlaces}
+use Rattle.types.specs.declared.coord.Path.{Path}
+use Rattle.types.specs.declared.node_addr.NodeAddr.{NodeAddr}
+use Rattle.types.specs.Paths.{asWritten, pathPlaces}
 use Rattle.rules.specs.Records.{Entry}
 use Rattle.rules.specs.Rows.{rowSize, find, inMain, weighRows, withoutRow}
 use Rattle.rules.specs.Sound.{ascends}

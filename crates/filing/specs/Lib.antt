@@ -1,1 +1,2 @@
 pub mod Filings
+pub mod Replacing

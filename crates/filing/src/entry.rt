@@ -1,7 +1,7 @@
 // An entry by value, as the calls make it (entry.rs).
-use coord::coord::Path;
-use entries::add_times;
+use entries::times::add_times;
 use memory::row;
+use types::coord::Path;
 ghost use mathlib.Core.Path.{_≡_};
 ghost use Prim.Native.Nat.{_+_, _*_, _≤_, _<_};
 ghost use lib.ListN.{length};

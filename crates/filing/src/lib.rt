@@ -1,4 +1,5 @@
-// Rows as the calls write them: an entry made, updated or marked; a row filed in the order of keys, refiled where it stands, or filed again as it was.
+// Rows filed in the order of keys, over a victim or in a free row; refiled; filed again as they were.
 pub mod entry;
 pub mod file;
+pub mod in_room;
 pub mod refile;

@@ -1,12 +1,12 @@
 // Row i, updated and refiled where it stands.
-use coord::coord::Path;
-use entries::add_times;
-use insertion::insert::set_path;
+use entries::times::add_times;
 use memory::row;
+use rows::insert::set_path;
+use types::coord::Path;
 ghost use mathlib.Core.Path.{_≡_};
 ghost use Prim.Native.Nat.{_+_, _*_, _≤_, _<_};
 ghost use lib.ListN.{length};
-ghost use Rattle.coord.specs.Paths.{pathPlaces};
+ghost use Rattle.types.specs.Paths.{pathPlaces};
 ghost use Rattle.rules.specs.Rows.{rowSize, rowAt};
 ghost use Rattle.rules.specs.Entries.{update};
 ghost use Rattle.rules.specs.Lookups.{rewrite};

@@ -1,11 +1,11 @@
 // The calls by 01's codes. A path of `len` elements stands at ROOT; one that is stated starts at the key.
-use coord::coord::CoordEntry;
-use coord::coord::Path;
-use coord::node_addr::NodeAddr;
 use types::answers::DemoteAnswer;
 use types::answers::HintAnswer;
 use types::answers::TouchAnswer;
 use types::answers::VerifiedAnswer;
+use types::coord::CoordEntry;
+use types::coord::Path;
+use types::node_addr::NodeAddr;
 use types::placed::Funding;
 use types::reply::Reply;
 use types::reply::refused;
@@ -57,30 +57,30 @@ fn filed(answer: VerifiedAnswer) -> Reply {
 }
 
 fn insert(memory: &mut [u8], key: u64, len: u64, time: u64) -> Reply {
-    hinted(hints::insert(memory, address(key), path(ROOT, len), time))
+    hinted(placement::calls::insert(memory, address(key), path(ROOT, len), time))
 }
 
 fn with_ttl(memory: &mut [u8], key: u64, len: u64, time: u64, ttl: u64) -> Reply {
-    hinted(hints::insert_with_ttl(memory, address(key), path(ROOT, len), time, ttl))
+    hinted(placement::calls::insert_with_ttl(memory, address(key), path(ROOT, len), time, ttl))
 }
 
 fn funded(memory: &mut [u8], key: u64, len: u64, time: u64, amount: u64) -> Reply {
     let funding = Funding::Upto(amount);
-    hinted(hints::insert_funded(memory, address(key), path(ROOT, len), time, funding))
+    hinted(placement::calls::insert_funded(memory, address(key), path(ROOT, len), time, funding))
 }
 
 fn stated(memory: &mut [u8], key: u64, len: u64, time: u64, amount: u64) -> Reply {
     let funding = Funding::Upto(amount);
-    hinted(hints::insert_stated(memory, address(key), path(key, len), time, funding))
+    hinted(placement::calls::insert_stated(memory, address(key), path(key, len), time, funding))
 }
 
 fn verified(memory: &mut [u8], key: u64, len: u64, time: u64) -> Reply {
-    filed(verified::insert_verified(memory, address(key), path(ROOT, len), time))
+    filed(verification::calls::insert_verified(memory, address(key), path(ROOT, len), time))
 }
 
 fn with_mtu(memory: &mut [u8], key: u64, len: u64, time: u64, mtu: u16) -> Reply {
     let p = path(ROOT, len);
-    filed(verified::insert_verified_with_path_mtu(memory, address(key), p, time, mtu))
+    filed(verification::calls::insert_verified_with_path_mtu(memory, address(key), p, time, mtu))
 }
 
 // `more` is the ttl, the amount of Upto, or the MTU.
@@ -108,12 +108,12 @@ fn looked(number: u8, bytes: usize) -> Reply {
 
 fn get(memory: &[u8], key: u64, time: u64) -> Reply {
     let mut number: u8 = 9;
-    let part = lookups::get(memory, address(key), time, &mut number);
+    let part = lookups::lookup::get(memory, address(key), time, &mut number);
     looked(number, part.len())
 }
 
 fn touch(memory: &mut [u8], key: u64, time: u64) -> Reply {
-    match lookups::touch(memory, address(key), time) {
+    match lookups::lookup::touch(memory, address(key), time) {
         TouchAnswer::Refused(n) => refused(n),
         TouchAnswer::Found(len) => says(1, len, 0, 0, 0),
         TouchAnswer::Absent => says(0, 0, 0, 0, 0),
@@ -121,7 +121,7 @@ fn touch(memory: &mut [u8], key: u64, time: u64) -> Reply {
 }
 
 fn demote(memory: &mut [u8], key: u64) -> Reply {
-    match keyed::demote(memory, address(key)) {
+    match lookups::keyed::demote(memory, address(key)) {
         DemoteAnswer::Refused(n) => refused(n),
         DemoteAnswer::Held(b) => says(b as u64, 0, 0, 0, 0),
     }
@@ -139,7 +139,7 @@ fn other(memory: &mut [u8], code: u64, key: u64, time: u64) -> Reply {
 // For fresh, `key` is max_entries and `len` the ttl.
 pub fn call(memory: &mut [u8], code: u64, key: u64, len: u64, time: u64, more: u64) -> Reply {
     match code {
-        0 => refused(fresh::fresh(memory, key, len)),
+        0 => refused(state::fresh::fresh(memory, key, len)),
         10..=15 => write(memory, code, key, len, time, more),
         _ => other(memory, code, key, time),
     }

@@ -2,3 +2,6 @@ pub mod Refusing
 pub mod Touching
 pub mod Looking
 pub mod Placing
+pub mod Clearing
+pub mod Demoting
+pub mod Removing

@@ -5,7 +5,7 @@ use native.Mathlib.Omega.{arith}
 use mathlib.Core.List.{List, []}
 use mathlib.Core.Option.{none, some}
 use mathlib.Core.Bool.{Bool, true, false}
-use Rattle.coord.specs.declared.node_addr.NodeAddr.{NodeAddr}
+use Rattle.types.specs.declared.node_addr.NodeAddr.{NodeAddr}
 use Rattle.rules.specs.Records.{State}
 use Rattle.rules.specs.Rows.{rowAt, find}
 use Rattle.rules.specs.Sound.{sound}
@@ -16,15 +16,15 @@ use Rattle.rules.specs.Refusals.{refusal, Asked, perform, gives}
 use Rattle.rules.specs.Answers.{refusalOf}
 use Rattle.types.specs.declared.answers.TouchAnswer.{TouchAnswer}
 use Rattle.rules.specs.Memory.{capacity, cut, viewRows, view}
-use Rattle.paths.specs.declared.path.PathPlace.{PathPlace}
+use Rattle.entries.specs.declared.path.PathPlace.{PathPlace}
 use Rattle.rules.specs.Lent.{Bytes, Typed, call, pathPart, foundPart, gotPart}
 use Rattle.rules.proofs.SoundTest.{RowOk}
 use Rattle.rules.proofs.RowLists.{every-at}
 use Rattle.rules.proofs.Public.{SoundMemory}
 use Rattle.rules.proofs.SoundKept.{step-sound}
 use Rattle.rules.proofs.LentMemory.{capacity-same, lent-request}
-use Rattle.frame.proofs.Asking.{read-answer, read-memory}
-use Rattle.frame.proofs.Frame.{not-refused}
+use Rattle.refusals.proofs.Asking.{read-answer, read-memory}
+use Rattle.refusals.proofs.Frame.{not-refused}
 use Rattle.lookups.specs.Steps.{StandsAt, placeFound}
 
 get-allowed : (l : List ℕ) (k : NodeAddr) (time : ℕ) → sound (capacity l) (view l) ≡ true → refusal (capacity l) (view l) (Asked (Get k time)) ≡ none

@@ -6,8 +6,8 @@ use mathlib.Core.List.{List}
 use mathlib.Core.Option.{none, some}
 use mathlib.Core.Bool.{Bool, true, false, cond}
 use lib.ListN.{length}
-use Rattle.coord.specs.declared.node_addr.NodeAddr.{NodeAddr}
-use Rattle.coord.specs.declared.coord.Path.{Path}
+use Rattle.types.specs.declared.node_addr.NodeAddr.{NodeAddr}
+use Rattle.types.specs.declared.coord.Path.{Path}
 use Rattle.types.specs.declared.answers.TouchAnswer.{TouchAnswer}
 use Rattle.rules.specs.Records.{State}
 use Rattle.rules.specs.Rows.{rowAt, find, withRows, withOnlyRows}
@@ -25,8 +25,8 @@ use Rattle.rules.proofs.Sizes.{small8-less}
 use Rattle.rules.proofs.Public.{SoundMemory, sound-memory}
 use Rattle.rules.proofs.GotPart.{RefreshedRow, refreshed-row, find-gone}
 use Rattle.memory.proofs.RowLaws.{view-length}
-use Rattle.paths.specs.declared.path.PathPlace.{PathPlace}
-use Rattle.frame.proofs.Frame.{rewritten-length}
+use Rattle.entries.specs.declared.path.PathPlace.{PathPlace}
+use Rattle.refusals.proofs.Frame.{rewritten-length}
 use Rattle.lookups.specs.Steps.{touchedAt, touchSays, touchedPlace, StandsAt}
 use Rattle.lookups.proofs.Looking.{finds, absent-stands, path-stands, touch-sound}
 use Rattle.lookups.proofs.Touching.{touch-done-at, touch-done-absent}

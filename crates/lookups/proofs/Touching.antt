@@ -7,9 +7,9 @@ use mathlib.Core.Option.{Option, none, some}
 use mathlib.Core.Bool.{Bool, true, false, cond}
 use lib.ListN.{length, drop}
 use lib.Seq.{length-take-le}
-use Rattle.coord.specs.declared.node_addr.NodeAddr.{NodeAddr}
-use Rattle.coord.specs.declared.coord.CoordEntry.{CoordEntry}
-use Rattle.coord.specs.Paths.{elements}
+use Rattle.types.specs.declared.node_addr.NodeAddr.{NodeAddr}
+use Rattle.types.specs.declared.coord.CoordEntry.{CoordEntry}
+use Rattle.types.specs.Paths.{elements}
 use Rattle.types.specs.declared.answers.TouchAnswer.{TouchAnswer}
 use Rattle.rules.specs.Cases.{maybe}
 use Rattle.rules.specs.Records.{Row, State}
@@ -29,8 +29,8 @@ use Rattle.rules.proofs.RowLists.{every-at}
 use Rattle.rules.proofs.Public.{SoundMemory, unsound-one}
 use Rattle.memory.proofs.RowLaws.{view-length}
 use Rattle.memory.specs.Edits.{withTimes}
-use Rattle.paths.proofs.Places.{elements-length}
-use Rattle.frame.proofs.Frame.{done-with, not-refused, rewritten-length, out-length}
+use Rattle.entries.proofs.Places.{elements-length}
+use Rattle.refusals.proofs.Frame.{done-with, not-refused, rewritten-length, out-length}
 use Rattle.lookups.specs.Steps.{touchedAt, touchSays}
 
 -- ---- row i

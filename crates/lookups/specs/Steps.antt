@@ -4,7 +4,7 @@ use mathlib.Core.Path.{_≡_}
 use mathlib.Core.List.{List}
 use mathlib.Core.Bool.{cond}
 use lib.ListN.{length}
-use Rattle.coord.specs.declared.node_addr.NodeAddr.{NodeAddr}
+use Rattle.types.specs.declared.node_addr.NodeAddr.{NodeAddr}
 use Rattle.types.specs.declared.answers.TouchAnswer.{TouchAnswer}
 use Rattle.rules.specs.Cases.{maybe}
 use Rattle.rules.specs.Records.{State}
@@ -13,7 +13,7 @@ use Rattle.rules.specs.Entries.{expired, refresh}
 use Rattle.rules.specs.Room.{takeOut}
 use Rattle.rules.specs.Lookups.{rewrite, unexpiredRow}
 use Rattle.rules.specs.Memory.{headSize, entryOffset, placesOffset, coordEntrySize, cut, view}
-use Rattle.paths.specs.declared.path.PathPlace.{PathPlace}
+use Rattle.entries.specs.declared.path.PathPlace.{PathPlace}
 use Rattle.rules.specs.Lent.{gotPart}
 
 -- get_and_touch, where the key's row is row i

@@ -11,7 +11,7 @@ use Rattle.rules.specs.Records.{Entry, Row, State}
 use Rattle.rules.specs.Rows.{rowAt, changeRow, withRows}
 use Rattle.rules.specs.Lookups.{withEntry, rewrite}
 use Rattle.rules.specs.Memory.{cut, leNumber, leBytes, coordEntriesOf, coordEntryOf, pathOf, entryOf, rowOf, rowsOf, viewRows}
-use Rattle.coord.specs.declared.coord.CoordEntry.{CoordEntry}
+use Rattle.types.specs.declared.coord.CoordEntry.{CoordEntry}
 use Rattle.rules.specs.Lent.{Small}
 use Rattle.rules.proofs.ViewLaws.{num-le, length-le}
 use Rattle.raw.proofs.StoreLaws.{take-sets-le, drop-sets-ge, take-sets-in, drop-sets-add, sets-more, cut-else, cut-same, cut-cut}

@@ -7,12 +7,12 @@ use denote.Shadow.{shadow}
 use denote.Laws.{Is}
 use denote.Array.{each}
 use denote.Struct.Field.{u8-field}
-use Rattle.coord.proofs.node_addr.NodeAddr as Address
-use Rattle.coord.proofs.coord.CoordEntry as Element
-use Rattle.coord.proofs.coord.Path as Whole
-use Rattle.coord.specs.declared.node_addr.NodeAddr.{NodeAddr}
-use Rattle.coord.specs.declared.coord.CoordEntry.{CoordEntry}
-use Rattle.coord.specs.declared.coord.Path.{Path}
+use Rattle.types.proofs.node_addr.NodeAddr as Address
+use Rattle.types.proofs.coord.CoordEntry as Element
+use Rattle.types.proofs.coord.Path as Whole
+use Rattle.types.specs.declared.node_addr.NodeAddr.{NodeAddr}
+use Rattle.types.specs.declared.coord.CoordEntry.{CoordEntry}
+use Rattle.types.specs.declared.coord.Path.{Path}
 use Rattle.rules.specs.Cases.{Every}
 use Rattle.rules.specs.Lent.{Bytes, AddrFits, CoordEntryFits, PathFits}
 use Rattle.rules.proofs.Sizes.{small8}

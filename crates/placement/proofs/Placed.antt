@@ -5,8 +5,8 @@ use mathlib.Core.List.{List}
 use mathlib.Core.Bool.{Bool, true, false}
 use lib.ListN.{length}
 use borrow.Author.Tests.{ltb-false}
-use Rattle.coord.specs.declared.node_addr.NodeAddr.{NodeAddr}
-use Rattle.coord.specs.declared.coord.Path.{Path}
+use Rattle.types.specs.declared.node_addr.NodeAddr.{NodeAddr}
+use Rattle.types.specs.declared.coord.Path.{Path}
 use Rattle.types.specs.declared.placed.Funding.{Funding}
 use Rattle.types.specs.declared.placed.Placed.{Placed}
 use Rattle.rules.specs.Records.{State}
@@ -19,11 +19,11 @@ use Rattle.rules.specs.Lent.{Bytes, call}
 use Rattle.rules.proofs.CallsKeep.{path-ok}
 use Rattle.rules.proofs.Public.{sound-memory}
 use Rattle.filing.specs.Filings.{Writable}
-use Rattle.newkeys.specs.Placements.{Placing, Holds}
-use Rattle.frame.specs.Writes.{writeRefusal}
-use Rattle.frame.proofs.Frame.{done-with}
-use Rattle.frame.proofs.Writing.{passed, write-refused, hint-allowed}
-use Rattle.placement.specs.declared.KeyRow.{KeyRow}
+use Rattle.placement.specs.Placements.{Placing, Holds}
+use Rattle.refusals.specs.Writes.{writeRefusal}
+use Rattle.refusals.proofs.Frame.{done-with}
+use Rattle.refusals.proofs.Writing.{passed, write-refused, hint-allowed}
+use Rattle.placement.specs.declared.hint.KeyRow.{KeyRow}
 use Rattle.placement.specs.Hints.{Places, HeldAt, NewIn, Stands}
 use Rattle.room.specs.Rooms.{Without}
 use mathlib.Core.Option.{some}
@@ -39,7 +39,7 @@ use Rattle.search.specs.declared.answers.Search.the-variants.{At, Absent}
 use Rattle.search.specs.ByKey.{searched}
 use Rattle.search.proofs.SearchLaws.{at-found, absent-none}
 use Rattle.room.proofs.Files.{shown, laid-out}
-use Rattle.heldkeys.proofs.HeldKeys.{out-without}
+use Rattle.placement.proofs.HeldKeys.{out-without}
 
 -- ---- 1. the key's row
 

@@ -4,8 +4,8 @@ use mathlib.Core.List.{List}
 use mathlib.Core.Option.{none, some}
 use mathlib.Core.Bool.{Bool, true}
 use Prim.Native.Nat.{ℕ}
-use Rattle.coord.specs.declared.node_addr.NodeAddr.{NodeAddr}
-use Rattle.coord.specs.declared.coord.Path.{Path}
+use Rattle.types.specs.declared.node_addr.NodeAddr.{NodeAddr}
+use Rattle.types.specs.declared.coord.Path.{Path}
 use Rattle.types.specs.declared.placed.Funding.{Funding}
 use Rattle.rules.specs.Records.{State}
 use Rattle.rules.specs.Placement.{placeNew, placeHeld, placeHint}
@@ -13,9 +13,9 @@ use Rattle.rules.specs.Calls.{Call, pathGiven, drawsStamps, verifiedWrite}
 use Rattle.rules.specs.Refusals.{perform, hinted}
 use Rattle.rules.specs.Memory.{viewRows}
 use Rattle.room.specs.Rooms.{Without}
-use Rattle.newkeys.specs.Placements.{Holds}
-use Rattle.placement.specs.declared.KeyRow.{KeyRow}
-use Rattle.placement.specs.declared.KeyRow.the-variants.{At, New}
+use Rattle.placement.specs.Placements.{Holds}
+use Rattle.placement.specs.declared.hint.KeyRow.{KeyRow}
+use Rattle.placement.specs.declared.hint.KeyRow.the-variants.{At, New}
 
 -- call q, on state s, places this hint
 pub record Places (q : Call) (k : NodeAddr) (p : Path) (time ttl : ℕ) (f : Funding) (stated : Bool) (s : State) : Type 0 where

@@ -1,1 +1,3 @@
 pub mod Bits
+pub mod Digits
+pub mod Texts

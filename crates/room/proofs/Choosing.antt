@@ -21,7 +21,7 @@ use Rattle.stamps.specs.declared.answers.Lowest.{Lowest}
 use Rattle.stamps.specs.declared.answers.Lowest.the-variants.{At, Nothing}
 use Rattle.stamps.specs.declared.answers.Victim.{Victim}
 use Rattle.stamps.specs.Walked.{lowestOf, walkFrom, soughtOf}
-use Rattle.counts.proofs.Sums.{sound-small}
+use Rattle.room.proofs.Sums.{sound-small}
 use Rattle.room.proofs.Later.{next-from}
 
 -- ---- what the walk for one victim leaves as it is

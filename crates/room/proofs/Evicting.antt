@@ -16,7 +16,7 @@ use Rattle.rules.proofs.SoundTest.{Sound, sound-is}
 use Rattle.rules.proofs.Moves.{restamp-sound, visits-of, visits-restamped}
 use Rattle.stamps.specs.Walked.{walkFrom}
 use Rattle.room.specs.Rooms.{LeftAt}
-use Rattle.counts.proofs.Sums.{sound-small}
+use Rattle.room.proofs.Sums.{sound-small}
 use Rattle.room.proofs.Leaving.{left-at}
 
 abbrev visits : State → ℕ

@@ -1,3 +1,4 @@
+pub mod Sums
 pub mod Places
 pub mod Later
 pub mod Choosing

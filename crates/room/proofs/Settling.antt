@@ -7,7 +7,7 @@ use mathlib.Core.Bool.{Bool, true, false, cond, _&&_, not}
 use lib.Dec.{ltb, leb, eqb}
 use lib.ListN.{length}
 use borrow.Author.Tests.{eq-eqb, ne-eqb, lt-ltb, ltb-true, ltb-false}
-use Rattle.coord.specs.declared.node_addr.NodeAddr.{NodeAddr}
+use Rattle.types.specs.declared.node_addr.NodeAddr.{NodeAddr}
 use Rattle.rules.specs.Cases.{Every}
 use Rattle.rules.specs.Records.{Row, State, aside, weightBound}
 use Rattle.rules.specs.Rows.{rowAt, atPlace, inMain, keepRows, countRows, mainCount, total, weighRows, withRows, withOnlyRows, withoutRow}
@@ -20,8 +20,8 @@ use Rattle.rules.proofs.SoundTest.{RowOk, and-left, and-right, sound-is}
 use Rattle.rules.proofs.Moves.{ready}
 use Rattle.rules.proofs.Walks.{Going, Led, back-core, choose-led, not-at, start-led}
 use Rattle.rules.proofs.Loops.{choose-done}
-use Rattle.sweep.proofs.Sweeping.{only-rows, rows-same}
-use Rattle.sweep.specs.Sweep.{PathFit, PathsFit, keptRows, sweepTest}
+use Rattle.retention.proofs.Sweeping.{only-rows, rows-same}
+use Rattle.retention.specs.Sweep.{PathFit, PathsFit, keptRows, sweepTest}
 use Rattle.stamps.specs.declared.answers.Lowest.the-variants.{At, Nothing}
 use Rattle.stamps.specs.Walked.{walkFrom}
 use Rattle.stamps.proofs.Counting.{count-few}

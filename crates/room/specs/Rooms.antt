@@ -5,7 +5,7 @@ use mathlib.Core.List.{List}
 use mathlib.Core.Option.{none}
 use mathlib.Core.Bool.{true}
 use lib.ListN.{length}
-use Rattle.coord.specs.declared.node_addr.NodeAddr.{NodeAddr}
+use Rattle.types.specs.declared.node_addr.NodeAddr.{NodeAddr}
 use Rattle.rules.specs.Records.{Row, State, probation, aside}
 use Rattle.rules.specs.Rows.{rowAt, atPlace, inMain, find, withoutRow, total, weighRows, mainCount, mainWeight}
 use Rattle.rules.specs.Sound.{sound, ascends}

@@ -1,11 +1,11 @@
 // Room in probation.
 use crate::answers::ProbationRoom;
-use soundness::head::probation_bound;
 use stamps::answers::Lowest;
 use stamps::lowest::lowest_stamp;
 use stamps::row::PROBATION;
 use stamps::row::is_stale;
 use stamps::row::restamp;
+use state::head::probation_bound;
 ghost use mathlib.Core.Path.{_≡_};
 ghost use mathlib.Core.Bool.{true};
 ghost use Prim.Native.Nat.{_+_, _*_, _≤_, _<_};

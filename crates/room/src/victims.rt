@@ -1,14 +1,14 @@
 // Room in main. Victims are set aside: one alone is left for the row that takes its place, several leave together, and without room
 // all go back.
 use crate::answers::Room;
-use coord::node_addr::NodeAddr;
-use counts::cut_to_bound;
-use counts::has_room;
+use crate::closed_form::cut_to_bound;
+use crate::closed_form::has_room;
 use stamps::answers::Lowest;
 use stamps::answers::LowestOfMain;
 use stamps::lowest::lowest_of_main;
 use stamps::row::BY_USE;
 use stamps::walk::next_victim;
+use types::node_addr::NodeAddr;
 ghost use mathlib.Core.Path.{_≡_};
 ghost use mathlib.Core.Bool.{true, false, not};
 ghost use mathlib.Core.List.{map};
@@ -21,7 +21,7 @@ ghost use Rattle.rules.specs.Room.{mainVisits, hasRoom, atNewPlace, putBack, ch
 ghost use Rattle.rules.specs.Memory.{headSize, capacity, viewRows};
 ghost use Rattle.stamps.specs.declared.answers.Lowest.the-variants.{Nothing};
 ghost use Rattle.stamps.specs.Walked.{walkFrom, MainIs};
-ghost use Rattle.sweep.specs.Sweep.{PathsFit};
+ghost use Rattle.retention.specs.Sweep.{PathsFit};
 ghost use Rattle.room.specs.Rooms.{chosenOf, roomOf, SetAside, Leaves};
 
 // Where a victim waits; no state at rest has this place.
@@ -120,7 +120,7 @@ fn drop_aside(state: &mut [u8], n: usize) -> usize
     ensures { λ r. ⌜ (r ≤ n) × (viewRows r (now (state .exit)) ≡ withOnlyRows (keepRows (λ x. not (atPlace aside x)) (viewRows n (now (state .entry)) .rows)) (viewRows n (now (state .entry)))) ⌝ }
 {
     let none = NodeAddr([0u8; 16]);
-    sweep::sweep_rows(state, n, sweep::ASIDE, 0, none)
+    retention::rows::sweep_rows(state, n, retention::rows::ASIDE, 0, none)
 }
 
 // There is room: no victim is sought.

@@ -6,8 +6,8 @@ use mathlib.Core.Bool.{Bool, true, false, _&&_, _||_}
 use lib.Dec.{ltb, eqb}
 use borrow.Author.Tests.{eq-eqb, ne-eqb, eqb-true, eqb-false, ltb-true, ltb-false, lt-ltb, le-ltb}
 use native.Mathlib.Omega.{arith}
-use Rattle.coord.specs.declared.node_addr.NodeAddr.{NodeAddr}
-use Rattle.coord.specs.Addresses.{addrBefore, bytesBefore, sameAddr, sameBytes}
+use Rattle.types.specs.declared.node_addr.NodeAddr.{NodeAddr}
+use Rattle.types.specs.Addresses.{addrBefore, bytesBefore, sameAddr, sameBytes}
 
 pub contradiction : {C : Type 0} {b : Bool} → b ≡ true → b ≡ false → C
 contradiction {C} {b} p q = absurd (let z : _≡_ {A = ℕ} 0 1 = cc in let n : ⊥ = omega arith in n)

@@ -7,7 +7,7 @@ use native.Mathlib.Omega.{arith}
 use lib.Dec.{leb}
 use lib.ListN.{length}
 use borrow.Author.Tests.{leb-true}
-use Rattle.coord.specs.Paths.{pathWeight}
+use Rattle.types.specs.Paths.{pathWeight}
 use Rattle.rules.specs.Cases.{maybe}
 use Rattle.rules.specs.Records.{State, mainBound, probationBound}
 use Rattle.rules.specs.Rows.{mainCount, probationCount}

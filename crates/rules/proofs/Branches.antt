@@ -6,8 +6,8 @@ use mathlib.Core.List.{List, [], _∷_}
 use mathlib.Core.Option.{Option, none, some}
 use mathlib.Core.Bool.{Bool, true, false}
 use lib.ListN.{replicate}
-use Rattle.coord.specs.declared.coord.Path.{Path}
-use Rattle.coord.specs.Paths.{zeroEntry}
+use Rattle.types.specs.declared.coord.Path.{Path}
+use Rattle.types.specs.Paths.{zeroEntry}
 use Rattle.types.specs.declared.entry.CoordSource.the-variants.{Hint, Verified}
 use Rattle.types.specs.declared.entry.PathMtu.the-variants.{Known, Unknown}
 use Rattle.types.specs.declared.placed.Funding.the-variants.{Uncharged, Upto}

@@ -8,10 +8,10 @@ use lib.Dec.{ltb, leb, eqb, leb·zero}
 use lib.ListN.{length}
 use borrow.Author.Tests.{eq-eqb, ne-eqb, eqb-true, eqb-false, ltb-true, ltb-false, leb-true, leb-false, not-true}
 use native.Mathlib.Omega.{arith}
-use Rattle.coord.specs.declared.coord.Path.{Path}
-use Rattle.coord.specs.declared.node_addr.NodeAddr.{NodeAddr}
-use Rattle.coord.specs.Addresses.{sameAddr}
-use Rattle.coord.specs.Paths.{asWritten, contains, pathWeight, rootOf, startsAt}
+use Rattle.types.specs.declared.coord.Path.{Path}
+use Rattle.types.specs.declared.node_addr.NodeAddr.{NodeAddr}
+use Rattle.types.specs.Addresses.{sameAddr}
+use Rattle.types.specs.Paths.{asWritten, contains, pathWeight, rootOf, startsAt}
 use Rattle.types.specs.Values.{covers}
 use Rattle.rules.specs.Cases.{Every, maybe}
 use Rattle.rules.specs.Records.{Entry, Row, State, byUse, mainBound, parked, verifiedSource}

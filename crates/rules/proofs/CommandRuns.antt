@@ -8,9 +8,9 @@ use native.Mathlib.Omega.{arith}
 use lib.Dec.{ltb, leb, eqb}
 use lib.ListN.{length, take, drop, set, length-drop}
 use borrow.Author.Tests.{eqb-false, eqb-true, le-ltb, leb-false, leb-true, lt-ltb}
-use Rattle.coord.specs.declared.coord.Path.{Path}
-use Rattle.coord.specs.declared.coord.Appended.{Appended}
-use Rattle.coord.specs.Paths.{appended, emptyPath}
+use Rattle.types.specs.declared.coord.Path.{Path}
+use Rattle.types.specs.declared.coord.Appended.{Appended}
+use Rattle.types.specs.Paths.{appended, emptyPath}
 use Rattle.types.specs.declared.placed.Funding.{Funding}
 use Rattle.types.specs.declared.placed.Funding.the-variants.{Uncharged}
 use Rattle.types.specs.Values.{placedReply, refuses, says, statsReply, verifiedReply}

@@ -5,11 +5,11 @@ use mathlib.Core.List.{List, [], _∷_, _++_, map}
 use mathlib.Core.Option.{Option, none, some}
 use mathlib.Core.Bool.{Bool, true, false}
 use lib.ListN.{replicate, take}
-use Rattle.coord.specs.declared.coord.CoordEntry.{CoordEntry}
-use Rattle.coord.specs.declared.coord.Path.{Path}
-use Rattle.coord.specs.declared.node_addr.NodeAddr.{NodeAddr}
-use Rattle.coord.specs.Addresses.{addrBefore, bytesBefore, sameAddr, sameBytes}
-use Rattle.coord.specs.Paths.{among, appended, asWritten, contains, elements, emptyPath, firstIs, lastAddr, pathWeight, rootOf, sameEntries, sameEntry, samePath, startsAt, zeroEntry}
+use Rattle.types.specs.declared.coord.CoordEntry.{CoordEntry}
+use Rattle.types.specs.declared.coord.Path.{Path}
+use Rattle.types.specs.declared.node_addr.NodeAddr.{NodeAddr}
+use Rattle.types.specs.Addresses.{addrBefore, bytesBefore, sameAddr, sameBytes}
+use Rattle.types.specs.Paths.{among, appended, asWritten, contains, elements, emptyPath, firstIs, lastAddr, pathWeight, rootOf, sameEntries, sameEntry, samePath, startsAt, zeroEntry}
 use Rattle.types.specs.declared.placed.HintOutcome.{HintOutcome}
 use Rattle.types.specs.declared.placed.Segment.{Segment}
 use Rattle.types.specs.Values.{bit, covers, outcomeCode, placedReply, refuses, says, segmentCode, sourceOf, statsReply, tallied, verifiedReply}

@@ -5,8 +5,8 @@ use mathlib.Core.List.{List, [], _∷_, _++_, map}
 use mathlib.Core.Option.{none, some}
 use mathlib.Core.Bool.{false}
 use lib.ListN.{length, replicate}
-use Rattle.coord.specs.declared.coord.Path.{Path}
-use Rattle.coord.specs.Paths.{zeroEntry}
+use Rattle.types.specs.declared.coord.Path.{Path}
+use Rattle.types.specs.Paths.{zeroEntry}
 use Rattle.types.specs.declared.entry.CoordSource.the-variants.{Hint, Verified}
 use Rattle.types.specs.declared.entry.PathMtu.the-variants.{Known, Unknown}
 use Rattle.types.specs.declared.placed.Funding.the-variants.{Upto}

@@ -9,11 +9,11 @@ use lib.Dec.{leb}
 use lib.ListN.{length, take, replicate, length-append, length-replicate}
 use lib.Seq.{length-take-le}
 use borrow.Author.Tests.{ltb-false}
-use Rattle.coord.specs.declared.coord.CoordEntry.{CoordEntry}
-use Rattle.coord.specs.declared.coord.Path.{Path}
-use Rattle.coord.specs.declared.node_addr.NodeAddr.{NodeAddr}
-use Rattle.coord.specs.Addresses.{sameAddr}
-use Rattle.coord.specs.Paths.{asWritten, contains, elements, pathWeight, rootOf, startsAt, zeroEntry}
+use Rattle.types.specs.declared.coord.CoordEntry.{CoordEntry}
+use Rattle.types.specs.declared.coord.Path.{Path}
+use Rattle.types.specs.declared.node_addr.NodeAddr.{NodeAddr}
+use Rattle.types.specs.Addresses.{sameAddr}
+use Rattle.types.specs.Paths.{asWritten, contains, elements, pathWeight, rootOf, startsAt, zeroEntry}
 use Rattle.types.specs.declared.placed.Funding.the-variants.{Uncharged, Upto}
 use Rattle.types.specs.declared.placed.Funding.{Funding}
 use Rattle.types.specs.Values.{covers}

@@ -7,8 +7,8 @@ use mathlib.Core.Bool.{Bool, true, false, _&&_, _||_, not}
 use lib.Dec.{leb}
 use native.Mathlib.Omega.{arith}
 use borrow.Author.Tests.{le-leb}
-use Rattle.coord.specs.declared.coord.Path.{Path}
-use Rattle.coord.specs.Paths.{asWritten}
+use Rattle.types.specs.declared.coord.Path.{Path}
+use Rattle.types.specs.Paths.{asWritten}
 use Rattle.rules.specs.Cases.{Every}
 use Rattle.rules.specs.Records.{State}
 use Rattle.rules.specs.Sound.{sound}

@@ -8,8 +8,8 @@ use lib.Dec.{ltb, leb, eqb}
 use lib.ListN.{length}
 use borrow.Author.Tests.{eq-eqb, ne-eqb, eqb-true, eqb-false, ltb-true, ltb-false, leb-true, lt-ltb, le-ltb}
 use native.Mathlib.Omega.{arith}
-use Rattle.coord.specs.declared.node_addr.NodeAddr.{NodeAddr}
-use Rattle.coord.specs.Paths.{pathWeight}
+use Rattle.types.specs.declared.node_addr.NodeAddr.{NodeAddr}
+use Rattle.types.specs.Paths.{pathWeight}
 use Rattle.rules.specs.Cases.{Every}
 use Rattle.rules.specs.Records.{Entry, Row, State, byUse, mainBound, probation, probationBound}
 use Rattle.rules.specs.Rows.{atPlace, changeRow, countRows, inMain, inProbation, keepRows, lowestStamp, mainCount, probationCount, rowAt, total, withOnlyRows, withRows, withoutRow}

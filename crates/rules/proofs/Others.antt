@@ -7,9 +7,9 @@ use lib.Dec.{ltb, leb, eqb, leb·zero}
 use lib.ListN.{length}
 use borrow.Author.Tests.{eq-eqb, ne-eqb, eqb-true, ltb-true, ltb-false, leb-true, leb-false}
 use native.Mathlib.Omega.{arith}
-use Rattle.coord.specs.declared.coord.Path.{Path}
-use Rattle.coord.specs.declared.node_addr.NodeAddr.{NodeAddr}
-use Rattle.coord.specs.Paths.{asWritten, pathWeight, samePath}
+use Rattle.types.specs.declared.coord.Path.{Path}
+use Rattle.types.specs.declared.node_addr.NodeAddr.{NodeAddr}
+use Rattle.types.specs.Paths.{asWritten, pathWeight, samePath}
 use Rattle.types.specs.declared.placed.Funding.the-variants.{Uncharged, Upto}
 use Rattle.types.specs.declared.placed.HintOutcome.the-variants.{Inserted, Rejected}
 use Rattle.types.specs.declared.placed.Segment.the-variants.{Main, Probation}

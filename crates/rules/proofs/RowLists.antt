@@ -8,8 +8,8 @@ use lib.Dec.{ltb, leb, eqb}
 use lib.ListN.{length}
 use borrow.Author.Tests.{eq-eqb, ne-eqb, ltb-true, ltb-false, eqb-true, eqb-false}
 use native.Mathlib.Omega.{arith}
-use Rattle.coord.specs.declared.node_addr.NodeAddr.{NodeAddr}
-use Rattle.coord.specs.Addresses.{addrBefore, sameAddr}
+use Rattle.types.specs.declared.node_addr.NodeAddr.{NodeAddr}
+use Rattle.types.specs.Addresses.{addrBefore, sameAddr}
 use Rattle.rules.specs.Cases.{Every, maybe}
 use Rattle.rules.specs.Records.{Entry, Row, probation}
 use Rattle.rules.specs.Rows.{atPlace, changeRow, find, insertInOrder, keepRows, lowerOf, lowestStamp, nextIndex, rowAt, stampBefore, total, withoutRow}

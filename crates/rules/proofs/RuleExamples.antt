@@ -3,7 +3,7 @@ use mathlib.Core.Path.{_≡_, refl}
 use mathlib.Core.List.{[], _∷_, _++_, map}
 use mathlib.Core.Option.{none, some}
 use mathlib.Core.Bool.{true, false}
-use Rattle.coord.specs.declared.coord.Path.{Path}
+use Rattle.types.specs.declared.coord.Path.{Path}
 use Rattle.types.specs.declared.entry.CoordSource.the-variants.{Hint, Verified}
 use Rattle.types.specs.declared.entry.PathMtu.the-variants.{Known, Unknown}
 use Rattle.types.specs.declared.placed.Funding.the-variants.{Uncharged, Upto}

@@ -9,8 +9,8 @@ use lib.Dec.{ltb, leb, eqb}
 use lib.ListN.{length, take, drop, replicate, length-append, length-drop}
 use lib.Seq.{length-take-le}
 use borrow.Author.Tests.{eqb-false, ltb-false}
-use Rattle.coord.specs.declared.node_addr.NodeAddr.{NodeAddr}
-use Rattle.coord.specs.Addresses.{addrBefore}
+use Rattle.types.specs.declared.node_addr.NodeAddr.{NodeAddr}
+use Rattle.types.specs.Addresses.{addrBefore}
 use Rattle.rules.specs.Cases.{Every}
 use Rattle.rules.specs.Records.{Entry, Row, State, aside, byUse, parked, probation, probationBound}
 use Rattle.rules.specs.Rows.{atPlace, changeRow, inMain, insertInOrder, keepRows, lowestStamp, probationCount, rowAt, total, weighRows, withOnlyRows, withRows, withoutRow, zeroRows}

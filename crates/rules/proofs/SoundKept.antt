@@ -8,7 +8,7 @@ use lib.Dec.{ltb, leb, eqb}
 use lib.ListN.{length}
 use borrow.Author.Tests.{ltb-true, ltb-false, le-leb, le-ltb, lt-ltb, ne-eqb, eqb-true, eqb-false}
 use native.Mathlib.Omega.{arith}
-use Rattle.coord.specs.declared.node_addr.NodeAddr.{NodeAddr}
+use Rattle.types.specs.declared.node_addr.NodeAddr.{NodeAddr}
 use Rattle.rules.specs.Cases.{Every, maybe}
 use Rattle.rules.specs.Records.{Row, State, aside, probationBound}
 use Rattle.rules.specs.Rows.{atPlace, countRows, inMain, inProbation, total}

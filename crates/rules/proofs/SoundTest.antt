@@ -7,9 +7,9 @@ use lib.Dec.{ltb, leb, eqb}
 use lib.ListN.{length}
 use borrow.Author.Tests.{eq-eqb, eqb-true, eqb-false, leb-true, le-leb}
 use native.Mathlib.Omega.{arith}
-use Rattle.coord.specs.declared.node_addr.NodeAddr.{NodeAddr}
-use Rattle.coord.specs.Addresses.{addrBefore}
-use Rattle.coord.specs.Paths.{pathWeight}
+use Rattle.types.specs.declared.node_addr.NodeAddr.{NodeAddr}
+use Rattle.types.specs.Addresses.{addrBefore}
+use Rattle.types.specs.Paths.{pathWeight}
 use Rattle.rules.specs.Cases.{Every}
 use Rattle.rules.specs.Records.{Row, State, mainBound, parked, probation, probationBound}
 use Rattle.rules.specs.Rows.{atPlace, mainCount, mainWeight, probationCount}

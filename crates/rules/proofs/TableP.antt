@@ -5,7 +5,7 @@ use mathlib.Core.List.{List, [], _∷_, _++_, map}
 use mathlib.Core.Option.{Option, none, some}
 use mathlib.Core.Bool.{Bool, true, false}
 use lib.ListN.{replicate}
-use Rattle.coord.specs.Paths.{pathWeight}
+use Rattle.types.specs.Paths.{pathWeight}
 use Rattle.types.specs.declared.placed.Funding.the-variants.{Uncharged, Upto}
 use Rattle.types.specs.declared.placed.HintOutcome.the-variants.{Changed, Inserted, Rejected}
 use Rattle.types.specs.declared.placed.Segment.the-variants.{Main, Probation}

@@ -8,9 +8,9 @@ use lib.Dec.{ltb, leb, eqb}
 use lib.ListN.{length}
 use borrow.Author.Tests.{ltb-true, ltb-false, le-leb, le-ltb, lt-ltb, ne-eqb, eqb-true, eqb-false}
 use native.Mathlib.Omega.{arith}
-use Rattle.coord.specs.declared.coord.Path.{Path}
-use Rattle.coord.specs.declared.node_addr.NodeAddr.{NodeAddr}
-use Rattle.coord.specs.Paths.{pathWeight}
+use Rattle.types.specs.declared.coord.Path.{Path}
+use Rattle.types.specs.declared.node_addr.NodeAddr.{NodeAddr}
+use Rattle.types.specs.Paths.{pathWeight}
 use Rattle.rules.specs.Cases.{Every}
 use Rattle.rules.specs.Records.{Row, State, byUse, probation}
 use Rattle.rules.specs.Rows.{atPlace, inMain, mainWeight, rowAt, total}

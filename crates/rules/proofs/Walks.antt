@@ -8,7 +8,7 @@ use lib.Dec.{ltb, leb, eqb}
 use lib.ListN.{length}
 use borrow.Author.Tests.{eq-eqb, ne-eqb, eqb-true, eqb-false, ltb-true, ltb-false, leb-true, leb-false, lt-ltb, le-ltb, le-leb}
 use native.Mathlib.Omega.{arith}
-use Rattle.coord.specs.declared.node_addr.NodeAddr.{NodeAddr}
+use Rattle.types.specs.declared.node_addr.NodeAddr.{NodeAddr}
 use Rattle.rules.specs.Cases.{Every}
 use Rattle.rules.specs.Records.{Entry, Row, State, aside, byUse, parked, weightBound}
 use Rattle.rules.specs.Rows.{atPlace, changeRow, countRows, inMain, inProbation, keepRows, lowestStamp, mainCount, mainWeight, probationCount, rowAt, total, weighRows, withOnlyRows, withRows}

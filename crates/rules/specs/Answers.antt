@@ -3,7 +3,7 @@ use Prim.Native.Nat.{ℕ}
 use mathlib.Core.Option.{Option, none, some}
 use mathlib.Core.Bool.{Bool}
 use lib.ListN.{length}
-use Rattle.coord.specs.Paths.{emptyPath}
+use Rattle.types.specs.Paths.{emptyPath}
 use Rattle.types.specs.declared.entry.CacheEntry.{CacheEntry}
 use Rattle.types.specs.declared.entry.PathMtu.the-variants.{Unknown}
 use Rattle.types.specs.declared.entry.CoordSource.the-variants.{Hint}

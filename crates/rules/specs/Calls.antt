@@ -4,11 +4,11 @@ use mathlib.Core.List.{List}
 use mathlib.Core.Option.{Option, none, some}
 use mathlib.Core.Bool.{Bool, true, false, not}
 use lib.Dec.{ltb}
-use Rattle.coord.specs.declared.node_addr.NodeAddr.{NodeAddr}
-use Rattle.coord.specs.declared.coord.CoordEntry.{CoordEntry}
-use Rattle.coord.specs.declared.coord.Path.{Path}
-use Rattle.coord.specs.Addresses.{sameAddr}
-use Rattle.coord.specs.Paths.{contains, rootOf}
+use Rattle.types.specs.declared.node_addr.NodeAddr.{NodeAddr}
+use Rattle.types.specs.declared.coord.CoordEntry.{CoordEntry}
+use Rattle.types.specs.declared.coord.Path.{Path}
+use Rattle.types.specs.Addresses.{sameAddr}
+use Rattle.types.specs.Paths.{contains, rootOf}
 use Rattle.types.specs.declared.entry.CacheEntry.{CacheEntry}
 use Rattle.types.specs.declared.placed.Funding.{Funding}
 use Rattle.types.specs.declared.placed.Funding.the-variants.{Uncharged}

@@ -5,11 +5,11 @@ use mathlib.Core.Option.{Option, none, some}
 use mathlib.Core.Bool.{Bool, true, false, cond, _&&_}
 use lib.Dec.{ltb, leb, eqb}
 use lib.ListN.{length, take, drop}
-use Rattle.coord.specs.declared.node_addr.NodeAddr.{NodeAddr}
-use Rattle.coord.specs.declared.coord.CoordEntry.{CoordEntry}
-use Rattle.coord.specs.declared.coord.Path.{Path}
-use Rattle.coord.specs.declared.coord.Appended.{Appended}
-use Rattle.coord.specs.Paths.{emptyPath, appended}
+use Rattle.types.specs.declared.node_addr.NodeAddr.{NodeAddr}
+use Rattle.types.specs.declared.coord.CoordEntry.{CoordEntry}
+use Rattle.types.specs.declared.coord.Path.{Path}
+use Rattle.types.specs.declared.coord.Appended.{Appended}
+use Rattle.types.specs.Paths.{emptyPath, appended}
 use Rattle.types.specs.declared.placed.Funding.{Funding}
 use Rattle.types.specs.declared.placed.Funding.the-variants.{Upto, Uncharged}
 use Rattle.types.specs.declared.reply.Reply.{Reply}

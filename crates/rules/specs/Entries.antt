@@ -2,8 +2,8 @@
 use Prim.Native.Nat.{ℕ, _+_, min}
 use mathlib.Core.Bool.{Bool, _&&_}
 use lib.Dec.{ltb, leb}
-use Rattle.coord.specs.declared.coord.Path.{Path}
-use Rattle.coord.specs.Paths.{asWritten}
+use Rattle.types.specs.declared.coord.Path.{Path}
+use Rattle.types.specs.Paths.{asWritten}
 use Rattle.rules.specs.Records.{Entry, verifiedSource, hintSource, noMtu, someMtu}
 use Rattle.rules.specs.Sound.{fromVerified}
 

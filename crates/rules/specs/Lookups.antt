@@ -3,9 +3,9 @@ use Prim.Native.Nat.{ℕ}
 use mathlib.Core.List.{List}
 use mathlib.Core.Option.{Option, none, some}
 use mathlib.Core.Bool.{Bool, true, false, cond, not}
-use Rattle.coord.specs.declared.node_addr.NodeAddr.{NodeAddr}
-use Rattle.coord.specs.declared.coord.CoordEntry.{CoordEntry}
-use Rattle.coord.specs.Paths.{elements}
+use Rattle.types.specs.declared.node_addr.NodeAddr.{NodeAddr}
+use Rattle.types.specs.declared.coord.CoordEntry.{CoordEntry}
+use Rattle.types.specs.Paths.{elements}
 use Rattle.types.specs.declared.entry.CacheEntry.{CacheEntry}
 use Rattle.rules.specs.Cases.{maybe}
 use Rattle.rules.specs.Records.{Entry, Row, State, parked, entryValue}

@@ -2,10 +2,10 @@
 use Prim.Native.Nat.{ℕ, zero, suc, _+_, _*_, _-_, _/_, _%_, min}
 use mathlib.Core.List.{List, [], _∷_, _++_}
 use lib.ListN.{length, take, drop}
-use Rattle.coord.specs.declared.node_addr.NodeAddr.{NodeAddr}
-use Rattle.coord.specs.declared.coord.CoordEntry.{CoordEntry}
-use Rattle.coord.specs.declared.coord.Path.{Path}
-use Rattle.coord.specs.Paths.{pathPlaces}
+use Rattle.types.specs.declared.node_addr.NodeAddr.{NodeAddr}
+use Rattle.types.specs.declared.coord.CoordEntry.{CoordEntry}
+use Rattle.types.specs.declared.coord.Path.{Path}
+use Rattle.types.specs.Paths.{pathPlaces}
 use Rattle.rules.specs.Records.{Entry, Row, State}
 use Rattle.rules.specs.Rows.{rowSize}
 

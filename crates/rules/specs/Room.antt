@@ -5,7 +5,7 @@ use mathlib.Core.Option.{Option, none, some}
 use mathlib.Core.Bool.{Bool, true, false, cond, _&&_, _||_, not}
 use lib.Dec.{ltb, leb, eqb}
 use lib.ListN.{length, drop}
-use Rattle.coord.specs.declared.node_addr.NodeAddr.{NodeAddr}
+use Rattle.types.specs.declared.node_addr.NodeAddr.{NodeAddr}
 use Rattle.rules.specs.Cases.{maybe}
 use Rattle.rules.specs.Records.{Entry, Row, State, byUse, parked, probation, aside, weightBound, probationBound}
 use Rattle.rules.specs.Rows.{rowAt, atPlace, inMain, lowestStamp, changeRow, withoutRow, keepRows, insertInOrder, total, countRows, weighRows, mainCount, mainWeight, probationCount, rowSize, withRows, withOnlyRows}

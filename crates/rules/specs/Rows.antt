@@ -5,9 +5,9 @@ use mathlib.Core.Option.{Option, none, some}
 use mathlib.Core.Bool.{Bool, cond, _&&_, _||_}
 use lib.Dec.{ltb, eqb}
 use lib.ListN.{length, getD, replicate}
-use Rattle.coord.specs.declared.node_addr.NodeAddr.{NodeAddr}
-use Rattle.coord.specs.Addresses.{sameAddr, addrBefore}
-use Rattle.coord.specs.Paths.{emptyPath}
+use Rattle.types.specs.declared.node_addr.NodeAddr.{NodeAddr}
+use Rattle.types.specs.Addresses.{sameAddr, addrBefore}
+use Rattle.types.specs.Paths.{emptyPath}
 use Rattle.rules.specs.Records.{Row, State, probation}
 
 -- what stands past the last row; nothing reads it

@@ -4,8 +4,8 @@ use mathlib.Core.List.{List, [], _∷_}
 use mathlib.Core.Bool.{Bool, true, false, _&&_, _||_, not}
 use lib.Dec.{ltb, leb, eqb}
 use lib.ListN.{length}
-use Rattle.coord.specs.Addresses.{addrBefore}
-use Rattle.coord.specs.Paths.{pathPlaces, pathWeight}
+use Rattle.types.specs.Addresses.{addrBefore}
+use Rattle.types.specs.Paths.{pathPlaces, pathWeight}
 use Rattle.rules.specs.Records.{Entry, Row, State, parked, probation, hintSource, verifiedSource, someMtu, maxRows, probationBound, mainBound}
 use Rattle.rules.specs.Rows.{atPlace, mainCount, mainWeight, probationCount}
 

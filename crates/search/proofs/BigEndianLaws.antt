@@ -9,7 +9,7 @@ use lib.Dec.{ltb, eqb}
 use lib.ListN.{length, take, drop, getD, length-drop, take-append-drop}
 use lib.Seq.{drop-cons, drop-drop, length-take-le, take-add, take-all}
 use borrow.Author.Tests.{eq-eqb, eqb-true, eqb-false, le-ltb, ltb-true, ltb-false}
-use Rattle.coord.specs.Addresses.{bytesBefore}
+use Rattle.types.specs.Addresses.{bytesBefore}
 use Rattle.rules.specs.Lent.{Bytes}
 use Rattle.rules.specs.Memory.{cut}
 use Rattle.rules.proofs.Addresses.{contradiction}

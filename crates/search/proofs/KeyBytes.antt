@@ -4,8 +4,8 @@ use mathlib.Core.List.{List}
 use Prim.Native.Nat.{ℕ, _+_, _*_, _≤_, _<_}
 use native.Mathlib.Omega.{arith}
 use lib.ListN.{length, drop}
-use Rattle.coord.specs.declared.node_addr.NodeAddr.{NodeAddr}
-use Rattle.coord.specs.Addresses.{addrBefore}
+use Rattle.types.specs.declared.node_addr.NodeAddr.{NodeAddr}
+use Rattle.types.specs.Addresses.{addrBefore}
 use Rattle.rules.specs.Records.{Row}
 use Rattle.rules.specs.Rows.{rowAt}
 use Rattle.rules.specs.Memory.{cut, rowOf, viewRows}

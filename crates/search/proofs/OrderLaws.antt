@@ -1,8 +1,8 @@
 -- What each answer of `orderOf` says of the two addresses, and when it is given.
 use mathlib.Core.Path.{_≡_, refl, sym}
 use mathlib.Core.Bool.{Bool, true, false}
-use Rattle.coord.specs.declared.node_addr.NodeAddr.{NodeAddr}
-use Rattle.coord.specs.Addresses.{sameAddr, addrBefore}
+use Rattle.types.specs.declared.node_addr.NodeAddr.{NodeAddr}
+use Rattle.types.specs.Addresses.{sameAddr, addrBefore}
 use Rattle.rules.proofs.Addresses.{before-irrefl, before-total, before-trans, contradiction, same-false, same-ne, same-true}
 use Rattle.search.specs.ByKey.{orderOf}
 use Rattle.search.specs.declared.answers.Order.the-variants.{Less, Equal, Greater}

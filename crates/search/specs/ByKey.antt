@@ -2,8 +2,8 @@
 use Prim.Native.Nat.{ℕ}
 use mathlib.Core.List.{List}
 use mathlib.Core.Bool.{cond}
-use Rattle.coord.specs.declared.node_addr.NodeAddr.{NodeAddr}
-use Rattle.coord.specs.Addresses.{sameAddr, addrBefore}
+use Rattle.types.specs.declared.node_addr.NodeAddr.{NodeAddr}
+use Rattle.types.specs.Addresses.{sameAddr, addrBefore}
 use Rattle.rules.specs.Cases.{maybe}
 use Rattle.rules.specs.Records.{Row}
 use Rattle.rules.specs.Rows.{find, countRows}

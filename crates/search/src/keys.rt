@@ -1,10 +1,10 @@
 // Keys of the held rows, which ascend. A key is the first sixteen bytes of its row.
 use crate::answers::Order;
 use crate::answers::Search;
-use coord::node_addr::NodeAddr;
 use memory::head::HEAD;
 use memory::head::ROW;
 use raw::numbers::wide;
+use types::node_addr::NodeAddr;
 ghost use mathlib.Core.Path.{_≡_};
 ghost use mathlib.Core.Bool.{true};
 ghost use Prim.Native.Nat.{_+_, _*_, _≤_, _<_};

@@ -14,8 +14,8 @@ use Rattle.rules.specs.Answers.{statsSaid, expirySaid}
 use Rattle.rules.specs.Memory.{capacity, viewRows, view}
 use Rattle.rules.specs.Lent.{Bytes, call}
 use Rattle.rules.proofs.Public.{sound-memory}
-use Rattle.frame.proofs.Asking.{read-answer, read-memory}
-use Rattle.frame.proofs.Frame.{not-refused}
+use Rattle.refusals.proofs.Asking.{read-answer, read-memory}
+use Rattle.refusals.proofs.Frame.{not-refused}
 
 pub stats-done : (l : List ℕ) (n time : ℕ) (c : CacheStats) → sound (capacity l) (view l) ≡ true → n ≡ viewRows 0 l .rowCount → Bytes l → c ≡ stats time (viewRows n l) → (statsSaid (StatsAnswer.Stats c) ≡ call l (Stats time) .answer) × (l ≡ call l (Stats time) .memory)
 unfolding perform gives statsSaid pathGiven verifiedWrite drawsStamps

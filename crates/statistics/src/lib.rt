@@ -22,7 +22,7 @@ fn count_expired(state: &[u8], n: usize, time: u64) -> u64
     let mut count: u64 = 0;
     let mut i = 0;
     while i < n {
-        count += entries::is_expired(state, n, i, time) as u64;
+        count += entries::times::is_expired(state, n, i, time) as u64;
         i += 1;
     }
     count
@@ -120,7 +120,7 @@ pub fn next_expiry_unchecked(state: &[u8]) -> ExpiryAnswer
 pub fn stats(state: &[u8], time: u64) -> StatsAnswer
     ensures { λ r. ⌜ (statsSaid r ≡ call (now (state .entry)) (Stats time) .answer) × (now (state .exit) ≡ call (now (state .entry)) (Stats time) .memory) ⌝ }
 {
-    if !soundness::is_sound(state) {
+    if !state::check::is_sound(state) {
         return StatsAnswer::Refused(1);
     }
     stats_unchecked(state, time)
@@ -129,7 +129,7 @@ pub fn stats(state: &[u8], time: u64) -> StatsAnswer
 pub fn next_expiry(state: &[u8]) -> ExpiryAnswer
     ensures { λ r. ⌜ (expirySaid r ≡ call (now (state .entry)) NextExpiry .answer) × (now (state .exit) ≡ call (now (state .entry)) NextExpiry .memory) ⌝ }
 {
-    if !soundness::is_sound(state) {
+    if !state::check::is_sound(state) {
         return ExpiryAnswer::Refused(1);
     }
     next_expiry_unchecked(state)

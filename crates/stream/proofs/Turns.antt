@@ -9,22 +9,22 @@ use lib.Dec.{ltb, eqb}
 use lib.ListN.{length, drop, getD, length-drop, length-append}
 use lib.Seq.{sets, drop-drop}
 use borrow.Author.Tests.{lt-ltb, le-ltb, ltb-false, ne-eqb}
-use Rattle.coord.specs.declared.coord.Path.{Path}
+use Rattle.types.specs.declared.coord.Path.{Path}
 use Rattle.types.specs.declared.reply.Tally.{Tally}
 use Rattle.types.specs.Values.{tallied}
 use Rattle.rules.specs.Cases.{maybe}
 use Rattle.rules.specs.Commands.{Line, line, lineText, linesText, tallyAfter}
 use Rattle.rules.proofs.Addresses.{contradiction}
 use Rattle.raw.proofs.StoreLaws.{sets-more}
-use Rattle.decoding.specs.Widths.{widthOf}
-use Rattle.decoding.specs.OnMemory.{Held, held, obeyByte}
-use Rattle.commands.specs.declared.AfterCommand.{AfterCommand}
+use Rattle.commands.specs.Widths.{widthOf}
+use Rattle.commands.specs.OnMemory.{Held, held, obeyByte}
+use Rattle.commands.specs.declared.command.AfterCommand.{AfterCommand}
 use Rattle.commands.specs.After.{Answers}
-use Rattle.runs.specs.declared.Stop.{Stop}
-use Rattle.runs.specs.declared.Stop.the-variants as Stop
-use Rattle.runs.specs.Runs.{RunEnd, operands, cutShort, stopped, andThen, runPart}
-use Rattle.stream.specs.declared.Next.the-variants.{Full, Cut, Command}
-use Rattle.stream.specs.declared.Ran.{Ran}
+use Rattle.stream.specs.declared.stop.Stop.{Stop}
+use Rattle.stream.specs.declared.stop.Stop.the-variants as Stop
+use Rattle.stream.specs.Runs.{RunEnd, operands, cutShort, stopped, andThen, runPart}
+use Rattle.stream.specs.declared.run.Next.the-variants.{Full, Cut, Command}
+use Rattle.stream.specs.declared.run.Ran.{Ran}
 use Rattle.stream.specs.Running.{nextIs, EndsAs, prefixed, SoFar, Going}
 
 -- ---- what stands at the front

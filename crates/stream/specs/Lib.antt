@@ -1,1 +1,3 @@
+pub mod Runs
+pub mod Streams
 pub mod Running

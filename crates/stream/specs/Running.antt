@@ -6,16 +6,16 @@ use mathlib.Core.Bool.{Bool, true, false, cond, not, _&&_}
 use lib.Dec.{ltb}
 use lib.ListN.{length, drop}
 use lib.Seq.{sets}
-use Rattle.coord.specs.declared.coord.Path.{Path}
+use Rattle.types.specs.declared.coord.Path.{Path}
 use Rattle.types.specs.declared.reply.Tally.{Tally}
 use Rattle.rules.specs.Sound.{sound}
 use Rattle.rules.specs.Memory.{capacity, view}
 use Rattle.rules.specs.Commands.{Line, linesText, tallyAfter}
-use Rattle.decoding.specs.OnMemory.{held}
-use Rattle.runs.specs.Runs.{RunEnd, lineRoom, operands, cutShort, runPart}
-use Rattle.stream.specs.declared.Next.{Next}
-use Rattle.stream.specs.declared.Next.the-variants.{Full, Cut, Command}
-use Rattle.stream.specs.declared.Ran.{Ran}
+use Rattle.commands.specs.OnMemory.{held}
+use Rattle.stream.specs.Runs.{RunEnd, lineRoom, operands, cutShort, runPart}
+use Rattle.stream.specs.declared.run.Next.{Next}
+use Rattle.stream.specs.declared.run.Next.the-variants.{Full, Cut, Command}
+use Rattle.stream.specs.declared.run.Ran.{Ran}
 
 -- what stands at the front of the input
 unfoldable pub nextIs : ℕ → Bool → ℕ → List ℕ → Next

@@ -1,9 +1,9 @@
 // The command stream for a driver in another language: runs as the crate `stream` proves them, with the pending path as bytes
 // and the run's end as numbers. Thin; the calls have the contracts.
-use coord::coord::CoordEntry;
-use coord::coord::Path;
-use coord::node_addr::NodeAddr;
-use runs::Stop;
+use stream::stop::Stop;
+use types::coord::CoordEntry;
+use types::coord::Path;
+use types::node_addr::NodeAddr;
 use types::reply::Tally;
 
 // A length, and 32 places of 32 bytes.
@@ -27,7 +27,7 @@ fn load(pending: &[u8]) -> Path {
     }
     let mut k = 0;
     while k < 32 {
-        entries[k] = paths::addr::load_coord_entry(pending, 1 + k * 32);
+        entries[k] = entries::addr::load_coord_entry(pending, 1 + k * 32);
         k += 1;
     }
     let len = raw::numbers::wide(pending[0]) as usize;
@@ -41,7 +41,7 @@ fn store(pending: &mut [u8], path: Path) {
     if 32 < path.len {
         return;
     }
-    insertion::values::store_path(pending, 0, path);
+    rows::values::store_path(pending, 0, path);
 }
 
 fn stop_code(stop: Stop) -> u64 {
@@ -87,7 +87,7 @@ pub extern "C" fn stream_run(
         done: report[3],
         refused: report[4],
     };
-    let ran = stream::run(state, path, tally, input, last != 0, output);
+    let ran = stream::run::run(state, path, tally, input, last != 0, output);
     let after = ran.pending;
     let counts = ran.tally;
     let stop = ran.stop;

@@ -6,12 +6,12 @@ use mathlib.Core.List.{List, [], _∷_}
 use mathlib.Core.Option.{none}
 use mathlib.Core.Bool.{Bool, true, not}
 use lib.ListN.{length}
-use Rattle.coord.specs.Addresses.{sameAddr}
-use Rattle.coord.specs.Paths.{contains, rootOf}
+use Rattle.types.specs.Addresses.{sameAddr}
+use Rattle.types.specs.Paths.{contains, rootOf}
 use Rattle.rules.specs.Entries.{expired}
 use Rattle.rules.specs.Rows.{keepRows, mainWeight}
 use Rattle.memory.proofs.RowLaws.{view-length}
-use Rattle.coord.specs.declared.node_addr.NodeAddr.{NodeAddr}
+use Rattle.types.specs.declared.node_addr.NodeAddr.{NodeAddr}
 use Rattle.types.specs.declared.answers.SweepAnswer.{SweepAnswer}
 use Rattle.rules.specs.Cases.{Every}
 use Rattle.rules.specs.Records.{Entry, Row, State}
@@ -27,9 +27,9 @@ use Rattle.rules.proofs.SoundTest.{RowOk}
 use Rattle.rules.proofs.Public.{sound-memory}
 use Rattle.memory.specs.Edits.{OnlyRows, shrunk}
 use Rattle.memory.proofs.RowLaws.{only-shrunk}
-use Rattle.frame.proofs.Frame.{done-with, not-refused}
-use Rattle.sweep.specs.Sweep.{sweepTest, keptRows, PathFit, PathsFit}
-use Rattle.sweep.proofs.Sweeping.{left-out}
+use Rattle.refusals.proofs.Frame.{done-with, not-refused}
+use Rattle.retention.specs.Sweep.{sweepTest, keptRows, PathFit, PathsFit}
+use Rattle.retention.proofs.Sweeping.{left-out}
 
 -- ---- the calls
 

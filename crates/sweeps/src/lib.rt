@@ -1,6 +1,6 @@
 // The calls that sweep: purge_expired, invalidate_via_node, invalidate_other_roots, clear.
-use coord::node_addr::NodeAddr;
 use types::answers::SweepAnswer;
+use types::node_addr::NodeAddr;
 ghost use mathlib.Core.Path.{_≡_};
 ghost use mathlib.Core.Bool.{true};
 ghost use Prim.Native.Nat.{_-_};
@@ -26,7 +26,7 @@ pub fn purge_expired_unchecked(state: &mut [u8], time: u64) -> SweepAnswer
 {
     let n = memory::head::row_count(state) as usize;
     let none = NodeAddr([0u8; 16]);
-    let kept = sweep::sweep_counted(state, n, sweep::EXPIRED, time, none);
+    let kept = retention::rows::sweep_counted(state, n, retention::rows::EXPIRED, time, none);
     SweepAnswer::Removed((n - kept) as u64)
 }
 
@@ -35,7 +35,7 @@ pub fn invalidate_via_node_unchecked(state: &mut [u8], addr: NodeAddr) -> SweepA
     ensures { λ r. ⌜ (sweepSaid r ≡ call (now (state .entry)) (InvalidateViaNode addr) .answer) × (now (state .exit) ≡ call (now (state .entry)) (InvalidateViaNode addr) .memory) ⌝ }
 {
     let n = memory::head::row_count(state) as usize;
-    let kept = sweep::sweep_counted(state, n, sweep::VIA_NODE, 0, addr);
+    let kept = retention::rows::sweep_counted(state, n, retention::rows::VIA_NODE, 0, addr);
     SweepAnswer::Removed((n - kept) as u64)
 }
 
@@ -44,14 +44,14 @@ pub fn invalidate_other_roots_unchecked(state: &mut [u8], addr: NodeAddr) -> Swe
     ensures { λ r. ⌜ (sweepSaid r ≡ call (now (state .entry)) (InvalidateOtherRoots addr) .answer) × (now (state .exit) ≡ call (now (state .entry)) (InvalidateOtherRoots addr) .memory) ⌝ }
 {
     let n = memory::head::row_count(state) as usize;
-    let kept = sweep::sweep_counted(state, n, sweep::OTHER_ROOT, 0, addr);
+    let kept = retention::rows::sweep_counted(state, n, retention::rows::OTHER_ROOT, 0, addr);
     SweepAnswer::Removed((n - kept) as u64)
 }
 
 pub fn clear(state: &mut [u8]) -> u8
     ensures { λ r. ⌜ (r ≡ refusalOf (call (now (state .entry)) Clear .answer)) × (now (state .exit) ≡ call (now (state .entry)) Clear .memory) ⌝ }
 {
-    if !soundness::is_sound(state) {
+    if !state::check::is_sound(state) {
         return 1;
     }
     clear_unchecked(state)
@@ -60,7 +60,7 @@ pub fn clear(state: &mut [u8]) -> u8
 pub fn purge_expired(state: &mut [u8], time: u64) -> SweepAnswer
     ensures { λ r. ⌜ (sweepSaid r ≡ call (now (state .entry)) (PurgeExpired time) .answer) × (now (state .exit) ≡ call (now (state .entry)) (PurgeExpired time) .memory) ⌝ }
 {
-    if !soundness::is_sound(state) {
+    if !state::check::is_sound(state) {
         return SweepAnswer::Refused(1);
     }
     purge_expired_unchecked(state, time)
@@ -69,7 +69,7 @@ pub fn purge_expired(state: &mut [u8], time: u64) -> SweepAnswer
 pub fn invalidate_via_node(state: &mut [u8], addr: NodeAddr) -> SweepAnswer
     ensures { λ r. ⌜ (sweepSaid r ≡ call (now (state .entry)) (InvalidateViaNode addr) .answer) × (now (state .exit) ≡ call (now (state .entry)) (InvalidateViaNode addr) .memory) ⌝ }
 {
-    if !soundness::is_sound(state) {
+    if !state::check::is_sound(state) {
         return SweepAnswer::Refused(1);
     }
     invalidate_via_node_unchecked(state, addr)
@@ -78,7 +78,7 @@ pub fn invalidate_via_node(state: &mut [u8], addr: NodeAddr) -> SweepAnswer
 pub fn invalidate_other_roots(state: &mut [u8], addr: NodeAddr) -> SweepAnswer
     ensures { λ r. ⌜ (sweepSaid r ≡ call (now (state .entry)) (InvalidateOtherRoots addr) .answer) × (now (state .exit) ≡ call (now (state .entry)) (InvalidateOtherRoots addr) .memory) ⌝ }
 {
-    if !soundness::is_sound(state) {
+    if !state::check::is_sound(state) {
         return SweepAnswer::Refused(1);
     }
     invalidate_other_roots_unchecked(state, addr)

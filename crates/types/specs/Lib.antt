@@ -1,1 +1,3 @@
+pub mod Addresses
+pub mod Paths
 pub mod Values

@@ -1,5 +1,5 @@
 // An entry of the cache as `remove` hands it back.
-use coord::coord::Path;
+use crate::coord::Path;
 ghost use mathlib.Core.Path.{_≡_};
 ghost use Rattle.types.specs.Values.{sourceOf};
 

@@ -1,6 +1,8 @@
-// What calls take and answer, under the names of the original.
+// Addresses, path elements and paths; what calls take and answer (node_addr.rs, coord.rs, entry.rs, mod.rs).
 pub mod answers;
+pub mod coord;
 pub mod entry;
+pub mod node_addr;
 pub mod placed;
 pub mod reply;
 pub mod stats;

@@ -5,11 +5,11 @@ mod print;
 mod session;
 mod text;
 
-use coord::coord::Path;
 use libc::STDIN_FILENO;
 use memory::head::HEAD;
 use memory::head::ROW;
 use session::Session;
+use types::coord::Path;
 use types::reply::Tally;
 ghost use mathlib.Core.Path.{_≡_};
 ghost use lib.ListN.{length};
@@ -34,7 +34,7 @@ fn size(line: &[u8]) -> usize {
 
 // Each stream begins on what the one before left.
 fn begin(line: &[u8], memory: &mut [u8], s: Session) -> Session {
-    let refusal = fresh::fresh(memory, text::number(line, 2), text::number(line, 3));
+    let refusal = state::fresh::fresh(memory, text::number(line, 2), text::number(line, 3));
     s.holds(refusal == 0, session::TEXT, 0)
 }
 
@@ -44,7 +44,7 @@ fn written(memory: &mut [u8], input: &[u8], output: &mut [u8]) -> usize {
         done: 0,
         refused: 0,
     };
-    let ran = stream::run(memory, Path::empty(), tally, input, true, output);
+    let ran = stream::run::run(memory, Path::empty(), tally, input, true, output);
     ran.written
 }
 

@@ -5,10 +5,10 @@ use Prim.Native.Nat.{_-_, _*_, _≤_, min}
 use native.Mathlib.Omega.{arith}
 use borrow.Author.Needs.{needs}
 use lib.ListN.{length, take, drop, replicate, length-set}
-use Rattle.coord.specs.Paths.{zeroEntry}
+use Rattle.types.specs.Paths.{zeroEntry}
 use Rattle.rules.specs.Memory.{coordEntriesOf}
-use Rattle.paths.proofs.Bytes.{stored}
-use Rattle.paths.proofs.Places.{entries-length, entries-at}
+use Rattle.entries.proofs.Bytes.{stored}
+use Rattle.entries.proofs.Places.{entries-length, entries-at}
 use Rattle.boundary.proofs.Operands.{path-made}
 use Rattle.boundary.proofs.path_from.Statement.{statement}
 use Rattle.boundary.proofs.path_from.Tie as tie

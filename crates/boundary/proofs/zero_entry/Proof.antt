@@ -1,5 +1,5 @@
 use mathlib.Core.Path.{refl}
-use Rattle.coord.specs.Paths.{zeroEntry}
+use Rattle.types.specs.Paths.{zeroEntry}
 use Rattle.boundary.proofs.zero_entry.Statement.{statement}
 use Rattle.boundary.proofs.zero_entry.Tie as tie
 

@@ -1,6 +1,6 @@
 use Rattle.rules.proofs.MemoryLaws.{all-bytes}
 use Rattle.rules.proofs.Public.{sound-memory}
-use Rattle.frame.proofs.Frame.{head-there}
+use Rattle.refusals.proofs.Frame.{head-there}
 use Rattle.statistics.proofs.Asking.{expiry-done}
 use Rattle.statistics.proofs.next_expiry_unchecked.Statement.{statement}
 use Rattle.statistics.proofs.next_expiry_unchecked.Tie as tie

@@ -1,6 +1,6 @@
 use Rattle.rules.proofs.MemoryLaws.{all-bytes}
 use Rattle.rules.proofs.Public.{sound-memory}
-use Rattle.frame.proofs.Frame.{head-there}
+use Rattle.refusals.proofs.Frame.{head-there}
 use Rattle.statistics.proofs.Asking.{stats-done}
 use Rattle.statistics.proofs.stats_unchecked.Statement.{statement}
 use Rattle.statistics.proofs.stats_unchecked.Tie as tie

@@ -2,7 +2,7 @@ use native.Mathlib.Omega.{arith}
 use Rattle.rules.proofs.MemoryLaws.{all-bytes}
 use Rattle.rules.proofs.Public.{sound-memory}
 use borrow.Author.Needs.{needs}
-use Rattle.frame.proofs.Frame.{head-there}
+use Rattle.refusals.proofs.Frame.{head-there}
 use Rattle.sweeps.proofs.Calls.{cleared}
 use Rattle.sweeps.proofs.clear_unchecked.Statement.{statement}
 use Rattle.sweeps.proofs.clear_unchecked.Tie as tie

@@ -1,11 +1,11 @@
 use mathlib.Core.Bool.{not}
-use Rattle.coord.specs.Addresses.{sameAddr}
-use Rattle.coord.specs.Paths.{rootOf}
+use Rattle.types.specs.Addresses.{sameAddr}
+use Rattle.types.specs.Paths.{rootOf}
 use Rattle.rules.specs.Calls.{InvalidateOtherRoots}
 use Rattle.rules.specs.Memory.{viewRows}
 use Rattle.rules.proofs.MemoryLaws.{all-bytes}
 use borrow.Author.Needs.{needs}
-use Rattle.frame.proofs.Frame.{head-there}
+use Rattle.refusals.proofs.Frame.{head-there}
 use Rattle.sweeps.proofs.Calls.{sweepable, sweep-done, roots-is, roots-keeps, roots-allowed}
 use Rattle.sweeps.proofs.invalidate_other_roots_unchecked.Statement.{statement}
 use Rattle.sweeps.proofs.invalidate_other_roots_unchecked.Tie as tie

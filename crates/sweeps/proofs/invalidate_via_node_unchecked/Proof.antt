@@ -1,9 +1,9 @@
-use Rattle.coord.specs.Paths.{contains}
+use Rattle.types.specs.Paths.{contains}
 use Rattle.rules.specs.Calls.{InvalidateViaNode}
 use Rattle.rules.specs.Memory.{viewRows}
 use Rattle.rules.proofs.MemoryLaws.{all-bytes}
 use borrow.Author.Needs.{needs}
-use Rattle.frame.proofs.Frame.{head-there}
+use Rattle.refusals.proofs.Frame.{head-there}
 use Rattle.sweeps.proofs.Calls.{sweepable, sweep-done, via-is, via-keeps, via-allowed}
 use Rattle.sweeps.proofs.invalidate_via_node_unchecked.Statement.{statement}
 use Rattle.sweeps.proofs.invalidate_via_node_unchecked.Tie as tie

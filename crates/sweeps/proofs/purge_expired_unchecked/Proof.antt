@@ -3,7 +3,7 @@ use Rattle.rules.specs.Calls.{PurgeExpired}
 use Rattle.rules.specs.Memory.{viewRows}
 use Rattle.rules.proofs.MemoryLaws.{all-bytes}
 use borrow.Author.Needs.{needs}
-use Rattle.frame.proofs.Frame.{head-there}
+use Rattle.refusals.proofs.Frame.{head-there}
 use Rattle.sweeps.proofs.Calls.{sweepable, sweep-done, purge-is, purge-keeps, purge-allowed}
 use Rattle.sweeps.proofs.purge_expired_unchecked.Statement.{statement}
 use Rattle.sweeps.proofs.purge_expired_unchecked.Tie as tie

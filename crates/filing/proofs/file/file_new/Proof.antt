@@ -5,7 +5,7 @@ use Prim.Native.Nat.{ℕ, _+_}
 use native.Mathlib.Omega.{arith}
 use Rattle.rules.specs.Memory.{capacity, viewRows}
 use Rattle.memory.proofs.Fields.{same-head}
-use Rattle.insertion.specs.Insertions.{rowFrom}
+use Rattle.rows.specs.Insertions.{rowFrom}
 use Rattle.filing.specs.Filings.{entryFrom}
 use Rattle.filing.proofs.Filing.{one-more-fits, rows-rise, rows-weigh, stored-light, place-inside, same-seq, filed}
 use borrow.Author.Needs.{needs}

@@ -3,7 +3,7 @@ use Prim.Native.Nat.{ℕ, _+_}
 use native.Mathlib.Omega.{arith}
 use Rattle.rules.specs.Memory.{viewRows}
 use Rattle.memory.proofs.RowLaws.{view-length}
-use Rattle.insertion.specs.Insertions.{rowFrom}
+use Rattle.rows.specs.Insertions.{rowFrom}
 use Rattle.filing.specs.Filings.{entryFrom}
 use Rattle.filing.proofs.Filing.{same-seq}
 use Rattle.filing.proofs.FilingOver.{place-without, filed-over}

@@ -6,7 +6,7 @@ use lib.ListN.{length, take, drop, length-set, length-replicate}
 use borrow.Author.Needs.{needs}
 use Rattle.rules.specs.Memory.{cut}
 use Rattle.rules.proofs.MemoryLaws.{length-cut}
-use Rattle.paths.proofs.Bytes.{cut-byte, stored, copied}
+use Rattle.entries.proofs.Bytes.{cut-byte, stored, copied}
 use Rattle.filing.proofs.file.save_row.Statement.{statement}
 use Rattle.filing.proofs.file.save_row.Tie as tie
 

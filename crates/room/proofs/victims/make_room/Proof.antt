@@ -8,7 +8,7 @@ use Rattle.rules.proofs.SoundTest.{sound-is}
 use Rattle.memory.proofs.Fields.{same-head}
 use Rattle.memory.proofs.RowLaws.{view-length}
 use Rattle.room.specs.Rooms.{LeftAt}
-use Rattle.counts.proofs.Sums.{sound-small}
+use Rattle.room.proofs.Sums.{sound-small}
 use Rattle.room.proofs.Files.{few}
 use Rattle.room.proofs.Leaving.{at-none, at-one}
 use Rattle.room.proofs.Settling.{Waiting, waiting, full, there, rows-there, room-there, room-made, room-failed, out-is, waits-alone, left-aside, sought-at, sought-none}

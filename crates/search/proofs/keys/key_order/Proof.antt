@@ -1,6 +1,6 @@
 use mathlib.Core.Path.{_∙_, ap}
 use borrow.Author.Needs.{needs}
-use Rattle.coord.specs.declared.node_addr.NodeAddr.{NodeAddr}
+use Rattle.types.specs.declared.node_addr.NodeAddr.{NodeAddr}
 use Rattle.search.specs.ByKey.{orderOf}
 use Rattle.search.proofs.KeyBytes.{key-bytes}
 use Rattle.search.proofs.keys.key_order.Statement.{statement}

@@ -1,0 +1,187 @@
+-- A command read from bytes is typed; obeyed, it leaves bytes, as many of them, and keeps a sound memory sound.
+use mathlib.Core.Path.{_≡_, refl, sym, _∙_, ap, subst}
+use Prim.Native.Nat.{ℕ, zero, suc, _+_, _*_, _/_, _≤_}
+use native.Mathlib.Omega.{arith}
+use mathlib.Core.List.{List, [], _∷_}
+use mathlib.Core.Option.{Option, none, some}
+use mathlib.Core.Bool.{Bool, true, false, _||_}
+use lib.Dec.{eqb, ltb}
+use lib.ListN.{length, take, replicate, set, length-set, length-replicate}
+use lib.Seq.{length-take-le}
+use Rattle.types.specs.declared.coord.CoordEntry.{CoordEntry}
+use Rattle.types.specs.declared.coord.Path.{Path}
+use Rattle.types.specs.declared.coord.Appended.{Appended}
+use Rattle.types.specs.Paths.{zeroEntry, emptyPath, appended}
+use Rattle.types.specs.declared.placed.Funding.{Funding}
+use Rattle.types.specs.declared.placed.Funding.the-variants.{Upto, Uncharged}
+use Rattle.rules.specs.Cases.{maybe, Every}
+use Rattle.rules.specs.Sound.{sound}
+use Rattle.rules.specs.Memory.{cut, leNumber, coordEntryOf, capacity, view}
+use Rattle.rules.specs.Calls.{Call, Done, wasRefused}
+use Rattle.rules.specs.Refusals.{Request, Fresh, Asked, badSize, refusal, serve, gives, performRequest}
+use Rattle.rules.specs.Answers.{refusalOf}
+use Rattle.rules.specs.Lent.{Bytes, Small, AddrFits, CoordEntryFits, PathFits, WriteFits, Typed, TypedRequest, lent, call}
+use Rattle.rules.specs.Commands.{Code, Command, Element, WithPath, Plain, code, codes, keyIn, timeIn, funded, takesPath}
+use Rattle.rules.proofs.RowLists.{by-cond, by-maybe}
+use Rattle.rules.proofs.MemoryLaws.{bytes-cut, bytes-take, length-cut}
+use Rattle.rules.proofs.Sizes.{small8, copies-bytes}
+use Rattle.rules.proofs.Refused.{fresh-refusal}
+use Rattle.rules.proofs.SoundKept.{step-sound}
+use Rattle.rules.proofs.LentMemory.{lent-request, refused-leaves, capacity-same, freshened}
+use Rattle.rules.proofs.Public.{fresh-refused, unsound-one}
+use Rattle.commands.specs.OnMemory.{Held, Obeyed, answered, pended, obey, refusedSix, whole, reads, obeyWhole}
+use Rattle.commands.proofs.Operands.{known, of-whole}
+
+-- ---- what stands in the operands
+
+number-small : (c : List ℕ) → Bytes c → Small (length c) (leNumber c)
+unfolding leNumber
+number-small [] b = refl
+number-small (x ∷ xs) b = let h = b .0 in let d : (x + leNumber xs * 256) / 256 ≡ leNumber xs = omega arith in subst (Small (length xs)) (sym d) (number-small xs (b .1))
+
+cut-small : (k w : ℕ) (c : List ℕ) → k + w ≤ length c → Bytes c → Small w (leNumber (cut k w c))
+cut-small k w c h b = subst (λ (n : ℕ). Small n (leNumber (cut k w c))) (length-cut k w c h) (number-small (cut k w c) (bytes-cut k w c b))
+
+small-wider : (v : ℕ) → Small 2 v → Small 8 v
+small-wider v h = small8 v (omega arith)
+
+key-fits : (o : List ℕ) → 16 ≤ length o → Bytes o → AddrFits (keyIn o)
+key-fits o h b = record { size = length-cut 0 16 o (omega arith); bytes = bytes-cut 0 16 o b }
+
+write-fits : (o : List ℕ) (p : Path) → 24 ≤ length o → Bytes o → PathFits p → WriteFits (keyIn o) p (timeIn o)
+write-fits o p h b f = record { key = key-fits o (omega arith) b; path = f; time = cut-small 16 8 o (omega arith) b }
+
+entry-fits : (o : List ℕ) → length o ≡ 32 → Bytes o → CoordEntryFits (coordEntryOf o)
+unfolding coordEntryOf
+entry-fits o h b = record { address = key-fits o (omega arith) b; sequence = cut-small 16 8 o (omega arith) b; timestamp = cut-small 24 8 o (omega arith) b }
+
+-- ---- every command is typed
+
+-- with the pending path p
+abbrev pub Fitting : Path → Command → Type 0
+Fitting p (Element e) = CoordEntryFits e
+Fitting p (WithPath f) = Typed (f p)
+Fitting p (Plain x) = TypedRequest x
+
+abbrev FittingIfRead : Path → Option Command → Type 0
+FittingIfRead p o = maybe o (Unit {0}) (Fitting p)
+
+abbrev Fits : Path → Code → Type 0
+Fits p c = (o : List ℕ) → Bytes o → length o ≡ c .width → FittingIfRead p (c .reads o)
+
+funded-fits : (p : Path) (o : List ℕ) (f : Funding → Path → Call) → ((g : Funding) → Typed (f g p)) → FittingIfRead p (funded o f)
+unfolding funded
+funded-fits p o f h =
+    let kind = leNumber (cut 24 1 o) in
+    by-cond (FittingIfRead p) (eqb kind 0) (λ e. h Uncharged) (λ e. by-cond (FittingIfRead p) (eqb kind 1) (λ g. h (Upto (leNumber (cut 25 8 o)))) (λ g. tt))
+
+all-fit : (p : Path) → PathFits p → Every (Fits p) codes
+unfolding codes code
+all-fit p f = (λ o b h. (small-wider (leNumber (cut 0 2 o)) (cut-small 0 2 o (omega arith) b), cut-small 2 8 o (omega arith) b), (λ o b h. entry-fits o h b, (λ o b h. write-fits o p (omega arith) b f, (λ o b h. write-fits o p (omega arith) b f, (λ o b h. funded-fits p o _ (λ g. write-fits o p (omega arith) b f), (λ o b h. funded-fits p o _ (λ g. write-fits o p (omega arith) b f), (λ o b h. write-fits o p (omega arith) b f, (λ o b h. (write-fits o p (omega arith) b f, cut-small 24 2 o (omega arith) b), (λ o b h. tt, (λ o b h. (key-fits o (omega arith) b, cut-small 16 8 o (omega arith) b), (λ o b h. key-fits o (omega arith) b, (λ o b h. key-fits o (omega arith) b, (λ o b h. key-fits o (omega arith) b, (λ o b h. tt, (λ o b h. tt, (λ o b h. tt, (λ o b h. tt, (λ o b h. tt, (λ o b h. tt, tt)))))))))))))))))))
+
+pub command-fits : (b : ℕ) (bs : List ℕ) (p : Path) (q : Command) → whole b bs ≡ true → Bytes bs → PathFits p → reads b bs ≡ some q → Fitting p q
+unfolding reads
+command-fits b bs p q w y f e =
+    let k = known b bs w in
+    let n = k .code .width in
+    let g = of-whole (Fits p) b bs (all-fit p f) w k .1 (take n bs) (bytes-take n bs y) (length-take-le n bs (k .there)) in
+    let r : k .code .reads (take n bs) ≡ some q = sym (ap (λ (o : Option Code). maybe o none (λ c. c .reads (take (c .width) bs))) (k .is)) ∙ e in
+    subst (FittingIfRead p) r g
+
+pub typed-path : (b : ℕ) (bs : List ℕ) (p : Path) (f : Path → Call) → whole b bs ≡ true → Bytes bs → PathFits p → reads b bs ≡ some (WithPath f) → Typed (f p)
+typed-path b bs p f w y h e = command-fits b bs p (WithPath f) w y h e
+
+-- ---- the pending path
+
+zero-fits : CoordEntryFits zeroEntry
+unfolding zeroEntry
+zero-fits = record { address = record { size = refl; bytes = copies-bytes 16 }; sequence = omega arith; timestamp = omega arith }
+
+every-zero : (k : ℕ) → Every CoordEntryFits (replicate k zeroEntry)
+every-zero zero = tt
+every-zero (suc k) = (zero-fits, every-zero k)
+
+every-set : (xs : List CoordEntry) (i : ℕ) (e : CoordEntry) → CoordEntryFits e → Every CoordEntryFits xs → Every CoordEntryFits (set xs i e)
+every-set [] i e h g = tt
+every-set (x ∷ xs) zero e h g = (h, g .1)
+every-set (x ∷ xs) (suc i) e h g = (g .0, every-set xs i e h (g .1))
+
+pub empty-fits : PathFits emptyPath
+unfolding emptyPath
+empty-fits = record { places = length-replicate 32 zeroEntry; each = every-zero 32 }
+
+pub pending-fits : (p : Path) (e : CoordEntry) → PathFits p → CoordEntryFits e → PathFits (appended p e .path)
+unfolding appended
+pending-fits p e f h = by-cond (λ (a : Appended). PathFits (a .path)) (ltb (p .len) 32) (λ t. record { places = length-set (p .entries) (p .len) e ∙ f .places; each = every-set (p .entries) (p .len) e h (f .each) }) (λ t. f)
+
+pub typed-request : (b : ℕ) (bs : List ℕ) (x : Request) → whole b bs ≡ true → Bytes bs → reads b bs ≡ some (Plain x) → TypedRequest x
+typed-request b bs x w y e = command-fits b bs emptyPath (Plain x) w y empty-fits e
+
+pub element-fits : (b : ℕ) (bs : List ℕ) (e : CoordEntry) → whole b bs ≡ true → Bytes bs → reads b bs ≡ some (Element e) → CoordEntryFits e
+element-fits b bs e w y r = command-fits b bs emptyPath (Element e) w y empty-fits r
+
+-- ---- a sound memory stays sound
+
+call-sound : (l : List ℕ) (q : Call) → Bytes l → Typed q → sound (capacity l) (view l) ≡ true → sound (capacity (call l q .memory)) (view (call l q .memory)) ≡ true
+call-sound l q b g h = let o = lent-request l (Asked q) b g in rw (capacity-same l (call l q .memory) (o .size), o .state) (step-sound (capacity l) (view l) q h)
+
+done-fresh-sound : (l : List ℕ) (m ttl : ℕ) → Bytes l → Small 8 m → Small 8 ttl → wasRefused (lent l (Fresh m ttl) .answer) ≡ false → sound (capacity (lent l (Fresh m ttl) .memory)) (view (lent l (Fresh m ttl) .memory)) ≡ true
+done-fresh-sound l m ttl b hm ht h = let f = freshened l m ttl b hm ht h in rw (f .size, f .state) (f .sound)
+
+pub lent-sound : (l : List ℕ) (x : Request) → Bytes l → TypedRequest x → sound (capacity l) (view l) ≡ true → sound (capacity (lent l x .memory)) (view (lent l x .memory)) ≡ true
+lent-sound l (Fresh m ttl) b g h = go (wasRefused (lent l (Fresh m ttl) .answer)) refl
+  where
+    go : (r : Bool) → wasRefused (lent l (Fresh m ttl) .answer) ≡ r → sound (capacity (lent l (Fresh m ttl) .memory)) (view (lent l (Fresh m ttl) .memory)) ≡ true
+    go true e = rw (refused-leaves l (Fresh m ttl) e) h
+    go false e = done-fresh-sound l m ttl b (g .0) (g .1) e
+lent-sound l (Asked q) b g h = call-sound l q b g h
+
+pub call-same : (l : List ℕ) (q : Call) → Bytes l → Typed q → (f : Bool) → f ≡ sound (capacity l) (view l) → f ≡ sound (capacity (call l q .memory)) (view (call l q .memory))
+call-same l q b g true h = sym (call-sound l q b g (sym h))
+call-same l q b g false h = rw (unsound-one l q (sym h) .memory) h
+
+fresh-answer : (l : List ℕ) (m ttl : ℕ) → badSize (capacity l) m ≡ false → lent l (Fresh m ttl) .answer ≡ Done
+unfolding lent serve performRequest gives
+fresh-answer l m ttl h = let e : refusal (capacity l) (view l) (Fresh m ttl) ≡ none = fresh-refusal (capacity l) m ttl (view l) ∙ rw h in rw e
+
+or-false : (f : Bool) → f || false ≡ f
+or-false true = refl
+or-false false = refl
+
+or-true : (f : Bool) → f || true ≡ true
+or-true true = refl
+or-true false = refl
+
+pub fresh-sound : (l : List ℕ) (m ttl : ℕ) → Bytes l → Small 8 m → Small 8 ttl → (f : Bool) → f ≡ sound (capacity l) (view l) → (n : ℕ) → n ≡ refusalOf (lent l (Fresh m ttl) .answer)
+    → f || eqb n 0 ≡ sound (capacity (lent l (Fresh m ttl) .memory)) (view (lent l (Fresh m ttl) .memory))
+unfolding refusalOf wasRefused
+fresh-sound l m ttl b hm ht f h n e = go (badSize (capacity l) m) refl
+  where
+    go : (r : Bool) → badSize (capacity l) m ≡ r → f || eqb n 0 ≡ sound (capacity (lent l (Fresh m ttl) .memory)) (view (lent l (Fresh m ttl) .memory))
+    go true t =
+        let k = fresh-refused l m ttl t in
+        let z : n ≡ 5 = e ∙ ap refusalOf (k .answer) in
+        rw (z, k .memory) (or-false f ∙ h)
+    go false t =
+        let k = fresh-answer l m ttl t in
+        let z : n ≡ 0 = e ∙ ap refusalOf k in
+        rw z (or-true f ∙ sym (done-fresh-sound l m ttl b hm ht (ap wasRefused k)))
+
+-- ---- what is held after a command
+
+abbrev pub Keeps : Held → Obeyed → Type 0
+Keeps h o = Bytes (o .held .memory) × (length (o .held .memory) ≡ length (h .memory)) × PathFits (o .held .pending)
+
+obey-keeps : (h : Held) (q : Command) → Fitting (h .pending) q → Bytes (h .memory) → PathFits (h .pending) → Keeps h (obey h q)
+unfolding obey pended answered
+obey-keeps h (Element e) g b f = (b, refl, pending-fits (h .pending) e f g)
+obey-keeps h (WithPath q) g b f = let o = lent-request (h .memory) (Asked (q (h .pending))) b g in (o .bytes, o .size, empty-fits)
+obey-keeps h (Plain x) g b f = let o = lent-request (h .memory) x b g in (o .bytes, o .size, f)
+
+six-keeps : (h : Held) (b : ℕ) → Bytes (h .memory) → PathFits (h .pending) → Keeps h (refusedSix b h)
+unfolding refusedSix
+six-keeps h b y f = (y, refl, by-cond PathFits (takesPath b) (λ e. empty-fits) (λ e. f))
+
+pub held-sound : (h : Held) (b : ℕ) (bs : List ℕ) → whole b bs ≡ true → Bytes bs → Bytes (h .memory) → PathFits (h .pending) → Keeps h (obeyWhole h b bs)
+unfolding obeyWhole
+held-sound h b bs w y m f = by-maybe (Keeps h) (reads b bs) (λ e. six-keeps h b m f) (λ q e. obey-keeps h q (command-fits b bs (h .pending) q w y f e) m f)

@@ -1,0 +1,16 @@
+use borrow.Author.Tests.{ne-eqb}
+use Rattle.commands.specs.OnMemory.{partReply}
+use borrow.Author.Needs.{needs}
+use Rattle.commands.proofs.ask.part_reply.Statement.{statement}
+use Rattle.commands.proofs.ask.part_reply.Tie as tie
+
+returns : tie.Need-returns
+unfolding partReply
+returns c = rw (c .before .if1 .taken) (c .says .ensures)
+
+returns-2 : tie.Need-returns-2
+unfolding partReply
+returns-2 c = rw (ne-eqb (c .before .before .args .bytes) 0 (c .before .if1 .left)) (c .says2 .ensures)
+
+pub part-reply-spec : {M : Type 1} → statement M
+part-reply-spec = tie.close (tie.spec (λ c κs. search needs) returns (λ c κs. search needs) returns-2)

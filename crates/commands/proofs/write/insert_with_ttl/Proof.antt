@@ -1,0 +1,27 @@
+use mathlib.Core.Path.{sym, _∙_, ap}
+use native.Mathlib.Omega.{arith}
+use Rattle.rules.specs.Commands.{reply}
+use Rattle.rules.specs.Calls.{InsertWithTtl}
+use Rattle.commands.proofs.Operands.{key-at, number-at, same-three, replied}
+use borrow.Author.Needs.{needs}
+use Rattle.commands.proofs.write.insert_with_ttl.Statement.{statement}
+use Rattle.commands.proofs.write.insert_with_ttl.Tie as tie
+
+returns : tie.Need-returns
+returns c =
+    let a = c .before .before .before .before .before .before .before .before .before .before .args in
+    replied (a .state .now) _ _ _ _ (same-three (λ k t x. InsertWithTtl k (a .pending) t x) (c .before .before .before .before .before .before .before .load-addr .ensures ∙ sym (key-at (a .at) 32 (a .input .now) (omega arith))) (c .before .before .before .before .before .before .read-u64 .ensures ∙ sym (number-at (a .at) 32 16 8 (a .input .now) (omega arith))) (c .before .before .before .before .before .read-u642 .ensures ∙ sym (number-at (a .at) 32 24 8 (a .input .now) (omega arith)))) (c .hint-reply .ensures ∙ ap reply (c .before .before .before .insert-with-ttl-unchecked .ensures .0)) (c .before .before .before .insert-with-ttl-unchecked .ensures .1)
+
+pub insert-with-ttl-spec : {M : Type 1} → statement M
+insert-with-ttl-spec =
+    tie.close
+    (tie.spec
+    (λ c κs. search needs)
+    (λ c. search needs)
+    (λ c κs. search needs)
+    (λ c. search needs)
+    (λ c κs. search needs)
+    (λ c κs. search needs)
+    (λ c κs. search needs)
+    (λ c. search needs)
+    returns)

@@ -1,0 +1,96 @@
+-- Bytes of a cut: compared with an address, copied, and read as a path element.
+use mathlib.Core.Path.{_≡_, refl, sym, ap, _∙_}
+use mathlib.Core.Bool.{Bool, true, false, _&&_}
+use mathlib.Core.List.{List, [], _∷_, _++_, append-nil}
+use Prim.Native.Nat.{ℕ, zero, suc, _+_, _≤_, _<_}
+use native.Mathlib.Nat.{le-of-suc-le-suc, not-suc-le-zero}
+use native.Mathlib.Numerals.{add-one}
+use native.Mathlib.Omega.{arith}
+use lib.Dec.{eqb}
+use borrow.Author.Tests.{eqb-true, eqb-false}
+use lib.ListN.{length, take, drop, getD, set, drop-of-length-le}
+use lib.Seq.{getD-drop, getD-take, take-all}
+use Rattle.types.specs.declared.node_addr.NodeAddr.{NodeAddr}
+use Rattle.types.specs.declared.coord.CoordEntry.{CoordEntry}
+use Rattle.types.specs.Addresses.{sameAddr, sameBytes}
+use Rattle.types.specs.Paths.{sameEntry}
+use Rattle.types.proofs.PathLaws.{same-stop, same-go, same-end}
+use Rattle.rules.specs.Memory.{cut, leNumber, coordEntryOf}
+use Rattle.rules.proofs.Addresses.{same-eq, same-true, same-false, same-ne}
+use Rattle.rules.proofs.MemoryLaws.{length-cut}
+use Rattle.raw.proofs.StoreLaws.{cut-cut}
+
+pub cut-byte : (at w i : ℕ) (l : List ℕ) → i < w → getD l (at + i) 0 ≡ getD (cut at w l) i 0
+cut-byte at w i l h = sym (getD-drop at l i 0) ∙ sym (getD-take w (drop at l) i 0 h)
+
+-- ---- sixteen bytes against an address: a turn of the loop, and its end
+
+module _ (x l : List ℕ) (at i : ℕ) (hx : length x ≡ 16) (hl : at + 16 ≤ length l) where
+  pub addr-turn : i < 16 → sameBytes (drop i x) (drop i (cut at 16 l)) ≡ (eqb (getD x i 0) (getD l (at + i) 0) && sameBytes (drop (i + 1) x) (drop (i + 1) (cut at 16 l)))
+  addr-turn h = go (eqb (getD x i 0) (getD l (at + i) 0)) refl
+    where
+      go : (b : Bool) → eqb (getD x i 0) (getD l (at + i) 0) ≡ b → sameBytes (drop i x) (drop i (cut at 16 l)) ≡ (b && sameBytes (drop (i + 1) x) (drop (i + 1) (cut at 16 l)))
+      go true e = same-go x (cut at 16 l) i (omega arith) (omega (arith, length-cut at 16 l hl)) (eqb-true _ _ e ∙ cut-byte at 16 i l h)
+      go false e = same-stop x (cut at 16 l) i (omega arith) (omega (arith, length-cut at 16 l hl)) (λ q. eqb-false _ _ e (q ∙ sym (cut-byte at 16 i l h)))
+
+  pub addr-end : 16 ≤ i → sameBytes (drop i x) (drop i (cut at 16 l)) ≡ true
+  addr-end h = same-end x (cut at 16 l) i (omega arith) (omega (arith, length-cut at 16 l hl))
+
+-- what was compared, with one byte more
+pub addr-more : (t a b c : Bool) → t ≡ (a && b) → b ≡ c → t ≡ (a && c)
+addr-more t a b c e f = e ∙ ap (λ (x : Bool). a && x) f
+
+pub and-in : (a b c : Bool) → (a && (b && c)) ≡ ((a && b) && c)
+and-in true b c = refl
+and-in false b c = refl
+
+pub and-true : (a : Bool) → (a && true) ≡ a
+and-true true = refl
+and-true false = refl
+
+pub same-sym : (a b : NodeAddr) → sameAddr a b ≡ sameAddr b a
+same-sym a b = go (sameAddr a b) refl
+  where
+    go : (t : Bool) → sameAddr a b ≡ t → sameAddr a b ≡ sameAddr b a
+    go true e = e ∙ sym (same-eq b a (sym (same-true a b e)))
+    go false e = e ∙ sym (same-ne b a (λ q. same-false a b e (sym q)))
+
+-- ---- a copy, element by element
+
+store {ℓ} : {A : Type ℓ} (src dst : List A) (i : ℕ) (d : A) → i < length src → i < length dst → set (take i src ++ drop i dst) i (getD src i d) ≡ take (suc i) src ++ drop (suc i) dst
+store [] dst i d h k = absurd (not-suc-le-zero h)
+store (x ∷ xs) [] i d h k = absurd (not-suc-le-zero k)
+store (x ∷ xs) (y ∷ ys) zero d h k = refl
+store {A = A} (x ∷ xs) (y ∷ ys) (suc i) d h k = ap (λ (l : List A). x ∷ l) (store xs ys i d (le-of-suc-le-suc h) (le-of-suc-le-suc k))
+
+-- a turn takes the copy of i elements to the copy of one more
+pub stored {ℓ} : {A : Type ℓ} (src dst now : List A) (i : ℕ) (v d : A) → now ≡ take i src ++ drop i dst → v ≡ getD src i d → i < length src → i < length dst
+    → set now i v ≡ take (i + 1) src ++ drop (i + 1) dst
+stored src dst now i v d e q h k = rw (e, q, add-one) (store src dst i d h k)
+
+-- the copy of all elements
+pub copied {ℓ} : {A : Type ℓ} (src dst now : List A) (i : ℕ) → now ≡ take i src ++ drop i dst → length src ≤ i → length dst ≤ i → now ≡ src
+copied src dst now i e h k = rw (e, take-all i src h, drop-of-length-le dst k) (append-nil src)
+
+-- ---- a path element
+
+element-bytes : (at : ℕ) (l : List ℕ) → coordEntryOf (cut at 32 l) ≡ record { «node_addr» = record { 0 = cut at 16 l }; sequence = leNumber (cut (at + 16) 8 l); timestamp = leNumber (cut (at + 24) 8 l) }
+unfolding coordEntryOf
+element-bytes at l =
+    let z : at + 0 ≡ at = omega arith in
+    rw (cut-cut at 32 0 16 l (omega arith), cut-cut at 32 16 8 l (omega arith), cut-cut at 32 24 8 l (omega arith), z)
+
+pub element-addr : (at : ℕ) (l : List ℕ) → coordEntryOf (cut at 32 l) .«node_addr» ≡ record { 0 = cut at 16 l }
+element-addr at l = ap (λ (x : CoordEntry). x .«node_addr») (element-bytes at l)
+
+pub element-made : (at : ℕ) (l : List ℕ) {a : NodeAddr} {s t : ℕ} → a ≡ record { 0 = cut at 16 l } → s ≡ leNumber (cut (at + 16) 8 l) → t ≡ leNumber (cut (at + 24) 8 l)
+    → _≡_ {A = CoordEntry} (record { «node_addr» = a; sequence = s; timestamp = t }) (coordEntryOf (cut at 32 l))
+element-made at l p q r = rw (p, q, r) (sym (element-bytes at l))
+
+-- every field of an element against another's
+pub element-same : (at : ℕ) (l : List ℕ) (e : CoordEntry) {b : Bool} {s t : ℕ} → b ≡ sameAddr (e .«node_addr») (record { 0 = cut at 16 l }) → s ≡ leNumber (cut (at + 16) 8 l) → t ≡ leNumber (cut (at + 24) 8 l)
+    → (b && (eqb s (e .sequence) && eqb t (e .timestamp))) ≡ sameEntry (coordEntryOf (cut at 32 l)) e
+unfolding sameEntry
+element-same at l e {b} {s} {t} p q r =
+    ap (λ (x : Bool). x && (eqb s (e .sequence) && eqb t (e .timestamp))) (p ∙ same-sym (e .«node_addr») (record { 0 = cut at 16 l }))
+    ∙ ap (λ (x : CoordEntry). sameEntry x e) (element-made at l refl q r)

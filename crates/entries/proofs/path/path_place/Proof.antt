@@ -1,0 +1,12 @@
+use mathlib.Core.Path.{ap}
+use Prim.Native.Nat.{ℕ, _+_, _*_}
+use borrow.Author.Needs.{needs}
+use Rattle.entries.proofs.path.path_place.Statement.{statement}
+use Rattle.entries.proofs.path.path_place.Tie as tie
+
+returns : tie.Need-returns
+returns c = ap (λ (k : ℕ). record { at = 40 + c .before .before .args .i * 1095 + 17; bytes = k * 32 }) (c .path-len .ensures)
+
+pub path-place-spec : {M : Type 1} → statement M
+path-place-spec =
+    tie.close (tie.spec (λ c κs. search needs) (λ c. search needs) (λ c. search needs) (λ c. search needs) (λ c. search needs) (λ c. search needs) returns)

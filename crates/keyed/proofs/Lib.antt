@@ -1,3 +1,0 @@
-pub mod Clearing
-pub mod Demoting
-pub mod Removing

@@ -1,0 +1,28 @@
+// What every call shares: laws (proofs/) of a sound memory and of a refusal; the refusals of a call that takes a path.
+use types::coord::Path;
+ghost use mathlib.Core.Path.{_≡_};
+ghost use Prim.Native.Nat.{_≤_};
+ghost use lib.ListN.{length};
+ghost use Rattle.rules.specs.Memory.{headSize, view};
+ghost use Rattle.refusals.specs.Writes.{writeRefusal};
+
+// The places of a path.
+const PLACES: usize = 32;
+
+// The largest seq at which stamps are drawn.
+pub const LAST_SEQ: u64 = 18446744073709547519;
+
+// The number by which a call that takes a path and draws stamps is refused before any row is read: 2 or 3, else 0.
+pub fn write_refusal(state: &[u8], path: Path) -> u8
+    requires { ⌜ headSize ≤ length (now state) ⌝ }
+    ensures { λ r. ⌜ r ≡ writeRefusal path (view (now (state .entry))) ⌝ }
+{
+    let len = path.len;
+    if (len == 0) | (PLACES < len) {
+        return 2;
+    }
+    if LAST_SEQ < memory::head::seq(state) {
+        return 3;
+    }
+    0
+}

@@ -1,0 +1,36 @@
+use mathlib.Core.Path.{sym, ap, _∙_}
+use Rattle.types.specs.declared.answers.ExpiryAnswer.{ExpiryAnswer}
+use Rattle.rules.specs.Commands.{reply}
+use Rattle.rules.specs.Answers.{expirySaid}
+use borrow.Author.Needs.{needs}
+use Rattle.replies.proofs.answer.expiry_reply.Statement.{statement}
+use Rattle.replies.proofs.answer.expiry_reply.Tie as tie
+
+returns : tie.Need-returns
+unfolding reply expirySaid
+returns c =
+    c .refused .ensures ∙ sym (ap (λ (x : ExpiryAnswer). reply (expirySaid x)) (c .before .before .answer .given .1))
+
+returns-2 : tie.Need-returns-2
+unfolding reply expirySaid
+returns-2 c =
+    c .says .ensures ∙ sym (ap (λ (x : ExpiryAnswer). reply (expirySaid x)) (c .before .before .answer2 .given .1))
+
+returns-3 : tie.Need-returns-3
+unfolding reply expirySaid
+returns-3 c =
+    c .says2 .ensures ∙ sym (ap (λ (x : ExpiryAnswer). reply (expirySaid x)) (c .before .enum-told .given .1))
+
+pub expiry-reply-spec : {M : Type 1} → statement M
+expiry-reply-spec =
+    tie.close
+    (tie.spec
+    (λ c. search needs)
+    (λ c κs. search needs)
+    (λ c. search needs)
+    (λ c κs. search needs)
+    (λ c. search needs)
+    (λ c κs. search needs)
+    returns
+    returns-2
+    returns-3)

@@ -1,0 +1,35 @@
+use mathlib.Core.Path.{sym, ap, _∙_}
+use Rattle.types.specs.declared.answers.TouchAnswer.{TouchAnswer}
+use Rattle.rules.specs.Answers.{touchReply}
+use borrow.Author.Needs.{needs}
+use Rattle.replies.proofs.answer.touch_reply.Statement.{statement}
+use Rattle.replies.proofs.answer.touch_reply.Tie as tie
+
+returns : tie.Need-returns
+unfolding touchReply
+returns c =
+    c .refused .ensures ∙ sym (ap (λ (x : TouchAnswer). touchReply x) (c .before .before .answer .given .1))
+
+returns-2 : tie.Need-returns-2
+unfolding touchReply
+returns-2 c =
+    c .says .ensures ∙ sym (ap (λ (x : TouchAnswer). touchReply x) (c .before .before .answer2 .given .1))
+
+returns-3 : tie.Need-returns-3
+unfolding touchReply
+returns-3 c =
+    c .says2 .ensures ∙ sym (ap (λ (x : TouchAnswer). touchReply x) (c .before .enum-told .given .1))
+
+pub touch-reply-spec : {M : Type 1} → statement M
+touch-reply-spec =
+    tie.close
+    (tie.spec
+    (λ c. search needs)
+    (λ c κs. search needs)
+    (λ c. search needs)
+    (λ c κs. search needs)
+    (λ c. search needs)
+    (λ c κs. search needs)
+    returns
+    returns-2
+    returns-3)

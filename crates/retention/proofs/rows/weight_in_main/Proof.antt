@@ -1,0 +1,21 @@
+use mathlib.Core.Path.{_∙_}
+use Rattle.rules.specs.Rows.{rowAt}
+use Rattle.rules.specs.Memory.{viewRows}
+use borrow.Author.Needs.{needs}
+use Rattle.retention.proofs.Sweeping.{weighs, weighs-nothing}
+use Rattle.retention.proofs.rows.weight_in_main.Statement.{statement}
+use Rattle.retention.proofs.rows.weight_in_main.Tie as tie
+
+returns : tie.Need-returns
+returns c =
+    let s = c .before .before .before .before .before .args in
+    (weighs (rowAt (s .i) (viewRows (s .n) (s .state .now) .rows)) (c .before .before .before .place .result) _ (c .before .before .before .place .ensures) (c .before .before .if1 .taken) (c .wide .ensures .0 ∙ c .before .weight .ensures), c .wide .ensures .1)
+
+returns-2 : tie.Need-returns-2
+returns-2 c =
+    let s = c .before .before .before .args in
+    weighs-nothing (rowAt (s .i) (viewRows (s .n) (s .state .now) .rows)) (c .before .place .result) (c .before .place .ensures) (c .if1 .left)
+
+pub weight-in-main-spec : {M : Type 1} → statement M
+weight-in-main-spec =
+    tie.close (tie.spec (λ c κs. search needs) (λ c κs. search needs) (λ c κs. search needs) returns returns-2)

@@ -1,0 +1,2 @@
+// The rows that match leave, the others are kept together (retain_entries).
+pub mod rows;

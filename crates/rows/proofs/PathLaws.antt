@@ -1,0 +1,145 @@
+-- A path's bytes: what the stores of one make, and what they are read as.
+use mathlib.Core.Path.{_≡_, refl, sym, ap, _∙_}
+use mathlib.Core.Logic.{inr}
+use mathlib.Core.List.{List, [], _∷_, _++_, append-assoc}
+use Prim.Native.Nat.{ℕ, zero, suc, _+_, _*_, _-_, _≤_, _<_}
+use native.Mathlib.Omega.{arith}
+use native.Mathlib.Numerals.{add-one}
+use lib.ListN.{length, take, drop, getD, replicate, length-append, length-replicate, replicate-append-replicate}
+use lib.Seq.{sets, sets-eq, take-suc, take-at, take-all, drop-at, drop-drop, length-take-le}
+use Rattle.types.specs.declared.coord.CoordEntry.{CoordEntry}
+use Rattle.types.specs.declared.coord.Path.{Path}
+use Rattle.types.specs.Paths.{zeroEntry, elements, asWritten}
+use Rattle.types.proofs.PathLaws.{noEntry}
+use Rattle.rules.specs.Cases.{Every}
+use Rattle.rules.specs.Lookups.{rewrite}
+use Rattle.rules.specs.Memory.{cut, leNumber, leBytes, addrBytes, coordEntriesBytes, coordEntryOf, coordEntriesOf, pathOf, entryOf, viewRows}
+use Rattle.rules.specs.Lent.{CoordEntryFits, PathFits}
+use Rattle.rules.proofs.ViewLaws.{num-le, length-le}
+use Rattle.rules.proofs.MemoryLaws.{entries-cons}
+use Rattle.rules.proofs.Sizes.{small1, copies-bytes}
+use Rattle.raw.proofs.StoreLaws.{cut-else}
+use Rattle.memory.proofs.Fields.{entry-store}
+use Rattle.rows.specs.Insertions.{pathBytes, withPath}
+use Rattle.rows.proofs.Runs.{behind, three}
+
+-- ---- the bytes of elements
+
+entries-append : (xs ys : List CoordEntry) → coordEntriesBytes (xs ++ ys) ≡ coordEntriesBytes xs ++ coordEntriesBytes ys
+unfolding coordEntriesBytes
+entries-append [] ys = refl
+entries-append (x ∷ xs) ys = rw (entries-append xs ys) (simp append-assoc)
+
+entries-length : (xs : List CoordEntry) → Every CoordEntryFits xs → length (coordEntriesBytes xs) ≡ length xs * 32
+unfolding coordEntriesBytes
+entries-length [] h = refl
+entries-length (x ∷ xs) h = simp (length-append, length-le) (omega (arith, h .0 .address .size, entries-length xs (h .1)))
+
+entries-zero : (k : ℕ) → coordEntriesBytes (replicate k zeroEntry) ≡ replicate (k * 32) 0
+unfolding coordEntriesBytes zeroEntry leBytes
+entries-zero zero = refl
+entries-zero (suc k) =
+    let e : suc k * 32 ≡ 32 + k * 32 = omega arith in
+    rw (entries-zero k, e) (replicate-append-replicate {A = ℕ} 32 (k * 32) 0)
+
+every-take : (n : ℕ) (xs : List CoordEntry) → Every CoordEntryFits xs → Every CoordEntryFits (take n xs)
+every-take zero xs h = tt
+every-take (suc n) [] h = tt
+every-take (suc n) (x ∷ xs) h = (h .0, every-take n xs (h .1))
+
+every-append : (xs ys : List CoordEntry) → Every CoordEntryFits xs → Every CoordEntryFits ys → Every CoordEntryFits (xs ++ ys)
+every-append [] ys h g = g
+every-append (x ∷ xs) ys h g = (h .0, every-append xs ys (h .1) g)
+
+every-zero : (k : ℕ) → Every CoordEntryFits (replicate k zeroEntry)
+unfolding zeroEntry
+every-zero zero = tt
+every-zero (suc k) = (record { address = record { size = refl; bytes = copies-bytes 16 }; sequence = omega arith; timestamp = omega arith }, every-zero k)
+
+-- what is written fits where what is given does
+pub written-fits : (p : Path) → PathFits p → p .len ≤ 32 → PathFits (asWritten p)
+unfolding asWritten elements
+written-fits p f h =
+    let n = f .places in
+    record {
+      places = rw (length-append, length-take-le (p .len) (p .entries) (omega arith), length-replicate) (omega arith);
+      each = every-append (take (p .len) (p .entries)) (replicate (32 - p .len) zeroEntry) (every-take (p .len) (p .entries) (f .each)) (every-zero (32 - p .len));
+    }
+
+pub path-length : (p : Path) → PathFits p → p .len ≤ 32 → length (pathBytes p) ≡ 1025
+path-length p f h =
+    let w = written-fits p f h in
+    rw (length-append, length-le, entries-length (asWritten p .entries) (w .each), w .places)
+
+-- ---- the stores of a path
+
+front-length : (p : Path) (i : ℕ) → PathFits p → i ≤ 32 → length (coordEntriesBytes (take i (p .entries))) ≡ i * 32
+front-length p i f h =
+    let n = f .places in
+    entries-length (take i (p .entries)) (every-take i (p .entries) (f .each)) ∙ ap (λ (x : ℕ). x * 32) (length-take-le i (p .entries) (omega arith))
+
+-- a turn of the loop
+pub entries-turn : (l s t : List ℕ) (at i : ℕ) (p : Path) → PathFits p → i < p .len → p .len ≤ 32 → s ≡ sets l at (coordEntriesBytes (take i (p .entries)))
+    → t ≡ sets s (at + i * 32) (coordEntriesBytes (getD (p .entries) i noEntry ∷ [])) → t ≡ sets l at (coordEntriesBytes (take (i + 1) (p .entries)))
+entries-turn l s t at i p f h k e g =
+    let es = p .entries in
+    let n = f .places in
+    let b : i < length es = omega arith in
+    let q : take (i + 1) es ≡ take i es ++ (getD es i noEntry ∷ []) = rw add-one (take-suc es i noEntry b) in
+    g ∙ ap (λ (x : List ℕ). sets x (at + i * 32) (coordEntriesBytes (getD es i noEntry ∷ []))) e
+    ∙ behind l (coordEntriesBytes (take i es)) (coordEntriesBytes (getD es i noEntry ∷ [])) at (i * 32) (front-length p i f (omega arith))
+    ∙ ap (sets l at) (sym (ap coordEntriesBytes q ∙ entries-append (take i es) (getD es i noEntry ∷ [])))
+
+-- the length, the elements, and zeros past them are the path's bytes
+pub path-stored : (l : List ℕ) (at : ℕ) (p : Path) → PathFits p → p .len ≤ 32
+    → sets (sets (sets l at (leBytes 1 (p .len))) (at + 1) (coordEntriesBytes (take (p .len) (p .entries)))) (at + 1 + p .len * 32) (replicate (at + 1025 - (at + 1 + p .len * 32)) 0)
+    ≡ sets l at (pathBytes p)
+unfolding asWritten elements
+path-stored l at p f h =
+    let n = p .len in
+    let es = take n (p .entries) in
+    let a : at + 1 + n * 32 ≡ at + (1 + n * 32) = omega arith in
+    let z : at + 1025 - (at + (1 + n * 32)) ≡ (32 - n) * 32 = omega arith in
+    rw (a, z, ← entries-zero (32 - n), entries-append es (replicate (32 - n) zeroEntry))
+    (three l (leBytes 1 n) (coordEntriesBytes es) (coordEntriesBytes (replicate (32 - n) zeroEntry)) at 1 (1 + n * 32) (length-le 1 n) (omega (arith, front-length p n f h)))
+
+-- ---- what a path's bytes are read as
+
+element-view : (x : CoordEntry) → CoordEntryFits x → coordEntryOf (addrBytes (x .«node_addr») ++ (leBytes 8 (x .sequence) ++ leBytes 8 (x .timestamp))) ≡ x
+unfolding coordEntryOf
+element-view x h =
+    let a = x .«node_addr» .0 in
+    let s = leBytes 8 (x .sequence) in
+    let t = leBytes 8 (x .timestamp) in
+    let c = a ++ (s ++ t) in
+    let d : drop 16 c ≡ s ++ t = drop-at a (s ++ t) 16 (h .address .size) in
+    let e : drop 24 c ≡ t = sym (drop-drop 8 16 c) ∙ ap (drop 8) d ∙ drop-at s t 8 (length-le 8 (x .sequence)) in
+    rw (take-at a (s ++ t) 16 (h .address .size), d, e, take-at s t 8 (length-le 8 (x .sequence)), take-all 8 t (omega (arith, length-le 8 (x .timestamp))), num-le 8 (x .sequence) (h .sequence), num-le 8 (x .timestamp) (h .timestamp))
+
+entries-view : (n : ℕ) (xs : List CoordEntry) (t : List ℕ) → length xs ≡ n → Every CoordEntryFits xs → coordEntriesOf n (coordEntriesBytes xs ++ t) ≡ xs
+unfolding coordEntriesOf
+entries-view zero [] t l h = refl
+entries-view zero (x ∷ xs) t l h = absurd (let z : ⊥ = omega arith in z)
+entries-view (suc n) [] t l h = absurd (let z : ⊥ = omega arith in z)
+entries-view (suc n) (x ∷ xs) t l h =
+    let c = addrBytes (x .«node_addr») ++ (leBytes 8 (x .sequence) ++ leBytes 8 (x .timestamp)) in
+    let k : length c ≡ 32 = simp (length-append, length-le) (omega (arith, h .0 .address .size)) in
+    rw (entries-cons x xs, append-assoc c (coordEntriesBytes xs) t, take-at c (coordEntriesBytes xs ++ t) 32 k, drop-at c (coordEntriesBytes xs ++ t) 32 k, element-view x (h .0), entries-view n xs t (omega arith) (h .1))
+
+path-entry : (p : Path) → PathFits p → p .len ≤ 32 → (e : List ℕ) → length e ≡ 1061 → entryOf (sets e 0 (pathBytes p)) ≡ withPath p (entryOf e)
+unfolding entryOf pathOf withPath asWritten
+path-entry p f h e k =
+    let w = written-fits p f h in
+    let b = leBytes 1 (p .len) in
+    let xs = asWritten p .entries in
+    let vs = b ++ coordEntriesBytes xs in
+    let n : length vs ≡ 1025 = path-length p f h in
+    let s : sets e 0 vs ≡ b ++ (coordEntriesBytes xs ++ drop (0 + length vs) e) = sets-eq vs e 0 (omega arith) ∙ append-assoc b (coordEntriesBytes xs) _ in
+    let l : leNumber (cut 0 1 (sets e 0 vs)) ≡ p .len = rw (s, take-at b (coordEntriesBytes xs ++ drop (0 + length vs) e) 1 (length-le 1 (p .len))) (num-le 1 (p .len) (small1 (p .len) (omega arith))) in
+    let d : coordEntriesOf 32 (drop 1 (sets e 0 vs)) ≡ xs = rw (s, drop-at b (coordEntriesBytes xs ++ drop (0 + length vs) e) 1 (length-le 1 (p .len))) (entries-view 32 xs _ (w .places) (w .each)) in
+    let a : (o m : ℕ) → 1025 ≤ o → cut o m (sets e 0 vs) ≡ cut o m e = λ o m q. cut-else e vs 0 o m (inr (omega arith)) in
+    rw (l, d, a 1025 8 (omega arith), a 1033 8 (omega arith), a 1041 8 (omega arith), a 1049 1 (omega arith), a 1050 2 (omega arith), a 1052 1 (omega arith), a 1053 8 (omega arith))
+
+pub path-view : (l : List ℕ) (n i : ℕ) (p : Path) → PathFits p → p .len ≤ 32 → i < n → 40 + n * 1095 ≤ length l
+    → viewRows n (sets l (40 + i * 1095 + 16) (pathBytes p)) ≡ rewrite (withPath p) i (viewRows n l)
+path-view l n i p f h g k = entry-store (withPath p) 0 (pathBytes p) (omega (arith, path-length p f h)) (path-entry p f h) n i l g k

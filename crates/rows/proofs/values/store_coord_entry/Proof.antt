@@ -1,0 +1,33 @@
+use mathlib.Core.List.{append-nil}
+use native.Mathlib.Omega.{arith}
+use Rattle.rules.specs.Memory.{leBytes, coordEntriesBytes}
+use Rattle.rules.proofs.ViewLaws.{length-le}
+use Rattle.memory.proofs.Owned.{owned-entry}
+use Rattle.rows.proofs.Runs.{three}
+use borrow.Author.Needs.{needs}
+use Rattle.rows.proofs.values.store_coord_entry.Statement.{statement}
+use Rattle.rows.proofs.values.store_coord_entry.Tie as tie
+
+returns : tie.Need-returns
+unfolding coordEntriesBytes
+returns c =
+    let w3 = c .before .before in
+    let w2 = w3 .before .before .before .before in
+    let w1 = w2 .before .before .before .before in
+    let s = w1 .before .before .before in
+    let a = s .args in
+    let f = owned-entry (a .e) _ (s .good .1 .1 .0) in
+    let n = f .address .size in
+    (rw (w3 .write-u642 .ensures, w2 .write-u64 .ensures, w1 .store-addr .ensures .0, append-nil (leBytes 8 (a .e .timestamp))) (three (a .s .now) (a .e .«node_addr» .0) (leBytes 8 (a .e .sequence)) (leBytes 8 (a .e .timestamp)) (a .at) 16 24 n (omega (arith, length-le 8 (a .e .sequence)))), f)
+
+pub store-coord-entry-spec : {M : Type 1} → statement M
+store-coord-entry-spec =
+    tie.close
+    (tie.spec
+    (λ c κs. search needs)
+    (λ c. search needs)
+    (λ c κs. search needs)
+    (λ c. search needs)
+    (λ c κs. search needs)
+    (λ c. search needs)
+    returns)

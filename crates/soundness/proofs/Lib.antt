@@ -1,3 +1,0 @@
-pub mod KeyLaws
-pub mod PassLaws
-pub mod Facts

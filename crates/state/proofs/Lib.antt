@@ -1,0 +1,4 @@
+pub mod KeyLaws
+pub mod PassLaws
+pub mod Facts
+pub mod Sizes

@@ -1,0 +1,35 @@
+// What is asked of a row by itself.
+ghost use mathlib.Core.Path.{_≡_};
+ghost use Prim.Native.Nat.{_+_, _*_, _≤_, _<_, max};
+ghost use lib.ListN.{length};
+ghost use Rattle.types.specs.Paths.{addrsPerEntry};
+ghost use Rattle.rules.specs.Rows.{rowSize, rowAt};
+ghost use Rattle.rules.specs.Sound.{rowSound};
+ghost use Rattle.rules.specs.Memory.{headSize, viewRows};
+
+pub fn path_weight(len: u8) -> u8
+    ensures { λ r. ⌜ r ≡ max addrsPerEntry len ⌝ }
+{
+    if len < 16 { 16 } else { len }
+}
+
+// One expression with no branch, in the order of the rules; seq is the head's.
+pub fn row_is_sound(state: &[u8], n: usize, i: usize, seq: u64) -> bool
+    requires { ⌜ (i < n) × (headSize + n * rowSize ≤ length (now state)) ⌝ }
+    ensures { λ r. ⌜ r ≡ rowSound seq (rowAt i (viewRows n (now (state .entry)) .rows)) ⌝ }
+{
+    let place = memory::row::place(state, n, i);
+    let source = memory::row::source(state, n, i);
+    let mark = memory::row::mtu_mark(state, n, i);
+    let len = memory::row::path_len(state, n, i);
+    let weight = memory::row::weight(state, n, i);
+    let stamp = memory::row::stamp_seq(state, n, i);
+    let until = memory::row::verified_until(state, n, i);
+    let first = memory::row::stamp_first(state, n, i);
+    let least = path_weight(len);
+    let legal = (place <= 2) & ((source <= 1) & ((mark <= 1) & ((1 <= len) & (len <= 32))));
+    let weighed = (least <= weight) & (weight <= 32);
+    let sourced = ((source == 0) | (until == 0))
+        & (((place != 2) | (source != 0)) & ((place != 1) | ((source == 0) & (first == until))));
+    legal & (weighed & ((stamp <= seq) & sourced))
+}

@@ -1,0 +1,91 @@
+// Path elements and paths: a node's coordinates in the tree, from the node to the root.
+use crate::node_addr::NodeAddr;
+ghost use mathlib.Core.Path.{_≡_};
+ghost use Prim.Native.Nat.{_≤_};
+ghost use lib.ListN.{length};
+ghost use Rattle.types.specs.Paths.{emptyPath, elements, startsAt, pathWeight, appended};
+
+// A node on a path, with the sequence number and the timestamp of its declaration.
+pub struct CoordEntry {
+    pub node_addr: NodeAddr,
+    pub sequence: u64,
+    pub timestamp: u64,
+}
+
+// Thirty-two places and a length: element 0 is the node, the last one up to the length is the root.
+pub struct Path {
+    pub entries: [CoordEntry; 32],
+    pub len: usize,
+}
+
+// A path with one element more, or the path as it was and the number of the refusal.
+pub struct Appended {
+    pub refusal: u8,
+    pub path: Path,
+}
+
+impl Path {
+    pub fn empty() -> Path
+        ensures { λ r. ⌜ r ≡ emptyPath ⌝ }
+    {
+        let a = NodeAddr([0u8; 16]);
+        let e = CoordEntry {
+            node_addr: a,
+            sequence: 0,
+            timestamp: 0,
+        };
+        let es = [e; 32];
+        Path {
+            entries: es,
+            len: 0,
+        }
+    }
+
+    // How many places hold an element. A length past the last place, which no write makes, means all of them.
+    pub fn count(self) -> usize
+        ensures { λ r. ⌜ r ≡ length (elements self) ⌝ }
+        ensures { λ r. ⌜ r ≤ 32 ⌝ }
+    {
+        if self.len < 32 { self.len } else { 32 }
+    }
+
+    pub fn starts_at(self, key: NodeAddr) -> bool
+        ensures { λ r. ⌜ r ≡ startsAt key self ⌝ }
+    {
+        if self.count() == 0 {
+            return false;
+        }
+        let x = self.entries[0];
+        let a = x.node_addr;
+        a.same_as(key)
+    }
+
+    // What a path adds to the main segment: an element a unit, and sixteen at least.
+    pub fn weight(self) -> u64
+        ensures { λ r. ⌜ r ≡ pathWeight self ⌝ }
+    {
+        let n = self.len as u64;
+        if n < 16 { 16 } else { n }
+    }
+
+    // The element goes behind the last one.
+    pub fn append(self, e: CoordEntry) -> Appended
+        ensures { λ r. ⌜ r ≡ appended self e ⌝ }
+    {
+        let n = self.len;
+        if n < 32 {
+            let mut q = self;
+            q.entries[n] = e;
+            q.len = n + 1;
+            Appended {
+                refusal: 0,
+                path: q,
+            }
+        } else {
+            Appended {
+                refusal: 2,
+                path: self,
+            }
+        }
+    }
+}

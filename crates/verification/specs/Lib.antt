@@ -1,0 +1,3 @@
+pub mod Mtu
+pub mod Searches
+pub mod Forms
