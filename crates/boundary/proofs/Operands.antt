@@ -10,12 +10,13 @@ use lib.Seq.{take-all}
 use Rattle.types.specs.declared.node_addr.NodeAddr.{NodeAddr}
 use Rattle.types.specs.declared.coord.CoordEntry.{CoordEntry}
 use Rattle.types.specs.declared.coord.Path.{Path}
-use Rattle.types.specs.Paths.{zeroEntry}
+use Rattle.types.specs.Paths.{zeroEntry, pathPlaces}
 use Rattle.rules.specs.Records.{State}
 use Rattle.rules.specs.Rows.{find}
 use Rattle.rules.specs.Sound.{sound}
 use Rattle.rules.specs.Memory.{coordEntriesOf, cut, capacity, view, viewRows}
 use Rattle.rules.proofs.Public.{SoundMemory}
+use Rattle.rules.specs.Layout.{coordEntrySize, headSize, rowSize}
 use Rattle.entries.proofs.Places.{entries-length}
 use Rattle.boundary.specs.Exported.{pathFrom, rowHeld, rowTaken}
 
@@ -27,18 +28,18 @@ drop-replicate (suc k) zero x = ap (λ (j : ℕ). replicate j x) (let z : 0 ≡ 
 drop-replicate (suc k) (suc n) x = drop-replicate k n x ∙ ap (λ (j : ℕ). replicate j x) (let z : n - k ≡ suc n - suc k = omega arith in z)
 
 -- all elements that are held have been copied over the zeros
-pub path-made : (bs : List ℕ) (n held k : ℕ) (entries : List CoordEntry) → n ≡ length bs / 32 → held ≡ min n 32 → entries ≡ take k (coordEntriesOf held bs) ++ drop k (replicate 32 zeroEntry) → k ≡ held → record { entries = entries; len = n } ≡ pathFrom bs
+pub path-made : (bs : List ℕ) (n held k : ℕ) (entries : List CoordEntry) → n ≡ length bs / coordEntrySize → held ≡ min n pathPlaces → entries ≡ take k (coordEntriesOf held bs) ++ drop k (replicate pathPlaces zeroEntry) → k ≡ held → record { entries = entries; len = n } ≡ pathFrom bs
 unfolding pathFrom
 path-made bs n held k entries e h i g =
     let a : take k (coordEntriesOf held bs) ≡ coordEntriesOf held bs = take-all k (coordEntriesOf held bs) (omega (arith, entries-length held bs)) in
-    let b : drop k (replicate 32 zeroEntry) ≡ replicate (32 - held) zeroEntry = drop-replicate k 32 zeroEntry ∙ ap (λ (j : ℕ). replicate (32 - j) zeroEntry) g in
-    let c : entries ≡ coordEntriesOf held bs ++ replicate (32 - held) zeroEntry = i ∙ cc (a, b) in
-    let d : held ≡ min (length bs / 32) 32 = h ∙ ap (λ (j : ℕ). min j 32) e in
+    let b : drop k (replicate pathPlaces zeroEntry) ≡ replicate (pathPlaces - held) zeroEntry = drop-replicate k pathPlaces zeroEntry ∙ ap (λ (j : ℕ). replicate (pathPlaces - j) zeroEntry) g in
+    let c : entries ≡ coordEntriesOf held bs ++ replicate (pathPlaces - held) zeroEntry = i ∙ cc (a, b) in
+    let d : held ≡ min (length bs / coordEntrySize) pathPlaces = h ∙ ap (λ (j : ℕ). min j pathPlaces) e in
     cc (e, c)
 
 -- ---- the row of a key
 
-pub row-taken : (l : List ℕ) (n : ℕ) (k : NodeAddr) (i : ℕ) (buffer : List ℕ) → sound (capacity l) (view l) ≡ true → SoundMemory l n → find k (viewRows n l .rows) ≡ some i → cut (40 + i * 1095) 1095 l ≡ rowTaken k l buffer
+pub row-taken : (l : List ℕ) (n : ℕ) (k : NodeAddr) (i : ℕ) (buffer : List ℕ) → sound (capacity l) (view l) ≡ true → SoundMemory l n → find k (viewRows n l .rows) ≡ some i → cut (headSize + i * rowSize) rowSize l ≡ rowTaken k l buffer
 unfolding rowTaken rowHeld
 row-taken l n k i buffer h s f =
     let e : find k (view l .rows) ≡ some i = subst (λ (x : State). find k (x .rows) ≡ some i) (s .same) f in

@@ -13,12 +13,13 @@ use Rattle.types.specs.Paths.{pathPlaces, zeroEntry}
 use Rattle.types.specs.declared.placed.Funding.{Funding}
 use Rattle.types.specs.declared.placed.Funding.the-variants.{Upto, Uncharged}
 use Rattle.rules.specs.Cases.{maybe}
-use Rattle.rules.specs.Rows.{find, rowSize}
+use Rattle.rules.specs.Rows.{find}
 use Rattle.rules.specs.Sound.{sound}
 use Rattle.rules.specs.Calls.{Call, Refused}
 use Rattle.rules.specs.Commands.{reply}
-use Rattle.rules.specs.Memory.{headSize, coordEntrySize, coordEntriesOf, cut, capacity, view}
+use Rattle.rules.specs.Memory.{coordEntriesOf, cut, capacity, view}
 use Rattle.rules.specs.Lent.{Lent, call}
+use Rattle.rules.specs.Layout.{coordEntrySize, headSize, rowSize}
 
 abbrev pub addressFrom : List ℕ → NodeAddr
 addressFrom bs = record { 0 = bs }

@@ -1,6 +1,9 @@
 // Operands as they come from another language, and replies as they go there.
+use raw::layout::ELEMENT;
+use raw::layout::ROW;
 use search::answers::Search;
 use types::coord::CoordEntry;
+use types::coord::PLACES;
 use types::coord::Path;
 use types::node_addr::NodeAddr;
 use types::placed::Funding;
@@ -15,12 +18,6 @@ ghost use Rattle.rules.specs.Sound.{sound};
 ghost use Rattle.rules.specs.Memory.{capacity, view};
 ghost use Rattle.rules.specs.Lent.{AddrFits};
 ghost use Rattle.boundary.specs.Exported.{addressFrom, pathFrom, fundingFrom, rowTaken};
-
-// The bytes of an element.
-const ELEMENT: usize = 32;
-
-// The places of a path.
-const PLACES: usize = 32;
 
 // What is known of an address by value.
 fn owned(a: NodeAddr) -> NodeAddr
@@ -58,7 +55,7 @@ pub fn path_from(bytes: &[u8]) -> Path
     let len = bytes.len() / ELEMENT;
     let held = lesser(len, PLACES);
     let zero = zero_entry();
-    let mut entries = [zero; 32];
+    let mut entries = [zero; PLACES];
     let mut k = 0;
     while k < held {
         entries[k] = entries::addr::load_coord_entry(bytes, k * ELEMENT);
@@ -89,7 +86,7 @@ pub fn funding(kind: u8, amount: u64) -> Funding
 }
 
 // The bytes of the key's row, where it has one.
-pub fn keep_row(state: &[u8], key: NodeAddr, row: &mut [u8; 1095])
+pub fn keep_row(state: &[u8], key: NodeAddr, row: &mut [u8; ROW])
     requires { ⌜ sound (capacity (now state)) (view (now state)) ≡ true ⌝ }
     ensures { λ _. ⌜ now (row .exit) ≡ rowTaken key (now (state .entry)) (now (row .entry)) ⌝ }
 {

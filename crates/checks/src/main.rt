@@ -6,10 +6,15 @@ mod states;
 
 use asking::CALLS;
 use asking::FRESH_2;
+use raw::layout::HEAD;
+use raw::layout::ROW;
+use state::head::MAX_ROWS;
 use states::BAD_STATES;
 ghost use mathlib.Core.Path.{_≡_};
-ghost use Prim.Native.Nat.{_≤_};
+ghost use Prim.Native.Nat.{_≤_, _+_};
 ghost use lib.ListN.{length};
+ghost use Rattle.rules.specs.Records.{maxRows};
+ghost use Rattle.rules.specs.Layout.{memorySize};
 
 // The length of 3 rows.
 const LAST: usize = 3325;
@@ -133,14 +138,16 @@ fn short_lengths() {
     lines::last(count);
 }
 
-// 1,025 rows.
-fn long_memory() -> [u8; 1122415]
-    ensures { λ r. ⌜ 1122415 ≡ length r ⌝ }
+// A row more than there may be.
+const LONG: usize = HEAD + (MAX_ROWS as usize + 1) * ROW;
+
+fn long_memory() -> [u8; LONG]
+    ensures { λ r. ⌜ (memorySize (maxRows + 1)) ≡ length r ⌝ }
 {
-    [0; 1122415]
+    [0; LONG]
 }
 
-// A fresh head for 2 entries and no rows: only that R is over 1,024 is wrong.
+// A fresh head for 2 entries and no rows: only that R is over MAX_ROWS is wrong.
 fn long_length() {
     let mut memory = long_memory();
     let mut before = long_memory();

@@ -1,4 +1,25 @@
 // States of 3 rows made byte by byte, and what makes one of them unsound.
+use raw::layout::CREATED_AT;
+use raw::layout::DEFAULT_TTL;
+use raw::layout::ELEMENT;
+use raw::layout::ENTRY;
+use raw::layout::EXPIRES_AT;
+use raw::layout::HEAD;
+use raw::layout::LAST_USED;
+use raw::layout::MAX_ENTRIES;
+use raw::layout::MTU;
+use raw::layout::MTU_MARK;
+use raw::layout::PLACE;
+use raw::layout::PLACES_AT;
+use raw::layout::ROW;
+use raw::layout::ROW_COUNT;
+use raw::layout::SEQ;
+use raw::layout::SOURCE;
+use raw::layout::STAMP_FIRST;
+use raw::layout::STAMP_SEQ;
+use raw::layout::STORED_WEIGHT;
+use raw::layout::VERIFIED_UNTIL;
+use raw::layout::WEIGHT;
 
 pub const FRESH: u64 = 0;
 
@@ -13,33 +34,6 @@ pub const SHORT: u64 = 4;
 pub const LONG: u64 = 5;
 
 pub const BAD_STATES: u64 = 32;
-
-// Where a row's fields stand in it.
-const LEN: usize = 16;
-
-const PLACES: usize = 17;
-
-const CREATED_AT: usize = 1041;
-
-const LAST_USED: usize = 1049;
-
-const EXPIRES_AT: usize = 1057;
-
-const MTU_MARK: usize = 1065;
-
-const MTU: usize = 1066;
-
-const SOURCE: usize = 1068;
-
-const VERIFIED_UNTIL: usize = 1069;
-
-const PLACE: usize = 1077;
-
-const STAMP_FIRST: usize = 1078;
-
-const STAMP_SEQ: usize = 1086;
-
-const WEIGHT: usize = 1094;
 
 fn put(memory: &mut [u8], at: usize, v: u8) {
     if at < memory.len() {
@@ -60,16 +54,16 @@ fn put_number(memory: &mut [u8], at: usize, v: u32) {
 // A byte of row i.
 fn put_in(memory: &mut [u8], i: usize, at: usize, v: u8) {
     if i < 3 {
-        if at < 1095 {
-            put(memory, 40 + i * 1095 + at, v);
+        if at < ROW {
+            put(memory, HEAD + i * ROW + at, v);
         }
     }
 }
 
 fn put_number_in(memory: &mut [u8], i: usize, at: usize, v: u32) {
     if i < 3 {
-        if at < 1095 {
-            put_number(memory, 40 + i * 1095 + at, v);
+        if at < ROW {
+            put_number(memory, HEAD + i * ROW + at, v);
         }
     }
 }
@@ -87,19 +81,19 @@ fn put_address(memory: &mut [u8], i: usize, at: usize, last: u8) {
 
 // max_entries, default_ttl_ms, seq, stored_weight and the row count.
 fn put_head(memory: &mut [u8], max: u32, ttl: u32, seq: u32, stored: u32, count: u32) {
-    put_number(memory, 0, max);
-    put_number(memory, 8, ttl);
-    put_number(memory, 16, seq);
-    put_number(memory, 24, stored);
-    put_number(memory, 32, count);
+    put_number(memory, MAX_ENTRIES, max);
+    put_number(memory, DEFAULT_TTL, ttl);
+    put_number(memory, SEQ, seq);
+    put_number(memory, STORED_WEIGHT, stored);
+    put_number(memory, ROW_COUNT, count);
 }
 
 // Key and path: from the key itself to the root, 1 or 2 elements.
 fn put_path(memory: &mut [u8], i: usize, key: u8, root: u8, len: u8) {
     put_address(memory, i, 0, key);
-    put_in(memory, i, LEN, len);
-    put_address(memory, i, PLACES, key);
-    put_address(memory, i, PLACES + 32, root);
+    put_in(memory, i, ENTRY, len);
+    put_address(memory, i, PLACES_AT, key);
+    put_address(memory, i, PLACES_AT + ELEMENT, root);
 }
 
 fn put_times(memory: &mut [u8], i: usize, created: u32, used: u32, expires: u32) {
@@ -255,14 +249,14 @@ pub fn make(memory: &mut [u8], kind: u64) {
 // One field of the foreign state's head changed.
 fn spoil_head(memory: &mut [u8], number: u64) {
     match number {
-        0 => put(memory, 0, 3),
+        0 => put(memory, MAX_ENTRIES, 3),
         1 => put(memory, 7, 255),
-        2 => put(memory, 16, 8),
-        3 => put(memory, 24, 35),
-        4 => put(memory, 24, 37),
+        2 => put(memory, SEQ, 8),
+        3 => put(memory, STORED_WEIGHT, 35),
+        4 => put(memory, STORED_WEIGHT, 37),
         5 => put(memory, 31, 255),
-        6 => put(memory, 32, 1),
-        7 => put(memory, 32, 4),
+        6 => put(memory, ROW_COUNT, 1),
+        7 => put(memory, ROW_COUNT, 4),
         _ => put(memory, 39, 255),
     }
 }
@@ -273,9 +267,9 @@ fn spoil_entry(memory: &mut [u8], number: u64) {
         9 => put_in(memory, 1, 15, 1),
         10 => put_in(memory, 1, 0, 16),
         11 => put_in(memory, 2, 15, 2),
-        12 => put_in(memory, 0, LEN, 0),
-        13 => put_in(memory, 0, LEN, 33),
-        14 => put_in(memory, 2, LEN, 17),
+        12 => put_in(memory, 0, ENTRY, 0),
+        13 => put_in(memory, 0, ENTRY, 33),
+        14 => put_in(memory, 2, ENTRY, 17),
         15 => put_in(memory, 0, MTU_MARK, 2),
         16 => put_in(memory, 2, MTU_MARK, 255),
         17 => put_in(memory, 0, SOURCE, 1),
@@ -289,7 +283,7 @@ fn spoil_entry(memory: &mut [u8], number: u64) {
 // Row i moved, and the stored weight made what main then weighs, so that nothing else is wrong. Here M is 2 and Q is 1.
 fn spoil_segment(memory: &mut [u8], i: usize, place: u8, stored: u8) {
     put_in(memory, i, PLACE, place);
-    put(memory, 24, stored);
+    put(memory, STORED_WEIGHT, stored);
 }
 
 // Row 1 parked with first 0, which is its verified_until: only that it is a hint is wrong.

@@ -23,6 +23,7 @@ use Rattle.rules.specs.Commands.{Code, Command, Decoded, Element, WithPath, Pla
 use Rattle.rules.proofs.Addresses.{contradiction}
 use Rattle.rules.proofs.SoundTest.{and-case}
 use Rattle.rules.proofs.MemoryLaws.{bytes-drop}
+use Rattle.rules.specs.Layout.{coordEntrySize}
 use Rattle.commands.specs.Widths.{widthOf}
 use Rattle.commands.specs.OnMemory.{Held, Obeyed, answered, pended, obey, refusedSix, obeyByte, whole, reads, obeyWhole, held, badKind, Says}
 use Rattle.commands.proofs.Operands.{known, of-whole, number-at, first-at, asks}
@@ -78,13 +79,13 @@ fresh-answers l i p at f mx ttl n r m bl bi e k em et en ml er ep es =
 
 -- ---- 01
 
-pub element-answers : (l i : List ℕ) (p : Path) (at : ℕ) (f : Bool) (e : CoordEntry) (a : Appended) (r : AfterCommand) → f ≡ sound (capacity l) (view l) → e ≡ coordEntryOf (cut at 32 i) → a ≡ appended p e
+pub element-answers : (l i : List ℕ) (p : Path) (at : ℕ) (f : Bool) (e : CoordEntry) (a : Appended) (r : AfterCommand) → f ≡ sound (capacity l) (view l) → e ≡ coordEntryOf (cut at coordEntrySize i) → a ≡ appended p e
     → r .reply ≡ cond (eqb (a .refusal) 0) (says (a .path .len) 0 0 0 0) (refuses (a .refusal)) → r .pending ≡ a .path → r .sound ≡ f → Answers (obeyWhole (held l p) 0x01 (drop at i)) r l
 unfolding reads codeOf codes code obey pended
 element-answers l i p at f e a r es ee ea er ep ef =
-    let b : a ≡ appended p (coordEntryOf (cut at 32 i)) = ea ∙ ap (appended p) ee in
+    let b : a ≡ appended p (coordEntryOf (cut at coordEntrySize i)) = ea ∙ ap (appended p) ee in
     let g : Answers (pended l a) r l = record { says = er; pends = ep; leaves = refl; sounds = ef ∙ es } in
-    subst (λ (o : Obeyed). Answers o r l) (ap (pended l) b ∙ sym (obeyed-is (held l p) 0x01 (drop at i) (Element (coordEntryOf (cut at 32 i))) refl)) g
+    subst (λ (o : Obeyed). Answers o r l) (ap (pended l) b ∙ sym (obeyed-is (held l p) 0x01 (drop at i) (Element (coordEntryOf (cut at coordEntrySize i))) refl)) g
 
 -- ---- 10 to 15
 

@@ -8,7 +8,7 @@ use mathlib.Core.Bool.{true}
 use lib.ListN.{length}
 use borrow.Author.Tests.{ne-eqb}
 use Rattle.types.specs.declared.node_addr.NodeAddr.{NodeAddr}
-use Rattle.types.specs.Paths.{elements}
+use Rattle.types.specs.Paths.{elements, pathPlaces}
 use Rattle.types.specs.Values.{says, refuses}
 use Rattle.rules.specs.Cases.{maybe}
 use Rattle.rules.specs.Records.{State}
@@ -28,6 +28,7 @@ use Rattle.rules.proofs.MemoryLaws.{length-cut}
 use Rattle.rules.proofs.SoundTest.{RowOk}
 use Rattle.rules.proofs.Refused.{by-serve}
 use Rattle.rules.proofs.Public.{SoundMemory, sound-memory}
+use Rattle.rules.specs.Layout.{coordEntrySize, headSize, placesInRow, rowSize}
 use Rattle.refusals.proofs.Frame.{not-refused}
 use Rattle.entries.proofs.Places.{elements-length}
 use Rattle.commands.specs.OnMemory.{partReply}
@@ -43,13 +44,13 @@ number-reply l x d = by-serve (capacity l) (view l) x (λ (t : Step). reply (t .
 
 -- ---- get: found, and the length, from the part that it hands back
 
-found-reply : (n : ℕ) → 1 ≤ n → partReply (n * 32) ≡ says 1 n 0 0 0
+found-reply : (n : ℕ) → 1 ≤ n → partReply (n * coordEntrySize) ≡ says 1 n 0 0 0
 unfolding partReply
-found-reply n h = rw (ne-eqb (n * 32) 0 (λ e. let z : ⊥ = omega arith in z)) (ap (λ (x : ℕ). says 1 x 0 0 0) (let z : n * 32 / 32 ≡ n = omega arith in z))
+found-reply n h = rw (ne-eqb (n * coordEntrySize) 0 (λ e. let z : ⊥ = omega arith in z)) (ap (λ (x : ℕ). says 1 x 0 0 0) (let z : n * coordEntrySize / coordEntrySize ≡ n = omega arith in z))
 
 -- row i's stored path, as long as its length says
 record PartOf (l : List ℕ) (s : State) (i : ℕ) : Type 0 where
-  bytes : length (pathPart i (rowAt i (s .rows) .entry .path .len) l) ≡ rowAt i (s .rows) .entry .path .len * 32
+  bytes : length (pathPart i (rowAt i (s .rows) .entry .path .len) l) ≡ rowAt i (s .rows) .entry .path .len * coordEntrySize
   count : length (elements (rowAt i (s .rows) .entry .path)) ≡ rowAt i (s .rows) .entry .path .len
   long : 1 ≤ rowAt i (s .rows) .entry .path .len
 
@@ -57,9 +58,9 @@ part-of : (l : List ℕ) (n i : ℕ) → SoundMemory l n → i < n → PartOf l 
 unfolding pathPart
 part-of l n i s h =
     let ok = every-at (RowOk (viewRows n l .seq)) i (viewRows n l .rows) (omega (arith, s .rows)) (s .sound .each) in
-    let k : rowAt i (viewRows n l .rows) .entry .path .len ≤ 32 = ok .short in
+    let k : rowAt i (viewRows n l .rows) .entry .path .len ≤ pathPlaces = ok .short in
     subst (λ (x : State). PartOf l x i) (s .same) (record {
-      bytes = length-cut (40 + i * 1095 + 17) (rowAt i (viewRows n l .rows) .entry .path .len * 32) l (omega (arith, s .long, k));
+      bytes = length-cut (headSize + i * rowSize + placesInRow) (rowAt i (viewRows n l .rows) .entry .path .len * coordEntrySize) l (omega (arith, s .long, k));
       count = elements-length n i l h k;
       long = ok .long;
     })

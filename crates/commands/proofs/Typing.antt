@@ -11,7 +11,7 @@ use lib.Seq.{length-take-le}
 use Rattle.types.specs.declared.coord.CoordEntry.{CoordEntry}
 use Rattle.types.specs.declared.coord.Path.{Path}
 use Rattle.types.specs.declared.coord.Appended.{Appended}
-use Rattle.types.specs.Paths.{zeroEntry, emptyPath, appended}
+use Rattle.types.specs.Paths.{zeroEntry, emptyPath, appended, pathPlaces}
 use Rattle.types.specs.declared.placed.Funding.{Funding}
 use Rattle.types.specs.declared.placed.Funding.the-variants.{Upto, Uncharged}
 use Rattle.rules.specs.Cases.{maybe, Every}
@@ -29,6 +29,7 @@ use Rattle.rules.proofs.Refused.{fresh-refusal}
 use Rattle.rules.proofs.SoundKept.{step-sound}
 use Rattle.rules.proofs.LentMemory.{lent-request, refused-leaves, capacity-same, freshened}
 use Rattle.rules.proofs.Public.{fresh-refused, unsound-one}
+use Rattle.rules.specs.Layout.{coordEntrySize}
 use Rattle.commands.specs.OnMemory.{Held, Obeyed, answered, pended, obey, refusedSix, whole, reads, obeyWhole}
 use Rattle.commands.proofs.Operands.{known, of-whole}
 
@@ -51,7 +52,7 @@ key-fits o h b = record { size = length-cut 0 16 o (omega arith); bytes = bytes-
 write-fits : (o : List ℕ) (p : Path) → 24 ≤ length o → Bytes o → PathFits p → WriteFits (keyIn o) p (timeIn o)
 write-fits o p h b f = record { key = key-fits o (omega arith) b; path = f; time = cut-small 16 8 o (omega arith) b }
 
-entry-fits : (o : List ℕ) → length o ≡ 32 → Bytes o → CoordEntryFits (coordEntryOf o)
+entry-fits : (o : List ℕ) → length o ≡ coordEntrySize → Bytes o → CoordEntryFits (coordEntryOf o)
 unfolding coordEntryOf
 entry-fits o h b = record { address = key-fits o (omega arith) b; sequence = cut-small 16 8 o (omega arith) b; timestamp = cut-small 24 8 o (omega arith) b }
 
@@ -108,11 +109,11 @@ every-set (x ∷ xs) (suc i) e h g = (g .0, every-set xs i e h (g .1))
 
 pub empty-fits : PathFits emptyPath
 unfolding emptyPath
-empty-fits = record { places = length-replicate 32 zeroEntry; each = every-zero 32 }
+empty-fits = record { places = length-replicate pathPlaces zeroEntry; each = every-zero pathPlaces }
 
 pub pending-fits : (p : Path) (e : CoordEntry) → PathFits p → CoordEntryFits e → PathFits (appended p e .path)
 unfolding appended
-pending-fits p e f h = by-cond (λ (a : Appended). PathFits (a .path)) (ltb (p .len) 32) (λ t. record { places = length-set (p .entries) (p .len) e ∙ f .places; each = every-set (p .entries) (p .len) e h (f .each) }) (λ t. f)
+pending-fits p e f h = by-cond (λ (a : Appended). PathFits (a .path)) (ltb (p .len) pathPlaces) (λ t. record { places = length-set (p .entries) (p .len) e ∙ f .places; each = every-set (p .entries) (p .len) e h (f .each) }) (λ t. f)
 
 pub typed-request : (b : ℕ) (bs : List ℕ) (x : Request) → whole b bs ≡ true → Bytes bs → reads b bs ≡ some (Plain x) → TypedRequest x
 typed-request b bs x w y e = command-fits b bs emptyPath (Plain x) w y empty-fits e

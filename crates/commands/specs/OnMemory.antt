@@ -18,6 +18,7 @@ use Rattle.rules.specs.Calls.{Call}
 use Rattle.rules.specs.Memory.{cut, leNumber}
 use Rattle.rules.specs.Lent.{Lent, lent, call}
 use Rattle.rules.specs.Commands.{Command, Element, WithPath, Plain, codes, codeOf, decode, takesPath, reply}
+use Rattle.rules.specs.Layout.{coordEntrySize}
 
 -- the memory and the pending path
 pub record Held : Type 0 where
@@ -79,7 +80,7 @@ fundingIn o = cond (eqb (leNumber (cut 24 1 o)) 0) Uncharged (Upto (leNumber (cu
 
 -- a lookup's reply, from the bytes of the part that it hands back
 unfoldable pub partReply : ℕ → Reply
-partReply n = cond (eqb n 0) (says 0 0 0 0 0) (says 1 (n / 32) 0 0 0)
+partReply n = cond (eqb n 0) (says 0 0 0 0 0) (says 1 (n / coordEntrySize) 0 0 0)
 
 -- a call's reply and memory
 pub record Replied (l : List ℕ) (q : Call) (r : Reply) (m : List ℕ) : Type 0 where

@@ -1,5 +1,6 @@
 // The calls that take no path: lookups, sweeps, statistics. Their operands stand in the input from `at` on.
 use entries::addr::load_addr;
+use raw::layout::ELEMENT;
 use raw::numbers::read_u64;
 use types::reply::Reply;
 use types::reply::refused;
@@ -15,14 +16,14 @@ ghost use Rattle.rules.specs.Memory.{capacity, view, cut, leNumber};
 ghost use Rattle.rules.specs.Commands.{keyIn, timeIn};
 ghost use Rattle.commands.specs.OnMemory.{Replied, Says, partReply, whole, obeyWhole, held};
 
-// A lookup found the key if its part has an element, of 32 bytes each.
+// A lookup found the key if its part has an element, of ELEMENT bytes each.
 pub fn part_reply(bytes: usize) -> Reply
     ensures { λ r. ⌜ r ≡ partReply bytes ⌝ }
 {
     if bytes == 0 {
         return says(0, 0, 0, 0, 0);
     }
-    says(1, (bytes / 32) as u64, 0, 0, 0)
+    says(1, (bytes / ELEMENT) as u64, 0, 0, 0)
 }
 
 fn get(state: &[u8], input: &[u8], at: usize) -> Reply

@@ -1,4 +1,5 @@
 // Commands from bytes: the command byte decides; operands have fixed widths.
+use raw::layout::ELEMENT;
 ghost use mathlib.Core.Path.{_≡_};
 ghost use Rattle.commands.specs.Widths.{widthOf, widthIs};
 
@@ -13,7 +14,7 @@ pub fn width_of(code: u8) -> Width
 {
     match code {
         0x00 => Width::Bytes(10),
-        0x01 => Width::Bytes(32),
+        0x01 => Width::Bytes(ELEMENT),
         0x02..=0x0f => Width::Unknown,
         0x10 => Width::Bytes(24),
         0x11 => Width::Bytes(32),

@@ -6,6 +6,7 @@ use boundary::address;
 use boundary::funding;
 use boundary::path_from;
 use boundary::tell;
+use raw::layout::ROW;
 use types::reply::refused;
 ghost use mathlib.Core.Path.{_≡_};
 ghost use Rattle.rules.specs.Sound.{sound};
@@ -184,7 +185,7 @@ pub extern "C" fn coord_cache_remove(
     state: &mut [u8],
     key: &[u8; 16],
     values: &mut [u64; 5],
-    row: &mut [u8; 1095],
+    row: &mut [u8; ROW],
 ) -> u8
     ensures { λ r. ⌜ Told (call (now (state .entry)) (Remove (addressFrom (now (key .entry))))) r (now (values .exit)) (now (state .exit)) × (now (row .exit) ≡ rowTaken (addressFrom (now (key .entry))) (now (state .entry)) (now (row .entry))) ⌝ }
 {

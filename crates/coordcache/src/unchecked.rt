@@ -4,6 +4,7 @@ use boundary::funding;
 use boundary::keep_row;
 use boundary::path_from;
 use boundary::tell;
+use raw::layout::ROW;
 use types::reply::refused;
 ghost use mathlib.Core.Path.{_≡_};
 ghost use mathlib.Core.Bool.{true};
@@ -179,7 +180,7 @@ pub extern "C" fn coord_cache_remove_unchecked(
     state: &mut [u8],
     key: &[u8; 16],
     values: &mut [u64; 5],
-    row: &mut [u8; 1095],
+    row: &mut [u8; ROW],
 ) -> u8
     requires { ⌜ sound (capacity (now state)) (view (now state)) ≡ true ⌝ }
     ensures { λ r. ⌜ Told (call (now (state .entry)) (Remove (addressFrom (now (key .entry))))) r (now (values .exit)) (now (state .exit)) × (now (row .exit) ≡ rowTaken (addressFrom (now (key .entry))) (now (state .entry)) (now (row .entry))) ⌝ }

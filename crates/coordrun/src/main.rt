@@ -3,18 +3,25 @@
 use libc::STDERR_FILENO;
 use libc::STDIN_FILENO;
 use libc::STDOUT_FILENO;
+use raw::layout::HEAD;
+use raw::layout::ROW;
 use stream::run::Ran;
 use stream::stop::Stop;
 use types::coord::Path;
 use types::reply::Tally;
 ghost use mathlib.Core.Path.{_≡_};
 ghost use lib.ListN.{length};
+ghost use Rattle.rules.specs.Commands.{coordrunRows};
+ghost use Rattle.rules.specs.Layout.{memorySize};
 
-// 24 rows.
-fn memory_of_24_rows() -> [u8; 26320]
-    ensures { λ r. ⌜ 26320 ≡ length r ⌝ }
+const ROWS: usize = 24;
+
+const MEMORY: usize = HEAD + ROWS * ROW;
+
+fn memory_of_24_rows() -> [u8; MEMORY]
+    ensures { λ r. ⌜ (memorySize coordrunRows) ≡ length r ⌝ }
 {
-    [0; 26320]
+    [0; MEMORY]
 }
 
 // What one turn leaves for the next.

@@ -18,6 +18,7 @@ use Rattle.types.proofs.PathLaws.{same-stop, same-go, same-end}
 use Rattle.rules.specs.Memory.{cut, leNumber, coordEntryOf}
 use Rattle.rules.proofs.Addresses.{same-eq, same-true, same-false, same-ne}
 use Rattle.rules.proofs.MemoryLaws.{length-cut}
+use Rattle.rules.specs.Layout.{coordEntrySize}
 use Rattle.raw.proofs.StoreLaws.{cut-cut}
 
 pub cut-byte : (at w i : ℕ) (l : List ℕ) → i < w → getD l (at + i) 0 ≡ getD (cut at w l) i 0
@@ -74,22 +75,22 @@ copied src dst now i e h k = rw (e, take-all i src h, drop-of-length-le dst k) (
 
 -- ---- a path element
 
-element-bytes : (at : ℕ) (l : List ℕ) → coordEntryOf (cut at 32 l) ≡ record { «node_addr» = record { 0 = cut at 16 l }; sequence = leNumber (cut (at + 16) 8 l); timestamp = leNumber (cut (at + 24) 8 l) }
+element-bytes : (at : ℕ) (l : List ℕ) → coordEntryOf (cut at coordEntrySize l) ≡ record { «node_addr» = record { 0 = cut at 16 l }; sequence = leNumber (cut (at + 16) 8 l); timestamp = leNumber (cut (at + 24) 8 l) }
 unfolding coordEntryOf
 element-bytes at l =
     let z : at + 0 ≡ at = omega arith in
-    rw (cut-cut at 32 0 16 l (omega arith), cut-cut at 32 16 8 l (omega arith), cut-cut at 32 24 8 l (omega arith), z)
+    rw (cut-cut at coordEntrySize 0 16 l (omega arith), cut-cut at coordEntrySize 16 8 l (omega arith), cut-cut at coordEntrySize 24 8 l (omega arith), z)
 
-pub element-addr : (at : ℕ) (l : List ℕ) → coordEntryOf (cut at 32 l) .«node_addr» ≡ record { 0 = cut at 16 l }
+pub element-addr : (at : ℕ) (l : List ℕ) → coordEntryOf (cut at coordEntrySize l) .«node_addr» ≡ record { 0 = cut at 16 l }
 element-addr at l = ap (λ (x : CoordEntry). x .«node_addr») (element-bytes at l)
 
 pub element-made : (at : ℕ) (l : List ℕ) {a : NodeAddr} {s t : ℕ} → a ≡ record { 0 = cut at 16 l } → s ≡ leNumber (cut (at + 16) 8 l) → t ≡ leNumber (cut (at + 24) 8 l)
-    → _≡_ {A = CoordEntry} (record { «node_addr» = a; sequence = s; timestamp = t }) (coordEntryOf (cut at 32 l))
+    → _≡_ {A = CoordEntry} (record { «node_addr» = a; sequence = s; timestamp = t }) (coordEntryOf (cut at coordEntrySize l))
 element-made at l p q r = rw (p, q, r) (sym (element-bytes at l))
 
 -- every field of an element against another's
 pub element-same : (at : ℕ) (l : List ℕ) (e : CoordEntry) {b : Bool} {s t : ℕ} → b ≡ sameAddr (e .«node_addr») (record { 0 = cut at 16 l }) → s ≡ leNumber (cut (at + 16) 8 l) → t ≡ leNumber (cut (at + 24) 8 l)
-    → (b && (eqb s (e .sequence) && eqb t (e .timestamp))) ≡ sameEntry (coordEntryOf (cut at 32 l)) e
+    → (b && (eqb s (e .sequence) && eqb t (e .timestamp))) ≡ sameEntry (coordEntryOf (cut at coordEntrySize l)) e
 unfolding sameEntry
 element-same at l e {b} {s} {t} p q r =
     ap (λ (x : Bool). x && (eqb s (e .sequence) && eqb t (e .timestamp))) (p ∙ same-sym (e .«node_addr») (record { 0 = cut at 16 l }))

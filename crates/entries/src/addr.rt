@@ -6,7 +6,8 @@ ghost use Prim.Native.Nat.{_+_, _≤_};
 ghost use lib.ListN.{length};
 ghost use Rattle.types.specs.Addresses.{sameAddr};
 ghost use Rattle.types.specs.Paths.{sameEntry};
-ghost use Rattle.rules.specs.Memory.{addressSize, coordEntrySize, coordEntryOf, cut};
+ghost use Rattle.rules.specs.Memory.{coordEntryOf, cut};
+ghost use Rattle.rules.specs.Layout.{addressSize, coordEntrySize};
 
 // Whether the sixteen bytes at an offset equal the address, byte by byte. No byte ends the loop early, so that the compiler compares
 // all sixteen at once.
@@ -30,8 +31,8 @@ pub fn coord_entry_at(state: &[u8], at: usize, e: CoordEntry) -> bool
     ensures { λ r. ⌜ r ≡ sameEntry (coordEntryOf (cut at coordEntrySize (now (state .entry)))) e ⌝ }
 {
     let same = addr_at(state, at, e.node_addr);
-    let sequence = raw::numbers::read_u64(state, at + 16);
-    let timestamp = raw::numbers::read_u64(state, at + 24);
+    let sequence = raw::numbers::read_u64(state, at + raw::layout::SEQUENCE);
+    let timestamp = raw::numbers::read_u64(state, at + raw::layout::TIMESTAMP);
     same & ((sequence == e.sequence) & (timestamp == e.timestamp))
 }
 
@@ -54,7 +55,7 @@ pub fn load_coord_entry(state: &[u8], at: usize) -> CoordEntry
 {
     CoordEntry {
         node_addr: load_addr(state, at),
-        sequence: raw::numbers::read_u64(state, at + 16),
-        timestamp: raw::numbers::read_u64(state, at + 24),
+        sequence: raw::numbers::read_u64(state, at + raw::layout::SEQUENCE),
+        timestamp: raw::numbers::read_u64(state, at + raw::layout::TIMESTAMP),
     }
 }

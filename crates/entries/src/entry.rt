@@ -8,8 +8,9 @@ ghost use mathlib.Core.Path.{_≡_};
 ghost use Prim.Native.Nat.{_+_, _*_, _≤_, _<_};
 ghost use lib.ListN.{length};
 ghost use Rattle.rules.specs.Records.{entryValue};
-ghost use Rattle.rules.specs.Rows.{rowSize, rowAt};
-ghost use Rattle.rules.specs.Memory.{headSize, viewRows};
+ghost use Rattle.rules.specs.Rows.{rowAt};
+ghost use Rattle.rules.specs.Memory.{viewRows};
+ghost use Rattle.rules.specs.Layout.{headSize, rowSize};
 
 // The MTU, where the mark says that one is held.
 fn path_mtu(state: &[u8], n: usize, i: usize) -> PathMtu

@@ -1,9 +1,12 @@
-// The path of row i of n. Its places begin 17 bytes into the row, 32 bytes each.
+// The path of row i of n. Its places stand one behind another.
 use crate::addr;
-use memory::head::HEAD;
-use memory::head::ROW;
 use memory::row;
+use raw::layout::ELEMENT;
+use raw::layout::HEAD;
+use raw::layout::PLACES_AT;
+use raw::layout::ROW;
 use types::coord::CoordEntry;
+use types::coord::PLACES;
 use types::coord::Path;
 use types::node_addr::NodeAddr;
 ghost use mathlib.Core.Path.{_≡_};
@@ -11,8 +14,9 @@ ghost use Prim.Native.Nat.{_+_, _*_, _≤_, _<_};
 ghost use lib.ListN.{length};
 ghost use Rattle.types.specs.Addresses.{sameAddr};
 ghost use Rattle.types.specs.Paths.{pathPlaces, elements, samePath, contains, rootOf};
-ghost use Rattle.rules.specs.Rows.{rowSize, rowAt};
-ghost use Rattle.rules.specs.Memory.{headSize, entryOffset, placesOffset, coordEntrySize, viewRows};
+ghost use Rattle.rules.specs.Rows.{rowAt};
+ghost use Rattle.rules.specs.Memory.{viewRows};
+ghost use Rattle.rules.specs.Layout.{coordEntrySize, entryOffset, headSize, placesOffset, rowSize};
 
 // Where a stored path stands in the memory: its first byte, and how many bytes it has.
 pub struct PathPlace {
@@ -26,7 +30,7 @@ fn held_elements(state: &[u8], n: usize, i: usize) -> usize
     ensures { λ r. ⌜ (r ≡ length (elements (rowAt i (viewRows n (now (state .entry)) .rows) .entry .path))) × (r ≤ pathPlaces) ⌝ }
 {
     let len = row::path_len(state, n, i) as usize;
-    if len < 32 { len } else { 32 }
+    if len < PLACES { len } else { PLACES }
 }
 
 // Whether row i's path and this one are the same, element by element, where it stands.
@@ -38,11 +42,11 @@ pub fn path_is(state: &[u8], n: usize, i: usize, path: Path) -> bool
     if held != path.count() {
         return false;
     }
-    let places = HEAD + i * ROW + 17;
+    let places = HEAD + i * ROW + PLACES_AT;
     let mut k = 0;
     while k < held {
         let e = path.entries[k];
-        if !addr::coord_entry_at(state, places + k * 32, e) {
+        if !addr::coord_entry_at(state, places + k * ELEMENT, e) {
             return false;
         }
         k += 1;
@@ -56,10 +60,10 @@ pub fn path_contains(state: &[u8], n: usize, i: usize, a: NodeAddr) -> bool
     ensures { λ r. ⌜ r ≡ contains a (rowAt i (viewRows n (now (state .entry)) .rows) .entry .path) ⌝ }
 {
     let len = row::path_len(state, n, i) as usize;
-    let places = HEAD + i * ROW + 17;
+    let places = HEAD + i * ROW + PLACES_AT;
     let mut k = 0;
     while k < len {
-        if addr::addr_at(state, places + k * 32, a) {
+        if addr::addr_at(state, places + k * ELEMENT, a) {
             return true;
         }
         k += 1;
@@ -73,8 +77,8 @@ pub fn root_is(state: &[u8], n: usize, i: usize, a: NodeAddr) -> bool
     ensures { λ r. ⌜ r ≡ sameAddr (rootOf (rowAt i (viewRows n (now (state .entry)) .rows) .entry .path)) a ⌝ }
 {
     let len = row::path_len(state, n, i) as usize;
-    let places = HEAD + i * ROW + 17;
-    addr::addr_at(state, places + (len - 1) * 32, a)
+    let places = HEAD + i * ROW + PLACES_AT;
+    addr::addr_at(state, places + (len - 1) * ELEMENT, a)
 }
 
 // Where the elements up to the length stand.
@@ -84,26 +88,26 @@ pub fn path_place(state: &[u8], n: usize, i: usize) -> PathPlace
 {
     let len = row::path_len(state, n, i) as usize;
     PathPlace {
-        at: HEAD + i * ROW + 17,
-        bytes: len * 32,
+        at: HEAD + i * ROW + PLACES_AT,
+        bytes: len * ELEMENT,
     }
 }
 
-// All 32 places and the length.
+// All places and the length.
 pub fn load_path(state: &[u8], n: usize, i: usize) -> Path
     requires { ⌜ (i < n) × (headSize + n * rowSize ≤ length (now state)) ⌝ }
     ensures { λ r. ⌜ r ≡ rowAt i (viewRows n (now (state .entry)) .rows) .entry .path ⌝ }
 {
-    let places = HEAD + i * ROW + 17;
+    let places = HEAD + i * ROW + PLACES_AT;
     let blank = CoordEntry {
         node_addr: NodeAddr([0u8; 16]),
         sequence: 0,
         timestamp: 0,
     };
-    let mut entries = [blank; 32];
+    let mut entries = [blank; PLACES];
     let mut place = 0;
-    while place < 32 {
-        entries[place] = addr::load_coord_entry(state, places + place * 32);
+    while place < PLACES {
+        entries[place] = addr::load_coord_entry(state, places + place * ELEMENT);
         place += 1;
     }
     let len = row::path_len(state, n, i) as usize;

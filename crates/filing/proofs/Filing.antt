@@ -8,7 +8,7 @@ use native.Mathlib.Omega.{arith}
 use lib.Dec.{ltb}
 use lib.ListN.{length, take, drop, length-append, length-take, length-drop}
 use Rattle.types.specs.declared.node_addr.NodeAddr.{NodeAddr}
-use Rattle.rules.specs.Records.{Entry, Row, State}
+use Rattle.rules.specs.Records.{Entry, Row, State, maxRows, weightLimit}
 use Rattle.rules.specs.Rows.{rowAt, inMain, find, changeRow, insertInOrder, weighRows, mainWeight, withRows}
 use Rattle.rules.specs.Sound.{sound, ascends}
 use Rattle.rules.specs.Room.{fileNew, stamp, raised}
@@ -16,6 +16,7 @@ use Rattle.rules.specs.Memory.{capacity, viewRows}
 use Rattle.rules.proofs.RowLists.{total-insert}
 use Rattle.rules.proofs.SoundTest.{sound-is, ascends-test}
 use Rattle.rules.proofs.Sizes.{light, few-rows}
+use Rattle.rules.specs.Layout.{headSize, rowSize}
 use Rattle.search.specs.declared.answers.Search.the-variants.{At, Absent}
 use Rattle.search.specs.declared.answers.Search.{Search}
 use Rattle.search.specs.ByKey.{searched}
@@ -26,17 +27,17 @@ use Rattle.rows.specs.Insertions.{inserted}
 
 -- ---- what a sound memory with a free row gives
 
-long : (R n m : ℕ) → R ≡ (m - 40) / 1095 → n < R → 40 + (n + 1) * 1095 ≤ m
+long : (R n m : ℕ) → R ≡ (m - headSize) / rowSize → n < R → headSize + (n + 1) * rowSize ≤ m
 long R n m e h = omega arith
 
-pub one-more-fits : (l : List ℕ) (n : ℕ) → n < capacity l → 40 + (n + 1) * 1095 ≤ length l
+pub one-more-fits : (l : List ℕ) (n : ℕ) → n < capacity l → headSize + (n + 1) * rowSize ≤ length l
 unfolding capacity
-one-more-fits l n h = long ((length l - 40) / 1095) n (length l) refl h
+one-more-fits l n h = long ((length l - headSize) / rowSize) n (length l) refl h
 
 pub rows-rise : (R : ℕ) (s : State) → sound R s ≡ true → ascends (s .rows) ≡ true
 rows-rise R s h = ascends-test (s .rows) (sound-is R s h .rising)
 
-pub stored-light : (R : ℕ) (s : State) → sound R s ≡ true → s .storedWeight ≤ 32768
+pub stored-light : (R : ℕ) (s : State) → sound R s ≡ true → s .storedWeight ≤ maxRows * weightLimit
 stored-light R s h = let d = sound-is R s h in omega (arith, d .storedWeight, light (s .seq) (s .rows) (d .each), few-rows R s d, d .small)
 
 -- a new row's place is among the rows, or past the last

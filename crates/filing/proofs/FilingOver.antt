@@ -18,6 +18,7 @@ use Rattle.rules.specs.Memory.{viewRows}
 use Rattle.rules.proofs.Addresses.{before-trans, contradiction}
 use Rattle.rules.proofs.RowLists.{by-cond, next-none, total-without, rising-without}
 use Rattle.rules.proofs.SoundTest.{ascends-ok, ascends-test}
+use Rattle.rules.specs.Layout.{rowSize}
 use Rattle.search.specs.declared.answers.Search.the-variants.{Absent}
 use Rattle.search.specs.ByKey.{rowsBefore, searched}
 use Rattle.search.proofs.Halves.{first-before, rest-ascends}
@@ -99,16 +100,16 @@ place-without l n i k j h e =
 
 -- ---- the new row
 
-zeros : (m : ℕ) → length (zeroRows m) ≡ m * 1095
+zeros : (m : ℕ) → length (zeroRows m) ≡ m * rowSize
 unfolding zeroRows
-zeros m = length-replicate {A = ℕ} (m * 1095) 0
+zeros m = length-replicate {A = ℕ} (m * rowSize) 0
 
 -- the zero row that row i leaves behind goes to the new row
-rest-kept : (i : ℕ) (s : State) → i < length (s .rows) → drop 1095 (takeOut i s .rest) ≡ s .rest
+rest-kept : (i : ℕ) (s : State) → i < length (s .rows) → drop rowSize (takeOut i s .rest) ≡ s .rest
 unfolding takeOut withOnlyRows
 rest-kept i s h =
     let n = length-without i (s .rows) h in
-    drop-at (zeroRows (length (s .rows) - length (withoutRow i (s .rows)))) (s .rest) 1095 (zeros (length (s .rows) - length (withoutRow i (s .rows))) ∙ omega arith)
+    drop-at (zeroRows (length (s .rows) - length (withoutRow i (s .rows)))) (s .rest) rowSize (zeros (length (s .rows) - length (withoutRow i (s .rows))) ∙ omega arith)
 
 -- c is the weight that is stored without row i
 pub filed-over : (k : NodeAddr) (e : Entry) (w p n i j c v q : ℕ) (r : Row) (s t u y x : State) → i < n → length (s .rows) ≡ n → ascends (s .rows) ≡ true → searched k (withoutRow i (s .rows)) ≡ Absent j

@@ -11,6 +11,7 @@ use Rattle.rules.specs.Rows.{find}
 use Rattle.rules.specs.Sound.{sound}
 use Rattle.rules.specs.Room.{fileNew, takeOut}
 use Rattle.rules.specs.Memory.{capacity, viewRows}
+use Rattle.types.specs.Paths.{pathPlaces}
 use Rattle.memory.proofs.RowLaws.{view-length}
 use Rattle.stamps.specs.declared.answers.Lowest.{Lowest}
 use Rattle.stamps.specs.declared.answers.Lowest.the-variants.{At, Nothing}
@@ -23,11 +24,11 @@ use Rattle.filing.specs.Replacing.{Takes}
 pub rows-there : (n : ℕ) (m : List ℕ) (s : State) → viewRows n m ≡ s → viewRows (length (s .rows)) m ≡ s
 rows-there n m s e = ap (λ (j : ℕ). viewRows j m) (sym (ap (λ (x : State). length (x .rows)) e) ∙ view-length n m) ∙ e
 
-module _ (k : NodeAddr) (v : Lowest) (stored n : ℕ) (l : List ℕ) (len : ℕ) (t : Takes k v stored n l) (h : len ≤ 32) where
-  pub free-asks : v ≡ Nothing → (sound (capacity l) (viewRows n l) ≡ true) × (n < capacity l) × (find k (viewRows n l .rows) ≡ none) × (viewRows n l .seq < 18446744073709551615) × (len ≤ 32)
+module _ (k : NodeAddr) (v : Lowest) (stored n : ℕ) (l : List ℕ) (len : ℕ) (t : Takes k v stored n l) (h : len ≤ pathPlaces) where
+  pub free-asks : v ≡ Nothing → (sound (capacity l) (viewRows n l) ≡ true) × (n < capacity l) × (find k (viewRows n l .rows) ≡ none) × (viewRows n l .seq < 18446744073709551615) × (len ≤ pathPlaces)
   free-asks e = let f = t .free e in (f .0 .sound, f .1, f .0 .gone, t .seq, h)
 
-  pub over-asks : (i : ℕ) → v ≡ At i → Over k n i stored l × (viewRows n l .seq < 18446744073709551615) × (len ≤ 32)
+  pub over-asks : (i : ℕ) → v ≡ At i → Over k n i stored l × (viewRows n l .seq < 18446744073709551615) × (len ≤ pathPlaces)
   over-asks i e = (t .over i e, t .seq, h)
 
 module _ (k : NodeAddr) (v : Lowest) (x : Entry) (w p n : ℕ) (l m : List ℕ) where

@@ -6,7 +6,7 @@ use mathlib.Core.List.{List}
 use mathlib.Core.Bool.{true, false, cond}
 use lib.ListN.{length}
 use Rattle.types.specs.declared.node_addr.NodeAddr.{NodeAddr}
-use Rattle.rules.specs.Records.{State, mainBound}
+use Rattle.rules.specs.Records.{State, mainBound, maxRows}
 use Rattle.rules.specs.Rows.{inProbation, total, mainCount, probationCount, withOnlyRows}
 use Rattle.rules.specs.Sound.{sound}
 use Rattle.rules.specs.Room.{Room, takeOut, makeRoom, mainVisits, probationVisits}
@@ -17,6 +17,7 @@ use Rattle.rules.proofs.LentMemory.{capacity-same}
 use Rattle.rules.proofs.Walks.{Roomed, room-roomed}
 use Rattle.rules.proofs.Moves.{ready, room-sound, probation-twice}
 use Rattle.rules.proofs.Others.{room-gone, made-free}
+use Rattle.rules.specs.Layout.{headSize, rowSize}
 use Rattle.memory.proofs.RowLaws.{view-length}
 use Rattle.stamps.specs.declared.answers.Lowest.{Lowest}
 use Rattle.stamps.specs.declared.answers.Lowest.the-variants.{At, Nothing}
@@ -35,7 +36,7 @@ pub stamps-left : (n : ℕ) (l : List ℕ) → sound (capacity l) (viewRows n l)
 stamps-left n l h q = omega (arith, probation-visits (viewRows n l .rows), view-length n l, few n l h)
 
 pub room-asks : (time n : ℕ) (l : List ℕ) → sound (capacity l) (viewRows n l) ≡ true → viewRows n l .seq ≤ 18446744073709547519
-    → (40 + n * 1095 ≤ length l) × (sound (capacity l) (viewRows n l) ≡ true) × (viewRows n l .seq + total (mainVisits time) (viewRows n l .rows) < 18446744073709551616)
+    → (headSize + n * rowSize ≤ length l) × (sound (capacity l) (viewRows n l) ≡ true) × (viewRows n l .seq + total (mainVisits time) (viewRows n l .rows) < 18446744073709551616)
 room-asks time n l h q = (laid-out n l h, h, omega (arith, main-visits time (viewRows n l .rows), view-length n l, few n l h))
 
 -- ---- a victim that was left in place
@@ -87,10 +88,10 @@ module _ (k : NodeAddr) (n : ℕ) (l m : List ℕ) (time w : ℕ) (r : RoomAnswe
   made : Roomed time w (viewRows n l) (makeRoom time w (viewRows n l))
   made = room-roomed time w (viewRows n l) (ready (shown n l (wo .sound)))
 
-  both : mainCount (viewRows n l) + probationCount (viewRows n l) ≤ 1024
+  both : mainCount (viewRows n l) + probationCount (viewRows n l) ≤ maxRows
   both = omega (arith, both-segments (viewRows n l .seq) (viewRows n l .rows) (shown n l (wo .sound) .each), view-length n l, few n l (wo .sound))
 
-  pub examined-few : r .examined ≤ 2048
+  pub examined-few : r .examined ≤ 2 * maxRows
   examined-few = omega (arith, room-examined, made .seen, both)
 
   pub room-seq : viewRows n l .seq ≤ 18446744073709547519 → makeRoom time w (viewRows n l) .state .seq < 18446744073709551615

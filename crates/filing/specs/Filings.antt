@@ -8,10 +8,11 @@ use lib.ListN.{length}
 use Rattle.types.specs.declared.coord.Path.{Path}
 use Rattle.types.specs.declared.node_addr.NodeAddr.{NodeAddr}
 use Rattle.types.specs.Paths.{asWritten, pathPlaces}
-use Rattle.rules.specs.Records.{Entry}
-use Rattle.rules.specs.Rows.{rowSize, find, inMain, weighRows, withoutRow}
+use Rattle.rules.specs.Records.{Entry, maxRows, weightLimit}
+use Rattle.rules.specs.Rows.{find, inMain, weighRows, withoutRow}
 use Rattle.rules.specs.Sound.{ascends}
-use Rattle.rules.specs.Memory.{headSize, viewRows}
+use Rattle.rules.specs.Memory.{viewRows}
+use Rattle.rules.specs.Layout.{headSize, rowSize}
 use Rattle.filing.specs.declared.entry.NewEntry.{NewEntry}
 
 -- every field; the path as a row holds it
@@ -30,4 +31,4 @@ pub record Over (k : NodeAddr) (n i w : ℕ) (l : List ℕ) : Type 0 where
   pub rising : ascends (viewRows n l .rows) ≡ true
   pub gone : find k (viewRows n l .rows) ≡ none
   pub weighs : w ≡ weighRows inMain (withoutRow i (viewRows n l .rows))
-  pub light : w ≤ 32768
+  pub light : w ≤ maxRows * weightLimit

@@ -5,9 +5,10 @@ use types::coord::Path;
 ghost use mathlib.Core.Path.{_≡_};
 ghost use Prim.Native.Nat.{_+_, _*_, _≤_, _<_};
 ghost use lib.ListN.{length};
-ghost use Rattle.rules.specs.Rows.{rowSize, rowAt};
+ghost use Rattle.rules.specs.Rows.{rowAt};
 ghost use Rattle.rules.specs.Entries.{newEntry, update, markVerified, setMtu};
-ghost use Rattle.rules.specs.Memory.{headSize, viewRows};
+ghost use Rattle.rules.specs.Memory.{viewRows};
+ghost use Rattle.rules.specs.Layout.{headSize, rowSize};
 ghost use Rattle.filing.specs.Filings.{entryFrom};
 
 pub struct NewEntry {

@@ -1,8 +1,8 @@
 // A row filed in the order of keys.
 use crate::entry::NewEntry;
 use memory::head;
-use memory::head::HEAD;
-use memory::head::ROW;
+use raw::layout::HEAD;
+use raw::layout::ROW;
 use rows::exchange::exchange_row;
 use rows::insert::insert_row;
 use rows::row::NewRow;
@@ -20,11 +20,12 @@ ghost use Prim.Native.Nat.{_+_, _*_, _≤_, _<_};
 ghost use lib.Dec.{ltb};
 ghost use lib.ListN.{length};
 ghost use Rattle.types.specs.Paths.{pathPlaces};
-ghost use Rattle.rules.specs.Records.{byUse, probation};
-ghost use Rattle.rules.specs.Rows.{rowSize, find, withoutRow};
+ghost use Rattle.rules.specs.Records.{byUse, probation, maxRows, weightLimit};
+ghost use Rattle.rules.specs.Rows.{find, withoutRow};
 ghost use Rattle.rules.specs.Sound.{sound, ascends};
 ghost use Rattle.rules.specs.Room.{fileNew, takeOut};
-ghost use Rattle.rules.specs.Memory.{headSize, cut, rowOf, capacity, viewRows};
+ghost use Rattle.rules.specs.Memory.{cut, rowOf, capacity, viewRows};
+ghost use Rattle.rules.specs.Layout.{headSize, rowSize};
 ghost use Rattle.search.specs.declared.answers.Search.the-variants.{Absent};
 ghost use Rattle.search.specs.ByKey.{searched};
 ghost use Rattle.filing.specs.Filings.{entryFrom, Over};
@@ -52,7 +53,7 @@ fn index_without(state: &[u8], n: usize, i: usize, key: NodeAddr) -> usize
 
 // A weight with a row's added: a main row's counts.
 fn weight_with(stored: u64, weight: u8, place: u8) -> u64
-    requires { ⌜ stored ≤ 32768 ⌝ }
+    requires { ⌜ stored ≤ maxRows * weightLimit ⌝ }
     ensures { λ r. ⌜ r ≡ stored + cond (ltb place probation) weight 0 ⌝ }
 {
     if place < PROBATION {
@@ -64,7 +65,7 @@ fn weight_with(stored: u64, weight: u8, place: u8) -> u64
 
 // The weight that is stored once a row is there.
 fn stored_with(state: &[u8], weight: u8, place: u8) -> u64
-    requires { ⌜ (headSize ≤ length (now state)) × (viewRows 0 (now state) .storedWeight ≤ 32768) ⌝ }
+    requires { ⌜ (headSize ≤ length (now state)) × (viewRows 0 (now state) .storedWeight ≤ maxRows * weightLimit) ⌝ }
     ensures { λ r. ⌜ r ≡ viewRows 0 (now (state .entry)) .storedWeight + cond (ltb place probation) weight 0 ⌝ }
 {
     weight_with(head::stored_weight(state), weight, place)
@@ -145,12 +146,12 @@ pub fn file_over(
 }
 
 // Row i's bytes, to go back with.
-pub fn save_row(state: &[u8], n: usize, i: usize) -> [u8; 1095]
+pub fn save_row(state: &[u8], n: usize, i: usize) -> [u8; ROW]
     requires { ⌜ (i < n) × (headSize + n * rowSize ≤ length (now state)) ⌝ }
     ensures { λ r. ⌜ r ≡ cut (headSize + i * rowSize) rowSize (now (state .entry)) ⌝ }
 {
     let at = HEAD + i * ROW;
-    let mut row = [0u8; 1095];
+    let mut row = [0u8; ROW];
     let mut k = 0;
     while k < ROW {
         row[k] = state[at + k];
@@ -160,7 +161,7 @@ pub fn save_row(state: &[u8], n: usize, i: usize) -> [u8; 1095]
 }
 
 // A saved row goes back as it was, but as ByUse and under the stamp (last_used, seq + 1).
-pub fn file_again(state: &mut [u8], n: usize, key: NodeAddr, row: [u8; 1095])
+pub fn file_again(state: &mut [u8], n: usize, key: NodeAddr, row: [u8; ROW])
     requires { ⌜ (sound (capacity (now state)) (viewRows n (now state)) ≡ true) × (n < capacity (now state)) × (find key (viewRows n (now state) .rows) ≡ none) × (viewRows n (now state) .seq < 18446744073709551615) × (rowOf row .key ≡ key) ⌝ }
     ensures { λ _. ⌜ viewRows (n + 1) (now (state .exit)) ≡ fileNew key (rowOf row .entry) (rowOf row .weight) byUse (viewRows n (now (state .entry))) ⌝ }
 {

@@ -7,11 +7,12 @@ ghost use mathlib.Core.Path.{_≡_};
 ghost use Prim.Native.Nat.{_+_, _*_, _≤_, _<_};
 ghost use lib.ListN.{length};
 ghost use Rattle.types.specs.Paths.{pathPlaces};
-ghost use Rattle.rules.specs.Rows.{rowSize, rowAt};
+ghost use Rattle.rules.specs.Rows.{rowAt};
 ghost use Rattle.rules.specs.Entries.{update};
 ghost use Rattle.rules.specs.Lookups.{rewrite};
 ghost use Rattle.rules.specs.Room.{refile};
-ghost use Rattle.rules.specs.Memory.{headSize, viewRows};
+ghost use Rattle.rules.specs.Memory.{viewRows};
+ghost use Rattle.rules.specs.Layout.{headSize, rowSize};
 
 // Row i's entry is updated.
 fn update_at(state: &mut [u8], n: usize, i: usize, path: Path, time: u64, ttl: u64)

@@ -1,4 +1,5 @@
 // The calls by 01's codes. A path of `len` elements stands at ROOT; one that is stated starts at the key.
+use raw::layout::ELEMENT;
 use types::answers::DemoteAnswer;
 use types::answers::HintAnswer;
 use types::answers::TouchAnswer;
@@ -95,7 +96,7 @@ fn write(memory: &mut [u8], code: u64, key: u64, len: u64, time: u64, more: u64)
     }
 }
 
-// Found where the part has an element, of 32 bytes each.
+// Found where the part has an element, of ELEMENT bytes each.
 fn looked(number: u8, bytes: usize) -> Reply {
     if number != 0 {
         return refused(number);
@@ -103,7 +104,7 @@ fn looked(number: u8, bytes: usize) -> Reply {
     if bytes == 0 {
         return says(0, 0, 0, 0, 0);
     }
-    says(1, (bytes / 32) as u64, 0, 0, 0)
+    says(1, (bytes / ELEMENT) as u64, 0, 0, 0)
 }
 
 fn get(memory: &[u8], key: u64, time: u64) -> Reply {

@@ -1,4 +1,7 @@
 // One line a call: the list, the reply, and the head's rows held, seq and stored weight.
+use raw::layout;
+use raw::layout::HEAD;
+use raw::layout::ROW;
 use types::reply::Reply;
 
 fn number(n: u64) {
@@ -21,10 +24,10 @@ fn values(v: [u64; 5]) {
 }
 
 fn head(memory: &[u8]) {
-    if 40 <= memory.len() {
-        number(raw::numbers::read_u64(memory, 32));
-        number(raw::numbers::read_u64(memory, 16));
-        last(raw::numbers::read_u64(memory, 24));
+    if HEAD <= memory.len() {
+        number(raw::numbers::read_u64(memory, layout::ROW_COUNT));
+        number(raw::numbers::read_u64(memory, layout::SEQ));
+        last(raw::numbers::read_u64(memory, layout::STORED_WEIGHT));
     }
 }
 
@@ -38,14 +41,14 @@ pub fn line(memory: &[u8], list: u64, reply: Reply) {
 
 // Row 0's created_at, last_used, expires_at, MTU mark and value, source, verified_until.
 pub fn row(memory: &[u8]) {
-    if 1117 <= memory.len() {
+    if HEAD + ROW <= memory.len() {
         io::write_all(1, b"row ");
-        number(raw::numbers::read_u64(memory, 1081));
-        number(raw::numbers::read_u64(memory, 1089));
-        number(raw::numbers::read_u64(memory, 1097));
-        number(raw::numbers::wide(memory[1105]));
-        number(raw::numbers::read_u16(memory, 1106) as u64);
-        number(raw::numbers::wide(memory[1108]));
-        last(raw::numbers::read_u64(memory, 1109));
+        number(raw::numbers::read_u64(memory, HEAD + layout::CREATED_AT));
+        number(raw::numbers::read_u64(memory, HEAD + layout::LAST_USED));
+        number(raw::numbers::read_u64(memory, HEAD + layout::EXPIRES_AT));
+        number(raw::numbers::wide(memory[HEAD + layout::MTU_MARK]));
+        number(raw::numbers::read_u16(memory, HEAD + layout::MTU) as u64);
+        number(raw::numbers::wide(memory[HEAD + layout::SOURCE]));
+        last(raw::numbers::read_u64(memory, HEAD + layout::VERIFIED_UNTIL));
     }
 }

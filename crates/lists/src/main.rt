@@ -4,23 +4,35 @@ mod calls;
 mod lines;
 mod scan;
 
+use raw::layout::HEAD;
+use raw::layout::ROW;
 use scan::Scan;
+use state::head::MAX_ROWS;
 use types::reply::Reply;
 ghost use mathlib.Core.Path.{_≡_};
 ghost use lib.ListN.{length};
+ghost use Rattle.rules.specs.Commands.{coordrunRows};
+ghost use Rattle.rules.specs.Records.{maxRows};
+ghost use Rattle.rules.specs.Layout.{memorySize};
 
-// 24 rows.
-fn short_memory() -> [u8; 26320]
-    ensures { λ r. ⌜ 26320 ≡ length r ⌝ }
+const FEW: usize = 24;
+
+const MOST: usize = MAX_ROWS as usize;
+
+const SHORT: usize = HEAD + FEW * ROW;
+
+const LONG: usize = HEAD + MOST * ROW;
+
+fn short_memory() -> [u8; SHORT]
+    ensures { λ r. ⌜ (memorySize coordrunRows) ≡ length r ⌝ }
 {
-    [0; 26320]
+    [0; SHORT]
 }
 
-// 1,024 rows.
-fn long_memory() -> [u8; 1121320]
-    ensures { λ r. ⌜ 1121320 ≡ length r ⌝ }
+fn long_memory() -> [u8; LONG]
+    ensures { λ r. ⌜ (memorySize maxRows) ≡ length r ⌝ }
 {
-    [0; 1121320]
+    [0; LONG]
 }
 
 fn call_on(memory: &mut [u8], v: [u64; 7], key: u64) -> Reply {
@@ -92,12 +104,12 @@ fn run(text: &[u8], memory: &mut [u8], rows: u64) {
 
 fn on_24_rows(text: &[u8]) {
     let mut memory = short_memory();
-    run(text, &mut memory, 24);
+    run(text, &mut memory, FEW as u64);
 }
 
 fn on_1024_rows(text: &[u8]) {
     let mut memory = long_memory();
-    run(text, &mut memory, 1024);
+    run(text, &mut memory, MAX_ROWS);
 }
 
 fn main() {

@@ -23,6 +23,8 @@ use Rattle.rules.proofs.RowLists.{every-at}
 use Rattle.rules.proofs.Public.{SoundMemory}
 use Rattle.rules.proofs.SoundKept.{step-sound}
 use Rattle.rules.proofs.LentMemory.{capacity-same, lent-request}
+use Rattle.rules.specs.Layout.{coordEntrySize, headSize, placesInRow, rowSize}
+use Rattle.types.specs.Paths.{pathPlaces}
 use Rattle.refusals.proofs.Asking.{read-answer, read-memory}
 use Rattle.refusals.proofs.Frame.{not-refused}
 use Rattle.lookups.specs.Steps.{StandsAt, placeFound}
@@ -56,7 +58,7 @@ got-held l n k time i p h s f x v =
     let g : expired time (rowAt i (view l .rows) .entry) ≡ false = subst (λ (y : State). expired time (rowAt i (y .rows) .entry) ≡ false) (s .same) x in
     v ∙ ap (λ (y : State). pathPart i (rowAt i (y .rows) .entry .path .len) l) (s .same) ∙ sym (got-found l k time h ∙ rw (e, g))
 
-pub path-short : (l : List ℕ) (n i : ℕ) → SoundMemory l n → i < n → rowAt i (viewRows n l .rows) .entry .path .len ≤ 32
+pub path-short : (l : List ℕ) (n i : ℕ) → SoundMemory l n → i < n → rowAt i (viewRows n l .rows) .entry .path .len ≤ pathPlaces
 path-short l n i s j = every-at (RowOk (viewRows n l .seq)) i (viewRows n l .rows) (omega (arith, s .rows)) (s .sound .each) .short
 
 -- ---- the row that is found
@@ -93,7 +95,7 @@ pub expired-stands : (l : List ℕ) (n : ℕ) (k : NodeAddr) (time i : ℕ) (r :
 expired-stands l n k time i r h s f x e = nothing-stands l k time r e (got-expired l n k time i h s f x) (row-expired l n k time s i f x)
 
 pub path-stands : (l : List ℕ) (n : ℕ) (k : NodeAddr) (time i : ℕ) (r : PathPlace) → sound (capacity l) (view l) ≡ true → SoundMemory l n → i < n → find k (viewRows n l .rows) ≡ some i → expired time (rowAt i (viewRows n l .rows) .entry) ≡ false
-    → r ≡ record { at = 40 + i * 1095 + 17; bytes = rowAt i (viewRows n l .rows) .entry .path .len * 32 } → StandsAt k time l (r .at) (r .bytes)
+    → r ≡ record { at = headSize + i * rowSize + placesInRow; bytes = rowAt i (viewRows n l .rows) .entry .path .len * coordEntrySize } → StandsAt k time l (r .at) (r .bytes)
 unfolding pathPart placeFound
 path-stands l n k time i r h s j f x e =
     let b = path-short l n i s j in

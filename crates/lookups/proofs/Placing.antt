@@ -24,6 +24,7 @@ use Rattle.rules.proofs.Others.{takeOut-gone}
 use Rattle.rules.proofs.Sizes.{small8-less}
 use Rattle.rules.proofs.Public.{SoundMemory, sound-memory}
 use Rattle.rules.proofs.GotPart.{RefreshedRow, refreshed-row, find-gone}
+use Rattle.rules.specs.Layout.{coordEntrySize, headSize, placesInRow, rowSize}
 use Rattle.memory.proofs.RowLaws.{view-length}
 use Rattle.entries.specs.declared.path.PathPlace.{PathPlace}
 use Rattle.refusals.proofs.Frame.{rewritten-length}
@@ -33,11 +34,11 @@ use Rattle.lookups.proofs.Touching.{touch-done-at, touch-done-absent}
 
 -- ---- row i
 
-pub placed : (i time : ℕ) (s : State) (a : TouchAnswer) (p : PathPlace) → a ≡ touchSays i time s → finds a ≡ true → p ≡ record { at = 40 + i * 1095 + 17; bytes = rowAt i (s .rows) .entry .path .len * 32 } → p ≡ touchedPlace i time s
+pub placed : (i time : ℕ) (s : State) (a : TouchAnswer) (p : PathPlace) → a ≡ touchSays i time s → finds a ≡ true → p ≡ record { at = headSize + i * rowSize + placesInRow; bytes = rowAt i (s .rows) .entry .path .len * coordEntrySize } → p ≡ touchedPlace i time s
 unfolding touchSays touchedPlace finds
 placed i time s a p e f g = go (expired time (rowAt i (s .rows) .entry)) e
   where
-    go : (b : Bool) → a ≡ cond b TouchAnswer.Absent (TouchAnswer.Found (rowAt i (s .rows) .entry .path .len)) → p ≡ cond b (record { at = 0; bytes = 0 }) (record { at = 40 + i * 1095 + 17; bytes = rowAt i (s .rows) .entry .path .len * 32 })
+    go : (b : Bool) → a ≡ cond b TouchAnswer.Absent (TouchAnswer.Found (rowAt i (s .rows) .entry .path .len)) → p ≡ cond b (record { at = 0; bytes = 0 }) (record { at = headSize + i * rowSize + placesInRow; bytes = rowAt i (s .rows) .entry .path .len * coordEntrySize })
     go true h = contradiction f (ap finds h)
     go false h = g
 
@@ -45,7 +46,7 @@ pub unplaced : (i time : ℕ) (s : State) (a : TouchAnswer) (p : PathPlace) → 
 unfolding touchSays touchedPlace finds
 unplaced i time s a p e f g = go (expired time (rowAt i (s .rows) .entry)) e
   where
-    go : (b : Bool) → a ≡ cond b TouchAnswer.Absent (TouchAnswer.Found (rowAt i (s .rows) .entry .path .len)) → p ≡ cond b (record { at = 0; bytes = 0 }) (record { at = 40 + i * 1095 + 17; bytes = rowAt i (s .rows) .entry .path .len * 32 })
+    go : (b : Bool) → a ≡ cond b TouchAnswer.Absent (TouchAnswer.Found (rowAt i (s .rows) .entry .path .len)) → p ≡ cond b (record { at = 0; bytes = 0 }) (record { at = headSize + i * rowSize + placesInRow; bytes = rowAt i (s .rows) .entry .path .len * coordEntrySize })
     go true h = g
     go false h = contradiction (ap finds h) f
 
@@ -57,11 +58,11 @@ count-kept n l m i time v = ap (λ (x : State). x .rowCount) v
 
 -- a row that stays: its path stands where it stood
 kept-stands : (l : List ℕ) (n : ℕ) (k : NodeAddr) (time i : ℕ) (m : List ℕ) (r : PathPlace) → SoundMemory l n → i < n → find k (viewRows n l .rows) ≡ some i → time ≤ lastTime → sound (capacity m) (view m) ≡ true
-    → viewRows n m ≡ rewrite (refresh time (viewRows n l .defaultTtl)) i (viewRows n l) → r ≡ record { at = 40 + i * 1095 + 17; bytes = rowAt i (viewRows n l .rows) .entry .path .len * 32 } → StandsAt k time m (r .at) (r .bytes)
+    → viewRows n m ≡ rewrite (refresh time (viewRows n l .defaultTtl)) i (viewRows n l) → r ≡ record { at = headSize + i * rowSize + placesInRow; bytes = rowAt i (viewRows n l .rows) .entry .path .len * coordEntrySize } → StandsAt k time m (r .at) (r .bytes)
 kept-stands l n k time i m r s j f t h v e =
     let d : RefreshedRow k time i (viewRows n l) (viewRows n m) = subst (RefreshedRow k time i (viewRows n l)) (sym v) (refreshed-row k time (viewRows n l) i t f (omega (arith, s .rows))) in
     let c : n ≡ viewRows 0 m .rowCount = sym (count-kept n l m i time v ∙ s .sound .counted ∙ s .rows) in
-    path-stands m n k time i r h (sound-memory m n h c) j (d .held) (d .unexpired) (e ∙ ap (λ (p : Path). record { at = 40 + i * 1095 + 17; bytes = p .len * 32 }) (sym (d .path)))
+    path-stands m n k time i r h (sound-memory m n h c) j (d .held) (d .unexpired) (e ∙ ap (λ (p : Path). record { at = headSize + i * rowSize + placesInRow; bytes = p .len * coordEntrySize }) (sym (d .path)))
 
 -- what touch_place tells
 abbrev pub Placed : List ℕ → NodeAddr → ℕ → PathPlace → List ℕ → Type 0

@@ -9,7 +9,7 @@ use lib.ListN.{length, drop}
 use lib.Seq.{length-take-le}
 use Rattle.types.specs.declared.node_addr.NodeAddr.{NodeAddr}
 use Rattle.types.specs.declared.coord.CoordEntry.{CoordEntry}
-use Rattle.types.specs.Paths.{elements}
+use Rattle.types.specs.Paths.{elements, pathPlaces}
 use Rattle.types.specs.declared.answers.TouchAnswer.{TouchAnswer}
 use Rattle.rules.specs.Cases.{maybe}
 use Rattle.rules.specs.Records.{Row, State}
@@ -92,7 +92,7 @@ pub touch-done-at : (l : List ℕ) (n : ℕ) (k : NodeAddr) (time i : ℕ) (r : 
     → r ≡ touchSays i time (viewRows n l) → viewRows (length (touchedAt i time (viewRows n l) .rows)) m ≡ touchedAt i time (viewRows n l) → Told l k time r m
 touch-done-at l n k time i r m h s j f b z a v =
     let p = touch-state k time (viewRows n l) i f in
-    let o : rowAt i (viewRows n l .rows) .entry .path .len ≤ 32 = every-at (RowOk (viewRows n l .seq)) i (viewRows n l .rows) (omega (arith, s .rows)) (s .sound .each) .short in
+    let o : rowAt i (viewRows n l .rows) .entry .path .len ≤ pathPlaces = every-at (RowOk (viewRows n l .seq)) i (viewRows n l .rows) (omega (arith, s .rows)) (s .sound .each) .short in
     let d = done-with l n (GetAndTouch k time) m (length (touchedAt i time (viewRows n l) .rows)) s (touch-allowed l k time h) b z (ap (λ (x : State). length (x .rows)) p) (v ∙ sym p) in
     told l k time r m (a ∙ sym (ap touchAnswer (d .answer) ∙ ap (λ (x : State). touchAnswer (perform x (GetAndTouch k time) .answer)) (sym (s .same)) ∙ touch-says k time (viewRows n l) i f (elements-length n i l j o))) (sym (d .memory))
 

@@ -8,13 +8,14 @@ use Rattle.types.specs.declared.node_addr.NodeAddr.{NodeAddr}
 use Rattle.types.specs.declared.answers.TouchAnswer.{TouchAnswer}
 use Rattle.rules.specs.Cases.{maybe}
 use Rattle.rules.specs.Records.{State}
-use Rattle.rules.specs.Rows.{rowAt, rowSize}
+use Rattle.rules.specs.Rows.{rowAt}
 use Rattle.rules.specs.Entries.{expired, refresh}
 use Rattle.rules.specs.Room.{takeOut}
 use Rattle.rules.specs.Lookups.{rewrite, unexpiredRow}
-use Rattle.rules.specs.Memory.{headSize, entryOffset, placesOffset, coordEntrySize, cut, view}
+use Rattle.rules.specs.Memory.{cut, view}
 use Rattle.entries.specs.declared.path.PathPlace.{PathPlace}
 use Rattle.rules.specs.Lent.{gotPart}
+use Rattle.rules.specs.Layout.{coordEntrySize, entryOffset, headSize, placesOffset, rowSize}
 
 -- get_and_touch, where the key's row is row i
 unfoldable pub touchedAt : ℕ → ℕ → State → State

@@ -12,12 +12,12 @@ ghost use mathlib.Core.Path.{_≡_};
 ghost use mathlib.Core.Bool.{true};
 ghost use Prim.Native.Nat.{_+_, _*_, _-_, _≤_, _<_};
 ghost use lib.ListN.{length};
-ghost use Rattle.rules.specs.Rows.{rowSize};
 ghost use Rattle.rules.specs.Sound.{sound};
 ghost use Rattle.rules.specs.Calls.{ClearPathMtu, Demote, Remove};
 ghost use Rattle.rules.specs.Answers.{refusalOf, demoteSaid, blankEntry, removalSaid, entryGiven};
-ghost use Rattle.rules.specs.Memory.{headSize, capacity, viewRows, view};
+ghost use Rattle.rules.specs.Memory.{capacity, viewRows, view};
 ghost use Rattle.rules.specs.Lent.{call};
+ghost use Rattle.rules.specs.Layout.{headSize, rowSize};
 ghost use Rattle.lookups.specs.KeyedSteps.{demotedAt};
 
 pub fn clear_path_mtu_unchecked(state: &mut [u8], key: NodeAddr) -> u8

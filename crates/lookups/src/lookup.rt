@@ -7,15 +7,16 @@ ghost use mathlib.Core.Path.{_≡_};
 ghost use mathlib.Core.Bool.{true};
 ghost use Prim.Native.Nat.{_+_, _*_, _-_, _≤_, _<_};
 ghost use lib.ListN.{length};
-ghost use Rattle.rules.specs.Rows.{rowSize, mainWeight};
+ghost use Rattle.rules.specs.Rows.{mainWeight};
 ghost use Rattle.rules.specs.Sound.{sound};
 ghost use Rattle.rules.specs.Entries.{refresh};
 ghost use Rattle.rules.specs.Lookups.{rewrite};
 ghost use Rattle.rules.specs.Calls.{GetAndTouch, Get};
 ghost use Rattle.rules.specs.Answers.{refusalOf, touchAnswer, touchReply};
-ghost use Rattle.rules.specs.Memory.{headSize, capacity, viewRows, view};
+ghost use Rattle.rules.specs.Memory.{capacity, viewRows, view};
 ghost use Rattle.rules.specs.Commands.{reply};
 ghost use Rattle.rules.specs.Lent.{call, gotPart};
+ghost use Rattle.rules.specs.Layout.{headSize, rowSize};
 ghost use Rattle.lookups.specs.Steps.{touchedAt, touchSays, touchedPlace, StandsAt};
 
 // Row i is refreshed: last_used and expires_at are set.

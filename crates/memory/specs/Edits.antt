@@ -4,8 +4,9 @@ use mathlib.Core.Path.{_≡_}
 use mathlib.Core.List.{List, _++_}
 use lib.ListN.{length, take, drop}
 use Rattle.rules.specs.Records.{Entry, Row, State}
-use Rattle.rules.specs.Rows.{rowSize, zeroRows}
-use Rattle.rules.specs.Memory.{headSize, viewRows}
+use Rattle.rules.specs.Rows.{zeroRows}
+use Rattle.rules.specs.Memory.{viewRows}
+use Rattle.rules.specs.Layout.{headSize, rowSize}
 
 unfoldable pub withSeq : ℕ → State → State
 withSeq v s = record { maxEntries = s .maxEntries; defaultTtl = s .defaultTtl; seq = v; storedWeight = s .storedWeight; rowCount = s .rowCount; rows = s .rows; rest = s .rest }

@@ -1,13 +1,13 @@
 // The head's five numbers, and R.
+use raw::layout;
+use raw::layout::HEAD;
+use raw::layout::ROW;
 ghost use mathlib.Core.Path.{_≡_};
 ghost use Prim.Native.Nat.{_+_, _≤_, _<_};
 ghost use lib.ListN.{length};
-ghost use Rattle.rules.specs.Memory.{headSize, capacity, viewRows};
+ghost use Rattle.rules.specs.Memory.{capacity, viewRows};
+ghost use Rattle.rules.specs.Layout.{headSize};
 ghost use Rattle.memory.specs.Edits.{withSeq, withStoredWeight, withRowCount};
-
-pub const HEAD: usize = 40;
-
-pub const ROW: usize = 1095;
 
 // R: the rows that fit whole; 0 where the head doesn't fit.
 pub fn rows_that_fit(state: &[u8]) -> usize
@@ -23,35 +23,35 @@ pub fn max_entries(state: &[u8]) -> u64
     requires { ⌜ headSize ≤ length (now state) ⌝ }
     ensures { λ r. ⌜ r ≡ viewRows 0 (now (state .entry)) .maxEntries ⌝ }
 {
-    raw::numbers::read_u64(state, 0)
+    raw::numbers::read_u64(state, layout::MAX_ENTRIES)
 }
 
 pub fn default_ttl(state: &[u8]) -> u64
     requires { ⌜ headSize ≤ length (now state) ⌝ }
     ensures { λ r. ⌜ r ≡ viewRows 0 (now (state .entry)) .defaultTtl ⌝ }
 {
-    raw::numbers::read_u64(state, 8)
+    raw::numbers::read_u64(state, layout::DEFAULT_TTL)
 }
 
 pub fn seq(state: &[u8]) -> u64
     requires { ⌜ headSize ≤ length (now state) ⌝ }
     ensures { λ r. ⌜ r ≡ viewRows 0 (now (state .entry)) .seq ⌝ }
 {
-    raw::numbers::read_u64(state, 16)
+    raw::numbers::read_u64(state, layout::SEQ)
 }
 
 pub fn stored_weight(state: &[u8]) -> u64
     requires { ⌜ headSize ≤ length (now state) ⌝ }
     ensures { λ r. ⌜ r ≡ viewRows 0 (now (state .entry)) .storedWeight ⌝ }
 {
-    raw::numbers::read_u64(state, 24)
+    raw::numbers::read_u64(state, layout::STORED_WEIGHT)
 }
 
 pub fn row_count(state: &[u8]) -> u64
     requires { ⌜ headSize ≤ length (now state) ⌝ }
     ensures { λ r. ⌜ r ≡ viewRows 0 (now (state .entry)) .rowCount ⌝ }
 {
-    raw::numbers::read_u64(state, 32)
+    raw::numbers::read_u64(state, layout::ROW_COUNT)
 }
 
 // Head numbers are set one at a time; n is any number of rows.
@@ -59,7 +59,7 @@ pub fn set_seq(state: &mut [u8], n: usize, v: u64)
     requires { ⌜ headSize ≤ length (now state) ⌝ }
     ensures { λ _. ⌜ viewRows n (now (state .exit)) ≡ withSeq v (viewRows n (now (state .entry))) ⌝ }
 {
-    raw::numbers::write_u64(state, 16, v);
+    raw::numbers::write_u64(state, layout::SEQ, v);
 }
 
 // seq, raised by 1, for a new stamp.
@@ -76,12 +76,12 @@ pub fn set_stored_weight(state: &mut [u8], n: usize, v: u64)
     requires { ⌜ headSize ≤ length (now state) ⌝ }
     ensures { λ _. ⌜ viewRows n (now (state .exit)) ≡ withStoredWeight v (viewRows n (now (state .entry))) ⌝ }
 {
-    raw::numbers::write_u64(state, 24, v);
+    raw::numbers::write_u64(state, layout::STORED_WEIGHT, v);
 }
 
 pub fn set_row_count(state: &mut [u8], n: usize, v: u64)
     requires { ⌜ headSize ≤ length (now state) ⌝ }
     ensures { λ _. ⌜ viewRows n (now (state .exit)) ≡ withRowCount v (viewRows n (now (state .entry))) ⌝ }
 {
-    raw::numbers::write_u64(state, 32, v);
+    raw::numbers::write_u64(state, layout::ROW_COUNT, v);
 }

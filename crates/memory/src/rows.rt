@@ -1,16 +1,17 @@
 // Whole rows: taken out, kept together, zeroed.
 use crate::head;
-use crate::head::HEAD;
-use crate::head::ROW;
 use crate::row;
+use raw::layout::HEAD;
+use raw::layout::ROW;
 ghost use mathlib.Core.Path.{_≡_};
 ghost use Prim.Native.Nat.{_+_, _*_, _-_, _≤_, _<_};
 ghost use lib.ListN.{length, drop};
 ghost use lib.Seq.{sets};
-ghost use Rattle.rules.specs.Rows.{rowSize, inMain, weighRows, withoutRow, mainWeight};
+ghost use Rattle.rules.specs.Rows.{inMain, weighRows, withoutRow, mainWeight};
 ghost use Rattle.rules.specs.Room.{takeOut};
 ghost use Rattle.rules.specs.Refusals.{fresh};
-ghost use Rattle.rules.specs.Memory.{headSize, cut, viewRows};
+ghost use Rattle.rules.specs.Memory.{cut, viewRows};
+ghost use Rattle.rules.specs.Layout.{headSize, rowSize};
 ghost use Rattle.memory.specs.Edits.{OnlyRows, shrunk};
 
 // The first j of n rows stay; the others become zero.
@@ -75,5 +76,5 @@ pub fn make_fresh(state: &mut [u8], rows: usize, max: u64, ttl: u64)
 {
     raw::moves::fill_zero(state, 0, HEAD + rows * ROW);
     raw::numbers::write_u64(state, 0, max);
-    raw::numbers::write_u64(state, 8, ttl);
+    raw::numbers::write_u64(state, raw::layout::DEFAULT_TTL, ttl);
 }

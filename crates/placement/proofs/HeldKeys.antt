@@ -10,7 +10,7 @@ use lib.Dec.{leb}
 use borrow.Author.Tests.{lt-ltb, le-ltb, le-leb, lt-leb, eq-eqb, ltb-false}
 use Rattle.types.specs.declared.node_addr.NodeAddr.{NodeAddr}
 use Rattle.types.specs.declared.coord.Path.{Path}
-use Rattle.types.specs.Paths.{pathWeight, samePath}
+use Rattle.types.specs.Paths.{pathWeight, samePath, pathPlaces}
 use Rattle.types.specs.declared.placed.Funding.{Funding}
 use Rattle.types.specs.declared.placed.Segment.{Segment}
 use Rattle.types.specs.declared.placed.Segment.the-variants.{Main, Probation}
@@ -32,6 +32,7 @@ use Rattle.rules.proofs.LentMemory.{capacity-same}
 use Rattle.rules.proofs.Walks.{Roomed, room-roomed}
 use Rattle.rules.proofs.Moves.{ready, takeOut-sound}
 use Rattle.rules.proofs.Others.{takeOut-gone, takeOut-seq, takeOut-max, takeOut-main}
+use Rattle.rules.specs.Layout.{headSize, rowSize}
 use Rattle.memory.proofs.RowLaws.{view-length}
 use Rattle.memory.proofs.Fields.{row-at}
 use Rattle.stamps.specs.declared.answers.Lowest.the-variants.{Nothing}
@@ -48,14 +49,14 @@ use Rattle.placement.proofs.NewKeys.{filed-as, left-as-is}
 
 -- ---- a row that is there
 
-pub row-there : (k : NodeAddr) (n i : ℕ) (l : List ℕ) → Holds k n i l → (i < n) × (40 + n * 1095 ≤ length l)
+pub row-there : (k : NodeAddr) (n i : ℕ) (l : List ℕ) → Holds k n i l → (i < n) × (headSize + n * rowSize ≤ length l)
 row-there k n i l h = (h .inside, laid-out n l (h .sound))
 
-pub out-asks : (k : NodeAddr) (n i : ℕ) (l : List ℕ) → Holds k n i l → (i < n) × (40 + n * 1095 ≤ length l) × (viewRows n l .storedWeight ≡ mainWeight (viewRows n l))
+pub out-asks : (k : NodeAddr) (n i : ℕ) (l : List ℕ) → Holds k n i l → (i < n) × (headSize + n * rowSize ≤ length l) × (viewRows n l .storedWeight ≡ mainWeight (viewRows n l))
 out-asks k n i l h = (h .inside, laid-out n l (h .sound), shown n l (h .sound) .storedWeight)
 
 pub refile-asks : (n i : ℕ) (l : List ℕ) (p : Path) → sound (capacity l) (viewRows n l) ≡ true → i < n → Writable p → viewRows n l .seq ≤ 18446744073709547519
-    → (i < n) × (40 + n * 1095 ≤ length l) × (viewRows n l .seq < 18446744073709551615) × (p .len ≤ 32)
+    → (i < n) × (headSize + n * rowSize ≤ length l) × (viewRows n l .seq < 18446744073709551615) × (p .len ≤ pathPlaces)
 refile-asks n i l p h j w q = (j, laid-out n l h, omega arith, w .short)
 
 -- ---- the outcome
@@ -121,10 +122,10 @@ module _ (k : NodeAddr) (n i : ℕ) (l m : List ℕ) (ho : Holds k n i l) (z : l
         free-in-probation (r .rows) x (still-without k (n - 1) m x time w r out-without so u .sound) (rw (free-state k (n - 1) m x time w r out-without so u, max-kept) (omega (arith, made .probations, a, s .probations)))
 
     -- what filing asks, for one that was in probation
-    pub promote-asks : (e : NewEntry) (p : Path) → inMain (rowAt i (viewRows n l .rows)) ≡ false → viewRows n l .seq ≤ 18446744073709547519 → Writable p → e .path ≡ p → Takes k (r .victim) (r .stored) (r .rows) x × (e .path .len ≤ 32)
+    pub promote-asks : (e : NewEntry) (p : Path) → inMain (rowAt i (viewRows n l .rows)) ≡ false → viewRows n l .seq ≤ 18446744073709547519 → Writable p → e .path ≡ p → Takes k (r .victim) (r .stored) (r .rows) x × (e .path .len ≤ pathPlaces)
     promote-asks e p f q wr pe = (takes k (n - 1) m x time w r out-without so (freed-in-probation f) (out-seq q), rw pe (wr .short))
 
-    pub grow-asks : (e : NewEntry) (p : Path) → inMain (rowAt i (viewRows n l .rows)) ≡ true → viewRows n l .seq ≤ 18446744073709547519 → Writable p → e .path ≡ p → Takes k (r .victim) (r .stored) (r .rows) x × (e .path .len ≤ 32)
+    pub grow-asks : (e : NewEntry) (p : Path) → inMain (rowAt i (viewRows n l .rows)) ≡ true → viewRows n l .seq ≤ 18446744073709547519 → Writable p → e .path ≡ p → Takes k (r .victim) (r .stored) (r .rows) x × (e .path .len ≤ pathPlaces)
     grow-asks e p f q wr pe = (takes k (n - 1) m x time w r out-without so (freed-in-main f) (out-seq q), rw pe (wr .short))
 
     -- nothing was made, and no victim left
@@ -135,7 +136,7 @@ module _ (k : NodeAddr) (n i : ℕ) (l m : List ℕ) (ho : Holds k n i l) (z : l
         go true e = contradiction (rw e) h
         go false e = e
 
-    pub back-asks : (row : List ℕ) (stated : Bool) → row ≡ cut (40 + i * 1095) 1095 l → r .made || stated ≡ false → inMain (rowAt i (viewRows n l .rows)) ≡ true → viewRows n l .seq ≤ 18446744073709547519
+    pub back-asks : (row : List ℕ) (stated : Bool) → row ≡ cut (headSize + i * rowSize) rowSize l → r .made || stated ≡ false → inMain (rowAt i (viewRows n l .rows)) ≡ true → viewRows n l .seq ≤ 18446744073709547519
         → (sound (capacity x) (viewRows (r .rows) x) ≡ true) × (r .rows < capacity x) × (find k (viewRows (r .rows) x .rows) ≡ none) × (viewRows (r .rows) x .seq < 18446744073709551615) × (rowOf row .key ≡ k)
     back-asks row stated c u f q =
         let t = takes k (n - 1) m x time w r out-without so (freed-in-main f) (out-seq q) in
@@ -169,7 +170,7 @@ module _ (k : NodeAddr) (n i : ℕ) (l m : List ℕ) (ho : Holds k n i l) (z : l
     grown-is p ttl u a stated o e y wu au oh eu h f = rw (← (sought-there u wu), h)
         (record { says = rw (au, oh); state = filed-as k (update p time ttl (rowAt i (viewRows n l .rows) .entry)) (entryFrom e) u u 0 left left y refl eu refl f })
 
-    pub goes-back : (p : Path) (ttl u : ℕ) (stated : Bool) (row y : List ℕ) (d : Placed) → w ≡ u → row ≡ cut (40 + i * 1095) 1095 l → r .made || stated ≡ false → viewRows (r .rows + 1) y ≡ fileNew k (rowOf row .entry) (rowOf row .weight) 0 (viewRows (r .rows) x)
+    pub goes-back : (p : Path) (ttl u : ℕ) (stated : Bool) (row y : List ℕ) (d : Placed) → w ≡ u → row ≡ cut (headSize + i * rowSize) rowSize l → r .made || stated ≡ false → viewRows (r .rows + 1) y ≡ fileNew k (rowOf row .entry) (rowOf row .weight) 0 (viewRows (r .rows) x)
         → d ≡ rejectedAs false (r .examined) → Placing (grow k p time ttl stated u i (viewRows n l)) d y
     unfolding grow rejected placeResult roomOf left
     goes-back p ttl u stated row y d wu rc h f ds =

@@ -7,14 +7,14 @@ use mathlib.Core.Bool.{Bool, true, false}
 use lib.ListN.{length}
 use Rattle.types.specs.declared.node_addr.NodeAddr.{NodeAddr}
 use Rattle.types.specs.declared.coord.Path.{Path}
-use Rattle.types.specs.Paths.{pathWeight}
+use Rattle.types.specs.Paths.{pathWeight, pathPlaces}
 use Rattle.types.specs.declared.placed.Funding.{Funding}
 use Rattle.types.specs.declared.placed.Funding.the-variants.{Upto, Uncharged}
 use Rattle.types.specs.declared.placed.Placed.{Placed}
 use Rattle.types.specs.Values.{covers}
 use Rattle.types.specs.declared.placed.Segment.the-variants.{Main, Probation}
 use Rattle.types.specs.declared.placed.HintOutcome.the-variants.{Inserted}
-use Rattle.rules.specs.Records.{Entry, State}
+use Rattle.rules.specs.Records.{Entry, State, maxRows, weightLimit}
 use Rattle.rules.specs.Rows.{total}
 use Rattle.rules.specs.Sound.{sound}
 use Rattle.rules.specs.Entries.{newEntry}
@@ -22,6 +22,7 @@ use Rattle.rules.specs.Room.{Walk, fileNew, makeRoom, makeProbationRoom, probat
 use Rattle.rules.specs.Placement.{placeResult, rejected, newInProbation, newWithoutRoom, placeNew}
 use Rattle.rules.specs.Memory.{capacity, viewRows}
 use Rattle.rules.proofs.Moves.{probation-evict}
+use Rattle.rules.specs.Layout.{headSize, rowSize}
 use Rattle.memory.proofs.RowLaws.{view-length}
 use Rattle.stamps.specs.Walked.{walkFrom}
 use Rattle.room.proofs.Sums.{probation-visits}
@@ -46,7 +47,7 @@ filed-as k e x w v p t s y a b c d = rw (← a, ← b, ← c) d
 -- ---- to probation
 
 pub probation-asks : (k : NodeAddr) (n : ℕ) (l : List ℕ) → Without k n l → StampsLeft n l
-    → (40 + n * 1095 ≤ length l) × (sound (capacity l) (viewRows n l) ≡ true) × (viewRows n l .seq + total probationVisits (viewRows n l .rows) < 18446744073709551616)
+    → (headSize + n * rowSize ≤ length l) × (sound (capacity l) (viewRows n l) ≡ true) × (viewRows n l .seq + total probationVisits (viewRows n l .rows) < 18446744073709551616)
 probation-asks k n l w q = (laid-out n l (w .sound), w .sound, omega arith)
 
 -- where the walk stopped
@@ -61,7 +62,7 @@ module _ (k : NodeAddr) (p : Path) (n : ℕ) (r : ProbationRoom) (l m : List ℕ
   room-examined : r .examined ≡ makeProbationRoom (viewRows n l) .examined
   room-examined = walked (withoutVictim (r .victim) (viewRows n m)) (r .examined) (makeProbationRoom (viewRows n l)) (v .0) .1
 
-  pub probation-few : r .examined ≤ 2048
+  pub probation-few : r .examined ≤ 2 * maxRows
   probation-few =
       let t = probation-evict (capacity l) (viewRows n l) (shown n l (wo .sound)) .evicted in
       omega (arith, room-examined, t .done, probation-visits (viewRows n l .rows), view-length n l, few n l (wo .sound))
@@ -74,7 +75,7 @@ module _ (k : NodeAddr) (p : Path) (n : ℕ) (r : ProbationRoom) (l m : List ℕ
       let h = reached-without k l m n (makeProbationRoom (viewRows n l) .state) (record { size = z; state = g }) (u .sound) (u .keeps (λ y. y .key ≡ k → ⊥) (without-gone k n l wo)) in
       (h, free-in-probation n m (h .sound) (rw g (t .few)))
 
-  pub probation-takes : (e : NewEntry) → Writable p → e .path ≡ p → Takes k (r .victim) (r .stored) n m × (e .path .len ≤ 32)
+  pub probation-takes : (e : NewEntry) → Writable p → e .path ≡ p → Takes k (r .victim) (r .stored) n m × (e .path .len ≤ pathPlaces)
   probation-takes e wr pe =
       let u = probation-evict (capacity l) (viewRows n l) (shown n l (wo .sound)) .evicted in (
         record {
@@ -96,13 +97,13 @@ module _ (k : NodeAddr) (p : Path) (n : ℕ) (r : ProbationRoom) (l m : List ℕ
 
 -- ---- weights
 
-pub light : (p : Path) → Writable p → pathWeight p ≤ 32
+pub light : (p : Path) → Writable p → pathWeight p ≤ weightLimit
 unfolding pathWeight
 light p w = omega (arith, w .short)
 
 -- ---- to main
 
-pub main-asks : (k : NodeAddr) (v : Lowest) (p : Path) (stored n : ℕ) (l : List ℕ) (e : NewEntry) → Takes k v stored n l → Writable p → e .path ≡ p → Takes k v stored n l × (e .path .len ≤ 32)
+pub main-asks : (k : NodeAddr) (v : Lowest) (p : Path) (stored n : ℕ) (l : List ℕ) (e : NewEntry) → Takes k v stored n l → Writable p → e .path ≡ p → Takes k v stored n l × (e .path .len ≤ pathPlaces)
 main-asks k v p stored n l e t w pe = (t, rw pe (w .short))
 
 pub in-main : (k : NodeAddr) (p : Path) (time ttl w v x : ℕ) (s : State) (y : List ℕ) (e : NewEntry) (d : Placed) → entryFrom e ≡ newEntry p time ttl → w ≡ pathWeight p → v ≡ w → viewRows (length (fileNew k (entryFrom e) w 0 s .rows)) y ≡ fileNew k (entryFrom e) w 0 s → d ≡ insertedAs v Main false x

@@ -33,6 +33,7 @@ use Rattle.rules.specs.Room.{takeOut}
 use Rattle.rules.proofs.SoundTest.{ascends-test}
 use Rattle.rules.proofs.RowLists.{find-at}
 use Rattle.rules.proofs.Others.{takeOut-seq}
+use Rattle.rules.specs.Layout.{headSize, rowSize}
 use Rattle.memory.proofs.RowLaws.{view-length}
 use Rattle.search.specs.declared.answers.Search.{Search}
 use Rattle.search.specs.declared.answers.Search.the-variants.{At, Absent}
@@ -43,7 +44,7 @@ use Rattle.placement.proofs.HeldKeys.{out-without}
 
 -- ---- 1. the key's row
 
-pub search-asks : (n : ℕ) (l : List ℕ) → sound (capacity l) (viewRows n l) ≡ true → (ascends (viewRows n l .rows) ≡ true) × (40 + n * 1095 ≤ length l)
+pub search-asks : (n : ℕ) (l : List ℕ) → sound (capacity l) (viewRows n l) ≡ true → (ascends (viewRows n l .rows) ≡ true) × (headSize + n * rowSize ≤ length l)
 search-asks n l h = (ascends-test (viewRows n l .rows) (shown n l h .rising), laid-out n l h)
 
 module _ (k : NodeAddr) (n i : ℕ) (l : List ℕ) (r : Search) (h : sound (capacity l) (viewRows n l) ≡ true) (e : r ≡ searched k (viewRows n l .rows)) where

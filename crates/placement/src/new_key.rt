@@ -18,7 +18,7 @@ ghost use Rattle.types.specs.Paths.{pathWeight};
 ghost use mathlib.Core.Bool.{false};
 ghost use Rattle.types.specs.declared.placed.Segment.the-variants.{Main};
 ghost use Rattle.types.specs.declared.placed.HintOutcome.the-variants.{Inserted};
-ghost use Rattle.rules.specs.Records.{byUse};
+ghost use Rattle.rules.specs.Records.{byUse, weightLimit};
 ghost use Rattle.rules.specs.Refusals.{lastSeq};
 ghost use Rattle.rules.specs.Entries.{newEntry};
 ghost use Rattle.rules.specs.Room.{fileNew};
@@ -32,7 +32,7 @@ ghost use Rattle.placement.specs.Placements.{Placing, noRoom, insertedAs
 // What a path weighs, as a row holds it.
 pub fn row_weight(path: Path) -> u8
     requires { ⌜ Writable path ⌝ }
-    ensures { λ r. ⌜ (r ≡ pathWeight path) × (r ≤ 32) ⌝ }
+    ensures { λ r. ⌜ (r ≡ pathWeight path) × (r ≤ weightLimit) ⌝ }
 {
     path.weight() as u8
 }

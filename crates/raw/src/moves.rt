@@ -1,13 +1,11 @@
 // Rows move as blocks of bytes, one plain copy after another, so that the compiler makes wide copies of them.
+use crate::layout::ROW;
 ghost use mathlib.Core.Path.{_≡_};
 ghost use mathlib.Core.List.{_++_};
 ghost use Prim.Native.Nat.{_+_, _-_, _≤_, _<_};
 ghost use lib.ListN.{length, take, drop, replicate};
 ghost use lib.Seq.{slice, sets};
-ghost use Rattle.rules.specs.Rows.{rowSize};
-
-// The bytes of a row.
-const ROW: usize = 1095;
+ghost use Rattle.rules.specs.Layout.{rowSize};
 
 // The bytes from `from` up to `to` move up by a row; those that they leave behind stay.
 pub fn shift_up(s: &mut [u8], from: usize, to: usize)

@@ -26,6 +26,7 @@ use Rattle.search.proofs.SearchLaws.{at-found, at-inside, absent-none}
 use Rattle.rules.proofs.RowLists.{length-change}
 use Rattle.rules.proofs.Refused.{refused-only-one}
 use Rattle.rules.proofs.Public.{SoundMemory, sound-memory, DoneCall, call-done}
+use Rattle.rules.specs.Layout.{headSize, rowSize}
 
 -- ---- the frame
 
@@ -56,14 +57,14 @@ out-length l n i h = length-without i (viewRows n l .rows) (omega (arith, view-l
 
 -- ---- what the code meets
 
-pub head-there : (l : List ℕ) → sound (capacity l) (view l) ≡ true → 40 ≤ length l
+pub head-there : (l : List ℕ) → sound (capacity l) (view l) ≡ true → headSize ≤ length l
 head-there l h = let s = sound-is (capacity l) (view l) h in head-fits l (view l .maxEntries) (s .space)
 
 -- n rows, as the head counts them
-pub searchable : (l : List ℕ) (n : ℕ) → sound (capacity l) (view l) ≡ true → n ≡ viewRows 0 l .rowCount → (ascends (viewRows n l .rows) ≡ true) × (40 + n * 1095 ≤ length l)
+pub searchable : (l : List ℕ) (n : ℕ) → sound (capacity l) (view l) ≡ true → n ≡ viewRows 0 l .rowCount → (ascends (viewRows n l .rows) ≡ true) × (headSize + n * rowSize ≤ length l)
 searchable l n h e = let s = sound-memory l n h e in (ascending l n s, s .long)
 
-pub found-inside : (l : List ℕ) (n : ℕ) (k : NodeAddr) (i : ℕ) (r : Search) → sound (capacity l) (view l) ≡ true → n ≡ viewRows 0 l .rowCount → r ≡ searched k (viewRows n l .rows) → r ≡ At i → (i < n) × (40 + n * 1095 ≤ length l)
+pub found-inside : (l : List ℕ) (n : ℕ) (k : NodeAddr) (i : ℕ) (r : Search) → sound (capacity l) (view l) ≡ true → n ≡ viewRows 0 l .rowCount → r ≡ searched k (viewRows n l .rows) → r ≡ At i → (i < n) × (headSize + n * rowSize ≤ length l)
 found-inside l n k i r h e f g = let s = sound-memory l n h e in (subst (λ (x : ℕ). i < x) (s .rows) (at-inside k (viewRows n l .rows) i (sym f ∙ g)), s .long)
 
 pub found : (k : NodeAddr) (rs : List Row) (i : ℕ) (r : Search) → r ≡ searched k rs → r ≡ At i → find k rs ≡ some i

@@ -1,13 +1,12 @@
 // What every call shares: laws (proofs/) of a sound memory and of a refusal; the refusals of a call that takes a path.
+use types::coord::PLACES;
 use types::coord::Path;
 ghost use mathlib.Core.Path.{_≡_};
 ghost use Prim.Native.Nat.{_≤_};
 ghost use lib.ListN.{length};
-ghost use Rattle.rules.specs.Memory.{headSize, view};
+ghost use Rattle.rules.specs.Memory.{view};
+ghost use Rattle.rules.specs.Layout.{headSize};
 ghost use Rattle.refusals.specs.Writes.{writeRefusal};
-
-// The places of a path.
-const PLACES: usize = 32;
 
 // The largest seq at which stamps are drawn.
 pub const LAST_SEQ: u64 = 18446744073709547519;

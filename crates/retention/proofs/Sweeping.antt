@@ -17,6 +17,7 @@ use Rattle.rules.specs.Rows.{rowAt, blankRow, atPlace, keepRows, total, countRo
 use Rattle.rules.specs.Entries.{expired}
 use Rattle.rules.specs.Memory.{cut, viewRows}
 use Rattle.rules.proofs.RowLists.{every-at}
+use Rattle.rules.specs.Layout.{headSize, rowSize}
 use Rattle.memory.specs.Edits.{OnlyRows, Keeping, shrunk}
 use Rattle.memory.proofs.RowLaws.{view-length, only-shrunk}
 use Rattle.memory.proofs.KeepLaws.{keeping-start, keeping-row, keeping-skip, keeping-stay, keeping-copy, keeping-end, keep-next, keep-all}
@@ -42,7 +43,7 @@ test-aside kind time p a r x y z e = rw (ne-eqb kind 0 x, ne-eqb kind 1 y, ne-eq
 
 -- ---- a row goes down
 
-pub down : (i j : ℕ) (l m : List ℕ) → j < i → m ≡ sets l (40 + j * 1095) (cut (40 + i * 1095) 1095 l) → m ≡ keptDown i j l
+pub down : (i j : ℕ) (l m : List ℕ) → j < i → m ≡ sets l (headSize + j * rowSize) (cut (headSize + i * rowSize) rowSize l) → m ≡ keptDown i j l
 unfolding keptDown
 down i j l m h e = rw (lt-ltb j i h) e
 
@@ -75,17 +76,17 @@ kept-next kind time a i rs b h e = keep-next (λ r. not (sweepTest kind time a r
 one-more : (rs : List Row) (r : Row) → length (rs ++ (r ∷ [])) ≡ length rs + 1
 one-more rs r = length-append rs (r ∷ [])
 
-down-keeping : (n i j : ℕ) (rs : List Row) (l m : List ℕ) → j ≤ i → i < n → 40 + n * 1095 ≤ length l → Keeping i j rs l m → Keeping (i + 1) (j + 1) (rs ++ (rowAt i (viewRows n l .rows) ∷ [])) l (keptDown i j m)
+down-keeping : (n i j : ℕ) (rs : List Row) (l m : List ℕ) → j ≤ i → i < n → headSize + n * rowSize ≤ length l → Keeping i j rs l m → Keeping (i + 1) (j + 1) (rs ++ (rowAt i (viewRows n l .rows) ∷ [])) l (keptDown i j m)
 unfolding keptDown
 down-keeping n i j rs l m h g s k = go (ltb j i) refl
   where
-    go : (b : Bool) → ltb j i ≡ b → Keeping (i + 1) (j + 1) (rs ++ (rowAt i (viewRows n l .rows) ∷ [])) l (cond b (sets m (40 + j * 1095) (cut (40 + i * 1095) 1095 m)) m)
+    go : (b : Bool) → ltb j i ≡ b → Keeping (i + 1) (j + 1) (rs ++ (rowAt i (viewRows n l .rows) ∷ [])) l (cond b (sets m (headSize + j * rowSize) (cut (headSize + i * rowSize) rowSize m)) m)
     go true e = keeping-copy n i j rs l m (ltb-true j i e) g s k
     go false e =
         let q : j ≡ i = omega (arith, ltb-false j i e) in
         subst (λ (x : ℕ). Keeping (i + 1) (x + 1) (rs ++ (rowAt i (viewRows n l .rows) ∷ [])) l m) (sym q) (keeping-stay n i rs l m g s (subst (λ (x : ℕ). Keeping i x rs l m) q k))
 
-pub kept-turn : (kind time : ℕ) (a : NodeAddr) (n i j : ℕ) (l m : List ℕ) (k : ℕ) (x : List ℕ) → i < n → 40 + n * 1095 ≤ length l → Kept kind time a n i j l m
+pub kept-turn : (kind time : ℕ) (a : NodeAddr) (n i j : ℕ) (l m : List ℕ) (k : ℕ) (x : List ℕ) → i < n → headSize + n * rowSize ≤ length l → Kept kind time a n i j l m
     → k ≡ cond (sweepTest kind time a (rowAt i (viewRows n m .rows))) j (j + 1) → x ≡ cond (sweepTest kind time a (rowAt i (viewRows n m .rows))) m (keptDown i j m) → Kept kind time a n (i + 1) k l x
 kept-turn kind time a n i j l m k x h s q e v = go (sweepTest kind time a (rowAt i (viewRows n l .rows))) refl (e ∙ ap (λ (b : Bool). cond b j (j + 1)) same) (v ∙ ap (λ (b : Bool). cond b m (keptDown i j m)) same)
   where

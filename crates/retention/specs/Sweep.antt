@@ -9,9 +9,10 @@ use Rattle.types.specs.Addresses.{sameAddr}
 use Rattle.types.specs.Paths.{pathPlaces, contains, rootOf}
 use Rattle.rules.specs.Cases.{Every}
 use Rattle.rules.specs.Records.{Row, aside}
-use Rattle.rules.specs.Rows.{rowSize, atPlace, keepRows}
+use Rattle.rules.specs.Rows.{atPlace, keepRows}
 use Rattle.rules.specs.Entries.{expired}
-use Rattle.rules.specs.Memory.{headSize, cut}
+use Rattle.rules.specs.Memory.{cut}
+use Rattle.rules.specs.Layout.{headSize, rowSize}
 
 -- 0 an expired entry, 1 a path through the address, 2 a path to another root, another number a row that was set aside
 unfoldable pub sweepTest : ℕ → ℕ → NodeAddr → Row → Bool

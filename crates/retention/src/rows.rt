@@ -5,8 +5,10 @@ ghost use mathlib.Core.Bool.{cond, false};
 ghost use Prim.Native.Nat.{ℕ, _+_, _*_, _-_, _≤_, _<_};
 ghost use lib.ListN.{length};
 ghost use Rattle.types.specs.declared.node_addr.NodeAddr.{NodeAddr as Address};
-ghost use Rattle.rules.specs.Rows.{rowSize, rowAt, inMain, weighRows, mainWeight, withOnlyRows};
-ghost use Rattle.rules.specs.Memory.{headSize, viewRows};
+ghost use Rattle.rules.specs.Rows.{rowAt, inMain, weighRows, mainWeight, withOnlyRows};
+ghost use Rattle.rules.specs.Memory.{viewRows};
+ghost use Rattle.rules.specs.Layout.{headSize, rowSize};
+ghost use Rattle.rules.specs.Records.{maxRows};
 ghost use Rattle.memory.specs.Edits.{OnlyRows};
 ghost use Rattle.retention.specs.Sweep.{sweepTest, keptRows, keptDown, PathFit, PathsFit};
 
@@ -97,7 +99,7 @@ fn weight_in_main(state: &[u8], n: usize, i: usize) -> u64
 
 // The weight that n rows store.
 fn weight_of(state: &[u8], n: usize) -> u64
-    requires { ⌜ (n ≤ 1024) × (headSize + n * rowSize ≤ length (now state)) ⌝ }
+    requires { ⌜ (n ≤ maxRows) × (headSize + n * rowSize ≤ length (now state)) ⌝ }
     ensures { λ r. ⌜ r ≡ weighRows inMain (viewRows n (now (state .entry)) .rows) ⌝ }
 {
     let mut sum: u64 = 0;
@@ -173,7 +175,7 @@ fn any_matches(state: &[u8], n: usize, kind: u8, time: u64, addr: NodeAddr) -> b
 
 // One sweep over n rows; how many stay.
 pub fn sweep_rows(state: &mut [u8], n: usize, kind: u8, time: u64, addr: NodeAddr) -> usize
-    requires { ⌜ (n ≤ 1024) × (headSize + n * rowSize ≤ length (now state)) × PathsFit (viewRows n (now state) .rows) ⌝ }
+    requires { ⌜ (n ≤ maxRows) × (headSize + n * rowSize ≤ length (now state)) × PathsFit (viewRows n (now state) .rows) ⌝ }
     ensures { λ r. ⌜ (r ≤ n) × (r ≡ length (keptRows kind time addr (viewRows n (now (state .entry)) .rows))) × (viewRows r (now (state .exit)) ≡ withOnlyRows (keptRows kind time addr (viewRows n (now (state .entry)) .rows)) (viewRows n (now (state .entry)))) ⌝ }
 {
     let kept = keep_rows(state, n, kind, time, addr);
@@ -184,7 +186,7 @@ pub fn sweep_rows(state: &mut [u8], n: usize, kind: u8, time: u64, addr: NodeAdd
 
 // The same on a state that counts its rows and stores their weight: where no row matches, nothing is written.
 pub fn sweep_counted(state: &mut [u8], n: usize, kind: u8, time: u64, addr: NodeAddr) -> usize
-    requires { ⌜ (n ≤ 1024) × (headSize + n * rowSize ≤ length (now state)) × PathsFit (viewRows n (now state) .rows) × (viewRows n (now state) .rowCount ≡ n) × (viewRows n (now state) .storedWeight ≡ mainWeight (viewRows n (now state))) ⌝ }
+    requires { ⌜ (n ≤ maxRows) × (headSize + n * rowSize ≤ length (now state)) × PathsFit (viewRows n (now state) .rows) × (viewRows n (now state) .rowCount ≡ n) × (viewRows n (now state) .storedWeight ≡ mainWeight (viewRows n (now state))) ⌝ }
     ensures { λ r. ⌜ (r ≤ n) × (r ≡ length (keptRows kind time addr (viewRows n (now (state .entry)) .rows))) × (viewRows r (now (state .exit)) ≡ withOnlyRows (keptRows kind time addr (viewRows n (now (state .entry)) .rows)) (viewRows n (now (state .entry)))) ⌝ }
 {
     if any_matches(state, n, kind, time, addr) {

@@ -1,12 +1,12 @@
 -- Victims chosen and set aside, turn by turn.
 use mathlib.Core.Path.{_≡_, refl, sym, ap, _∙_, subst}
-use Prim.Native.Nat.{ℕ, zero, suc, _+_, _-_, _≤_, _<_}
+use Prim.Native.Nat.{ℕ, zero, suc, _+_, _-_, _≤_, _<_, _*_}
 use native.Mathlib.Omega.{arith}
 use mathlib.Core.Option.{Option, none, some}
 use mathlib.Core.Bool.{Bool, true, false, cond, _&&_}
 use lib.Dec.{ltb, leb}
 use lib.ListN.{length}
-use Rattle.rules.specs.Records.{State, aside, byUse, parked, weightBound}
+use Rattle.rules.specs.Records.{State, aside, byUse, parked, weightBound, maxRows, weightLimit}
 use Rattle.rules.specs.Rows.{rowAt, atPlace, inMain, changeRow, lowestStamp, mainCount, mainWeight, total, withRows}
 use Rattle.rules.specs.Sound.{sound}
 use Rattle.rules.specs.Entries.{verified}
@@ -112,7 +112,7 @@ pub record Choosing (now w : ℕ) (s : State) (count stored : ℕ) (v : Walk) : 
   pub led : Led now s v
   pub mains : count ≡ mainCount (v .state)
   pub loads : stored ≡ mainWeight (v .state)
-  pub small : stored ≤ 32768
+  pub small : stored ≤ maxRows * weightLimit
 
 pub choosing-start : (now w R count stored : ℕ) (s : State) → sound R s ≡ true → count ≡ mainCount s → stored ≡ s .storedWeight → Choosing now w s count stored (walkFrom s 0)
 choosing-start now w R count stored s h ec es =

@@ -6,7 +6,7 @@ use mathlib.Core.List.{List}
 use mathlib.Core.Bool.{true}
 use lib.ListN.{length}
 use Rattle.types.specs.declared.node_addr.NodeAddr.{NodeAddr}
-use Rattle.rules.specs.Records.{Entry, State, mainBound, probationBound}
+use Rattle.rules.specs.Records.{Entry, State, mainBound, probationBound, maxRows}
 use Rattle.rules.specs.Rows.{mainCount, probationCount}
 use Rattle.rules.specs.Sound.{sound}
 use Rattle.rules.specs.Room.{fileNew}
@@ -18,6 +18,7 @@ use Rattle.rules.proofs.Sizes.{length-insert}
 use Rattle.rules.proofs.GotPart.{find-gone}
 use Rattle.rules.proofs.LentMemory.{capacity-same}
 use Rattle.rules.proofs.Moves.{Gone}
+use Rattle.rules.specs.Layout.{headSize, rowSize}
 use Rattle.memory.proofs.RowLaws.{view-length}
 use Rattle.room.specs.Rooms.{Without}
 
@@ -30,11 +31,11 @@ both : (n : ℕ) (l : List ℕ) → Sound (capacity l) (viewRows n l) → mainCo
 both n l s = both-segments (viewRows n l .seq) (viewRows n l .rows) (s .each) ∙ view-length n l
 
 -- the rows are there
-pub laid-out : (n : ℕ) (l : List ℕ) → sound (capacity l) (viewRows n l) ≡ true → 40 + n * 1095 ≤ length l
+pub laid-out : (n : ℕ) (l : List ℕ) → sound (capacity l) (viewRows n l) ≡ true → headSize + n * rowSize ≤ length l
 unfolding capacity
 laid-out n l h = let s = shown n l h in omega (arith, both n l s, s .mains, s .probations, s .space)
 
-pub few : (n : ℕ) (l : List ℕ) → sound (capacity l) (viewRows n l) ≡ true → n ≤ 1024
+pub few : (n : ℕ) (l : List ℕ) → sound (capacity l) (viewRows n l) ≡ true → n ≤ maxRows
 few n l h = let s = shown n l h in omega (arith, both n l s, s .mains, s .probations, s .space, s .small)
 
 -- a row is free where a segment is not full

@@ -1,13 +1,13 @@
 -- Victims left in place.
 use mathlib.Core.Path.{_≡_, refl, ap, subst}
-use Prim.Native.Nat.{ℕ, zero, suc, _+_, _≤_, _<_}
+use Prim.Native.Nat.{ℕ, zero, suc, _+_, _≤_, _<_, _*_}
 use native.Mathlib.Omega.{arith}
 use mathlib.Core.List.{List, [], _∷_}
 use mathlib.Core.Bool.{Bool, true, false, cond, not}
 use lib.Dec.{ltb, eqb}
 use lib.ListN.{length}
 use borrow.Author.Tests.{eqb-true}
-use Rattle.rules.specs.Records.{Row, State, aside, byUse}
+use Rattle.rules.specs.Records.{Row, State, aside, byUse, maxRows, weightLimit}
 use Rattle.rules.specs.Rows.{rowAt, atPlace, inMain, keepRows, withoutRow, total, countRows, weighRows}
 use Rattle.rules.specs.Room.{atNewPlace, putBack, takeOut}
 use Rattle.rules.proofs.Addresses.{contradiction}
@@ -22,7 +22,7 @@ use Rattle.room.specs.Rooms.{LeftAt, withoutVictim}
 -- ---- one victim, or none
 
 -- a row of ts that is not in main, where ts has the keys of rs
-pub left-at : (i w : ℕ) (rs ts : List Row) → Rising (cores rs) → cores ts ≡ cores rs → i < length ts → inMain (rowAt i ts) ≡ false → w ≡ weighRows inMain ts → w ≤ 32768 → LeftAt i w rs ts
+pub left-at : (i w : ℕ) (rs ts : List Row) → Rising (cores rs) → cores ts ≡ cores rs → i < length ts → inMain (rowAt i ts) ≡ false → w ≡ weighRows inMain ts → w ≤ maxRows * weightLimit → LeftAt i w rs ts
 left-at i w rs ts r e h m q l =
     let z : _≡_ {A = ℕ} (cond (inMain (rowAt i ts)) (rowAt i ts .weight) 0) 0 = rw m in
     record {

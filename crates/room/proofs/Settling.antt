@@ -20,6 +20,7 @@ use Rattle.rules.proofs.SoundTest.{RowOk, and-left, and-right, sound-is}
 use Rattle.rules.proofs.Moves.{ready}
 use Rattle.rules.proofs.Walks.{Going, Led, back-core, choose-led, not-at, start-led}
 use Rattle.rules.proofs.Loops.{choose-done}
+use Rattle.types.specs.Paths.{pathPlaces}
 use Rattle.retention.proofs.Sweeping.{only-rows, rows-same}
 use Rattle.retention.specs.Sweep.{PathFit, PathsFit, keptRows, sweepTest}
 use Rattle.stamps.specs.declared.answers.Lowest.the-variants.{At, Nothing}
@@ -153,7 +154,7 @@ waiting now x R s t c h e =
     }
   where
     fit : (r : Row) → Going now (t .seq) r → PathFit r
-    fit r g = let q = back-core r in record { long = subst (λ (y : Core). 1 ≤ y .entry .path .len) q (g .ok .long); short = subst (λ (y : Core). y .entry .path .len ≤ 32) q (g .ok .short) }
+    fit r g = let q = back-core r in record { long = subst (λ (y : Core). 1 ≤ y .entry .path .len) q (g .ok .long); short = subst (λ (y : Core). y .entry .path .len ≤ pathPlaces) q (g .ok .short) }
 
 -- ---- the victims go back
 

@@ -9,7 +9,7 @@ use lib.Dec.{ltb, leb}
 use lib.ListN.{length, drop}
 use Rattle.types.specs.declared.node_addr.NodeAddr.{NodeAddr}
 use Rattle.rules.specs.Cases.{maybe}
-use Rattle.rules.specs.Records.{Row, State, weightBound, byUse, parked, probation}
+use Rattle.rules.specs.Records.{Row, State, weightBound, byUse, parked, probation, maxRows, weightLimit}
 use Rattle.rules.specs.Rows.{rowAt, atPlace, inMain, total, countRows, weighRows, withoutRow, withOnlyRows, find}
 use Rattle.rules.specs.Sound.{sound}
 use Rattle.rules.specs.Placement.{withoutKey}
@@ -90,9 +90,9 @@ closed-without-key now u k s m = go (find k (s .rows)) refl m
 -- ---- a sound head's numbers
 
 pub record Small (s : State) : Type 0 where
-  pub max : s .maxEntries ≤ 1024
-  pub rows : length (s .rows) ≤ 1024
-  pub stored : s .storedWeight ≤ 32768
+  pub max : s .maxEntries ≤ maxRows
+  pub rows : length (s .rows) ≤ maxRows
+  pub stored : s .storedWeight ≤ maxRows * weightLimit
 
 pub sound-small : (R : ℕ) (s : State) → sound R s ≡ true → Small s
 sound-small R s h = let d = sound-is R s h in record { max = omega (arith, d .small, d .space); rows = omega (arith, few-rows R s d, d .small); stored = omega (arith, d .storedWeight, light (s .seq) (s .rows) (d .each), few-rows R s d, d .small) }

@@ -1,12 +1,12 @@
 -- The code's answers in the rules' terms.
 use mathlib.Core.Path.{_≡_}
-use Prim.Native.Nat.{ℕ, _+_, _≤_, _<_}
+use Prim.Native.Nat.{ℕ, _+_, _≤_, _<_, _*_}
 use mathlib.Core.List.{List}
 use mathlib.Core.Option.{none}
 use mathlib.Core.Bool.{true}
 use lib.ListN.{length}
 use Rattle.types.specs.declared.node_addr.NodeAddr.{NodeAddr}
-use Rattle.rules.specs.Records.{Row, State, probation, aside}
+use Rattle.rules.specs.Records.{Row, State, probation, aside, maxRows, weightLimit}
 use Rattle.rules.specs.Rows.{rowAt, atPlace, inMain, find, withoutRow, total, weighRows, mainCount, mainWeight}
 use Rattle.rules.specs.Sound.{sound, ascends}
 use Rattle.rules.specs.Room.{Chosen, Room, probationVisits, takeOut}
@@ -40,14 +40,14 @@ pub record LastAside (count left i : ℕ) (rs : List Row) : Type 0 where
 pub record SetAside (count : ℕ) (c : ChosenAnswer) (s : State) : Type 0 where
   pub mains : c .left ≡ mainCount s
   pub weighs : c .stored ≡ mainWeight s
-  pub light : c .stored ≤ 32768
+  pub light : c .stored ≤ maxRows * weightLimit
   pub last : LastAside count (c .left) (c .last) (s .rows)
 
 -- row i of ts, left for the row that takes its place: w is stored without it, and the keys are those of rs
 pub record LeftAt (i w : ℕ) (rs ts : List Row) : Type 0 where
   pub inside : i < length ts
   pub weighs : w ≡ weighRows inMain (withoutRow i ts)
-  pub light : w ≤ 32768
+  pub light : w ≤ maxRows * weightLimit
   pub rising : ascends ts ≡ true
   pub gone : (k : NodeAddr) → find k rs ≡ none → find k ts ≡ none
 

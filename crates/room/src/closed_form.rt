@@ -6,11 +6,12 @@ ghost use mathlib.Core.Bool.{_&&_, true};
 ghost use Prim.Native.Nat.{_+_, _*_, _≤_, _<_, min};
 ghost use lib.Dec.{ltb, leb};
 ghost use lib.ListN.{length};
-ghost use Rattle.rules.specs.Records.{weightBound};
-ghost use Rattle.rules.specs.Rows.{rowSize, rowAt, mainCount};
+ghost use Rattle.rules.specs.Records.{weightBound, maxRows};
+ghost use Rattle.rules.specs.Rows.{rowAt, mainCount};
 ghost use Rattle.rules.specs.Sound.{sound};
 ghost use Rattle.rules.specs.Room.{verifiedInMain, roomCanBeMade};
-ghost use Rattle.rules.specs.Memory.{headSize, capacity, viewRows};
+ghost use Rattle.rules.specs.Memory.{capacity, viewRows};
+ghost use Rattle.rules.specs.Layout.{headSize, rowSize};
 
 // What B allows for each entry: B = 16 × max_entries.
 const ADDRS_PER_ENTRY: u64 = 16;
@@ -31,7 +32,7 @@ pub fn count_main(state: &[u8], n: usize) -> u64
 
 // w, cut to B.
 pub fn cut_to_bound(w: u64, max: u64) -> u64
-    requires { ⌜ max ≤ 1024 ⌝ }
+    requires { ⌜ max ≤ maxRows ⌝ }
     ensures { λ r. ⌜ r ≡ min w (weightBound max) ⌝ }
 {
     let bound = ADDRS_PER_ENTRY * max;
@@ -40,7 +41,7 @@ pub fn cut_to_bound(w: u64, max: u64) -> u64
 
 // Neither count ≥ max_entries nor stored + w > B.
 pub fn has_room(max: u64, count: u64, stored: u64, w: u64) -> bool
-    requires { ⌜ (max ≤ 1024) × (stored ≤ 262144) × (w ≤ weightBound max) ⌝ }
+    requires { ⌜ (max ≤ maxRows) × (stored ≤ maxRows * 256) × (w ≤ weightBound max) ⌝ }
     ensures { λ r. ⌜ r ≡ ltb count max && leb (stored + w) (weightBound max) ⌝ }
 {
     (count < max) & (stored + w <= ADDRS_PER_ENTRY * max)

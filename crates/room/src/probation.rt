@@ -10,10 +10,11 @@ ghost use mathlib.Core.Path.{_≡_};
 ghost use mathlib.Core.Bool.{true};
 ghost use Prim.Native.Nat.{_+_, _*_, _≤_, _<_};
 ghost use lib.ListN.{length};
-ghost use Rattle.rules.specs.Rows.{rowSize, total};
+ghost use Rattle.rules.specs.Rows.{total};
 ghost use Rattle.rules.specs.Sound.{sound};
 ghost use Rattle.rules.specs.Room.{probationVisits, makeProbationRoom};
-ghost use Rattle.rules.specs.Memory.{headSize, capacity, viewRows};
+ghost use Rattle.rules.specs.Memory.{capacity, viewRows};
+ghost use Rattle.rules.specs.Layout.{headSize, rowSize};
 ghost use Rattle.stamps.specs.Walked.{walkFrom};
 ghost use Rattle.room.specs.Rooms.{withoutVictim, Leaves};
 

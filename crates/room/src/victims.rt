@@ -14,11 +14,12 @@ ghost use mathlib.Core.Bool.{true, false, not};
 ghost use mathlib.Core.List.{map};
 ghost use Prim.Native.Nat.{suc, _+_, _*_, _≤_, _<_};
 ghost use lib.ListN.{length};
-ghost use Rattle.rules.specs.Records.{weightBound, aside};
-ghost use Rattle.rules.specs.Rows.{rowSize, atPlace, changeRow, keepRows, withRows, withOnlyRows, total, mainCount};
+ghost use Rattle.rules.specs.Records.{weightBound, aside, maxRows};
+ghost use Rattle.rules.specs.Rows.{atPlace, changeRow, keepRows, withRows, withOnlyRows, total, mainCount};
 ghost use Rattle.rules.specs.Sound.{sound};
 ghost use Rattle.rules.specs.Room.{mainVisits, hasRoom, atNewPlace, putBack, chooseVictims, makeRoom};
-ghost use Rattle.rules.specs.Memory.{headSize, capacity, viewRows};
+ghost use Rattle.rules.specs.Memory.{capacity, viewRows};
+ghost use Rattle.rules.specs.Layout.{headSize, rowSize};
 ghost use Rattle.stamps.specs.declared.answers.Lowest.the-variants.{Nothing};
 ghost use Rattle.stamps.specs.Walked.{walkFrom, MainIs};
 ghost use Rattle.retention.specs.Sweep.{PathsFit};
@@ -116,7 +117,7 @@ fn put_back(state: &mut [u8], n: usize)
 
 // The rows that were set aside leave; how many rows stay.
 fn drop_aside(state: &mut [u8], n: usize) -> usize
-    requires { ⌜ (n ≤ 1024) × (headSize + n * rowSize ≤ length (now state)) × PathsFit (viewRows n (now state) .rows) ⌝ }
+    requires { ⌜ (n ≤ maxRows) × (headSize + n * rowSize ≤ length (now state)) × PathsFit (viewRows n (now state) .rows) ⌝ }
     ensures { λ r. ⌜ (r ≤ n) × (viewRows r (now (state .exit)) ≡ withOnlyRows (keepRows (λ x. not (atPlace aside x)) (viewRows n (now (state .entry)) .rows)) (viewRows n (now (state .entry)))) ⌝ }
 {
     let none = NodeAddr([0u8; 16]);

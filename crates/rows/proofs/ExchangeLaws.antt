@@ -8,6 +8,7 @@ use lib.Seq.{sets, sets-eq, slice, length-slice, length-take-le, take-at, take-t
 use Rattle.rules.specs.Records.{Row, State}
 use Rattle.rules.specs.Rows.{changeRow, withoutRow, withRows}
 use Rattle.rules.specs.Memory.{cut, rowOf, rowsOf, viewRows}
+use Rattle.rules.specs.Layout.{headSize, rowCountOffset, rowSize}
 use Rattle.memory.proofs.Fields.{row-store}
 use Rattle.memory.proofs.RowBlocks.{rows-append, rows-cut, rows-drop, rows-take, without-eq, drop-take-add}
 use Rattle.memory.proofs.RowLaws.{head-cut, view-length}
@@ -16,44 +17,44 @@ use Rattle.rows.specs.Insertions.{exchanged, Opened}
 -- ---- p rows, the rows from a up to e, and the rows from s on are n rows again
 
 module _ (n p a e s : ℕ) (f : p ≤ n) (h : a ≤ e) (g : e ≤ n) (u : s ≤ n) (w : p + (e - a + (n - s)) ≡ n) where
-  parts-rows : (b : List ℕ) → n * 1095 ≤ length b
-      → rowsOf n (take (p * 1095) b ++ (slice (a * 1095) (e * 1095) b ++ drop (s * 1095) b)) ≡ take p (rowsOf n b) ++ (drop a (take e (rowsOf n b)) ++ drop s (rowsOf n b))
+  parts-rows : (b : List ℕ) → n * rowSize ≤ length b
+      → rowsOf n (take (p * rowSize) b ++ (slice (a * rowSize) (e * rowSize) b ++ drop (s * rowSize) b)) ≡ take p (rowsOf n b) ++ (drop a (take e (rowsOf n b)) ++ drop s (rowsOf n b))
   parts-rows b k =
-      let lp : length (take (p * 1095) b) ≡ p * 1095 = length-take-le (p * 1095) b (omega arith) in
-      let ls : length (slice (a * 1095) (e * 1095) b) ≡ (e - a) * 1095 = length-slice (a * 1095) (e * 1095) b (omega arith) ∙ omega arith in
-      let front : (i : ℕ) → i ≤ n → rowsOf i (take (i * 1095) b) ≡ take i (rowsOf n b) =
+      let lp : length (take (p * rowSize) b) ≡ p * rowSize = length-take-le (p * rowSize) b (omega arith) in
+      let ls : length (slice (a * rowSize) (e * rowSize) b) ≡ (e - a) * rowSize = length-slice (a * rowSize) (e * rowSize) b (omega arith) ∙ omega arith in
+      let front : (i : ℕ) → i ≤ n → rowsOf i (take (i * rowSize) b) ≡ take i (rowsOf n b) =
       λ i q. let z : i + (n - i) ≡ n = omega arith in rows-cut i b (omega arith) ∙ rw z at (rows-take i (n - i) b) in
       let za : a + (e - a) ≡ e = omega arith in
       let zs : s + (n - s) ≡ n = omega arith in
-      let middle : rowsOf (e - a) (slice (a * 1095) (e * 1095) b) ≡ drop a (take e (rowsOf n b)) = rw za at (rows-drop a (e - a) (take (e * 1095) b)) ∙ ap (drop a) (front e g) in
-      let last : rowsOf (n - s) (drop (s * 1095) b) ≡ drop s (rowsOf n b) = rw zs at (rows-drop s (n - s) b) in
-      ap (λ (m : ℕ). rowsOf m (take (p * 1095) b ++ (slice (a * 1095) (e * 1095) b ++ drop (s * 1095) b))) (sym w) ∙ rows-append (take (p * 1095) b) _ p (e - a + (n - s)) lp
-      ∙ rw (rows-append (slice (a * 1095) (e * 1095) b) (drop (s * 1095) b) (e - a) (n - s) ls, front p f, middle, last)
+      let middle : rowsOf (e - a) (slice (a * rowSize) (e * rowSize) b) ≡ drop a (take e (rowsOf n b)) = rw za at (rows-drop a (e - a) (take (e * rowSize) b)) ∙ ap (drop a) (front e g) in
+      let last : rowsOf (n - s) (drop (s * rowSize) b) ≡ drop s (rowsOf n b) = rw zs at (rows-drop s (n - s) b) in
+      ap (λ (m : ℕ). rowsOf m (take (p * rowSize) b ++ (slice (a * rowSize) (e * rowSize) b ++ drop (s * rowSize) b))) (sym w) ∙ rows-append (take (p * rowSize) b) _ p (e - a + (n - s)) lp
+      ∙ rw (rows-append (slice (a * rowSize) (e * rowSize) b) (drop (s * rowSize) b) (e - a) (n - s) ls, front p f, middle, last)
 
-  pub parts-view : (l : List ℕ) → 40 + n * 1095 ≤ length l
-      → viewRows n (take (40 + p * 1095) l ++ (slice (40 + a * 1095) (40 + e * 1095) l ++ drop (40 + s * 1095) l))
+  pub parts-view : (l : List ℕ) → headSize + n * rowSize ≤ length l
+      → viewRows n (take (headSize + p * rowSize) l ++ (slice (headSize + a * rowSize) (headSize + e * rowSize) l ++ drop (headSize + s * rowSize) l))
       ≡ withRows (take p (viewRows n l .rows) ++ (drop a (take e (viewRows n l .rows)) ++ drop s (viewRows n l .rows))) (viewRows n l)
   unfolding viewRows withRows
   parts-view l k =
-      let x : List ℕ = take (40 + p * 1095) l in
-      let y : List ℕ = slice (40 + a * 1095) (40 + e * 1095) l in
-      let z : List ℕ = drop (40 + s * 1095) l in
+      let x : List ℕ = take (headSize + p * rowSize) l in
+      let y : List ℕ = slice (headSize + a * rowSize) (headSize + e * rowSize) l in
+      let z : List ℕ = drop (headSize + s * rowSize) l in
       let m : List ℕ = x ++ (y ++ z) in
-      let lx : length x ≡ 40 + p * 1095 = length-take-le (40 + p * 1095) l (omega arith) in
-      let ly : length y ≡ (e - a) * 1095 = length-slice (40 + a * 1095) (40 + e * 1095) l (omega arith) ∙ omega arith in
-      let lxy : length (x ++ y) ≡ 40 + p * 1095 + (e - a) * 1095 = length-append x y ∙ omega arith in
-      let hd : take 40 m ≡ take 40 l = take-append-le 40 x (y ++ z) (omega arith) ∙ take-take 40 (40 + p * 1095) l (omega arith) in
-      let cu : (o v : ℕ) → o + v ≤ 40 → cut o v m ≡ cut o v l = λ o v q. head-cut o v l m q hd in
-      let d : drop 40 m ≡ take (p * 1095) (drop 40 l) ++ (slice (a * 1095) (e * 1095) (drop 40 l) ++ drop (s * 1095) (drop 40 l)) =
-      drop-append-le 40 x (y ++ z) (omega arith)
-      ∙ rw (drop-take-add 40 (p * 1095) l, ← drop-drop (a * 1095) 40 (take (40 + e * 1095) l), drop-take-add 40 (e * 1095) l, ← drop-drop (s * 1095) 40 l) in
-      let rs = ap (rowsOf n) d ∙ parts-rows (drop 40 l) (rw length-drop (omega arith)) in
-      let en : 40 + n * 1095 ≡ length (x ++ y) + (n - s) * 1095 = omega arith in
-      let es : 40 + s * 1095 + (n - s) * 1095 ≡ 40 + n * 1095 = omega arith in
-      let rt : drop (40 + n * 1095) m ≡ drop (40 + n * 1095) l =
-      ap (drop (40 + n * 1095)) (sym (append-assoc x y z)) ∙ ap (λ (o : ℕ). drop o ((x ++ y) ++ z)) en ∙ drop-append-add (x ++ y) z ((n - s) * 1095)
-      ∙ drop-drop ((n - s) * 1095) (40 + s * 1095) l ∙ ap (λ (o : ℕ). drop o l) es in
-      rw (cu 0 8 (omega arith), cu 8 8 (omega arith), cu 16 8 (omega arith), cu 24 8 (omega arith), cu 32 8 (omega arith), rs, rt)
+      let lx : length x ≡ headSize + p * rowSize = length-take-le (headSize + p * rowSize) l (omega arith) in
+      let ly : length y ≡ (e - a) * rowSize = length-slice (headSize + a * rowSize) (headSize + e * rowSize) l (omega arith) ∙ omega arith in
+      let lxy : length (x ++ y) ≡ headSize + p * rowSize + (e - a) * rowSize = length-append x y ∙ omega arith in
+      let hd : take headSize m ≡ take headSize l = take-append-le headSize x (y ++ z) (omega arith) ∙ take-take headSize (headSize + p * rowSize) l (omega arith) in
+      let cu : (o v : ℕ) → o + v ≤ headSize → cut o v m ≡ cut o v l = λ o v q. head-cut o v l m q hd in
+      let d : drop headSize m ≡ take (p * rowSize) (drop headSize l) ++ (slice (a * rowSize) (e * rowSize) (drop headSize l) ++ drop (s * rowSize) (drop headSize l)) =
+      drop-append-le headSize x (y ++ z) (omega arith)
+      ∙ rw (drop-take-add headSize (p * rowSize) l, ← drop-drop (a * rowSize) headSize (take (headSize + e * rowSize) l), drop-take-add headSize (e * rowSize) l, ← drop-drop (s * rowSize) headSize l) in
+      let rs = ap (rowsOf n) d ∙ parts-rows (drop headSize l) (rw length-drop (omega arith)) in
+      let en : headSize + n * rowSize ≡ length (x ++ y) + (n - s) * rowSize = omega arith in
+      let es : headSize + s * rowSize + (n - s) * rowSize ≡ headSize + n * rowSize = omega arith in
+      let rt : drop (headSize + n * rowSize) m ≡ drop (headSize + n * rowSize) l =
+      ap (drop (headSize + n * rowSize)) (sym (append-assoc x y z)) ∙ ap (λ (o : ℕ). drop o ((x ++ y) ++ z)) en ∙ drop-append-add (x ++ y) z ((n - s) * rowSize)
+      ∙ drop-drop ((n - s) * rowSize) (headSize + s * rowSize) l ∙ ap (λ (o : ℕ). drop o l) es in
+      rw (cu 0 8 (omega arith), cu 8 8 (omega arith), cu 16 8 (omega arith), cu 24 8 (omega arith), cu rowCountOffset 8 (omega arith), rs, rt)
 
 -- ---- a place opened
 
@@ -83,18 +84,18 @@ opened : (i j : ℕ) (s t : State) (rs : List Row) → t ≡ withRows rs s → (
 unfolding withRows
 opened i j s t rs e p = rw e (record { before = p .0; behind = p .1; others = refl })
 
-module _ (l : List ℕ) (n i j : ℕ) (k : 40 + n * 1095 ≤ length l) where
-  pub opened-down : i < j → j < n → Opened i j (viewRows n l) (viewRows n (take (40 + i * 1095) l ++ (slice (40 + i * 1095 + 1095) (40 + (j + 1) * 1095) l ++ drop (40 + (j + 1) * 1095 - 1095) l)))
+module _ (l : List ℕ) (n i j : ℕ) (k : headSize + n * rowSize ≤ length l) where
+  pub opened-down : i < j → j < n → Opened i j (viewRows n l) (viewRows n (take (headSize + i * rowSize) l ++ (slice (headSize + i * rowSize + rowSize) (headSize + (j + 1) * rowSize) l ++ drop (headSize + (j + 1) * rowSize - rowSize) l)))
   opened-down h g =
-      let a : 40 + i * 1095 + 1095 ≡ 40 + suc i * 1095 = omega arith in
-      let b : 40 + (j + 1) * 1095 - 1095 ≡ 40 + j * 1095 = omega arith in
-      let d : 40 + (j + 1) * 1095 ≡ 40 + suc j * 1095 = omega arith in
+      let a : headSize + i * rowSize + rowSize ≡ headSize + suc i * rowSize = omega arith in
+      let b : headSize + (j + 1) * rowSize - rowSize ≡ headSize + j * rowSize = omega arith in
+      let d : headSize + (j + 1) * rowSize ≡ headSize + suc j * rowSize = omega arith in
       rw (b, a, d) (opened i j (viewRows n l) _ _ (parts-view n i (suc i) (suc j) j (omega arith) (omega arith) (omega arith) (omega arith) (omega arith) l k) (moved-down i j (viewRows n l .rows) (omega arith) (omega (arith, view-length n l))))
 
-  pub opened-up : j ≤ i → i < n → Opened i j (viewRows n l) (viewRows n (take (40 + j * 1095 + 1095) l ++ (slice (40 + j * 1095) (40 + i * 1095) l ++ drop (40 + i * 1095 + 1095) l)))
+  pub opened-up : j ≤ i → i < n → Opened i j (viewRows n l) (viewRows n (take (headSize + j * rowSize + rowSize) l ++ (slice (headSize + j * rowSize) (headSize + i * rowSize) l ++ drop (headSize + i * rowSize + rowSize) l)))
   opened-up h g =
-      let a : 40 + j * 1095 + 1095 ≡ 40 + suc j * 1095 = omega arith in
-      let b : 40 + i * 1095 + 1095 ≡ 40 + suc i * 1095 = omega arith in
+      let a : headSize + j * rowSize + rowSize ≡ headSize + suc j * rowSize = omega arith in
+      let b : headSize + i * rowSize + rowSize ≡ headSize + suc i * rowSize = omega arith in
       rw (a, b) (opened i j (viewRows n l) _ _ (parts-view n (suc j) j i (suc i) (omega arith) (omega arith) (omega arith) (omega arith) (omega arith) l k) (moved-up i j (viewRows n l .rows) h (omega (arith, view-length n l))))
 
 -- ---- the place written
@@ -105,7 +106,7 @@ change-all r j [] h = absurd (let z : ⊥ = omega arith in z)
 change-all r zero (x ∷ xs) h = refl
 change-all r (suc j) (x ∷ xs) h = ap (λ (ys : List Row). x ∷ ys) (change-all r j xs (omega arith))
 
-stored-all : (x c : List ℕ) → length c ≡ 1095 → length x ≡ 1095 → sets x 0 c ≡ c
+stored-all : (x c : List ℕ) → length c ≡ rowSize → length x ≡ rowSize → sets x 0 c ≡ c
 stored-all x c w h =
     let e : 0 + length c ≡ length x = omega arith in
     sets-eq c x 0 (omega arith) ∙ ap (λ (k : ℕ). c ++ drop k x) e ∙ rw drop-length (append-nil c)
@@ -115,7 +116,7 @@ unfolding exchanged withRows
 place-filled i j r s t h o = rw (change-all r j (t .rows) h, o .before, o .behind) (ap (λ (x : State). withRows (take j (withoutRow i (s .rows)) ++ r ∷ drop j (withoutRow i (s .rows))) x) (o .others))
 
 -- c is stored as row j
-pub exchange-view : (l m c : List ℕ) (n i j : ℕ) → j < n → 40 + n * 1095 ≤ length m → length c ≡ 1095 → Opened i j (viewRows n l) (viewRows n m) → viewRows n (sets m (40 + j * 1095) c) ≡ exchanged i j (rowOf c) (viewRows n l)
+pub exchange-view : (l m c : List ℕ) (n i j : ℕ) → j < n → headSize + n * rowSize ≤ length m → length c ≡ rowSize → Opened i j (viewRows n l) (viewRows n m) → viewRows n (sets m (headSize + j * rowSize) c) ≡ exchanged i j (rowOf c) (viewRows n l)
 exchange-view l m c n i j h k w o =
-    let z : 40 + j * 1095 + 0 ≡ 40 + j * 1095 = omega arith in
+    let z : headSize + j * rowSize + 0 ≡ headSize + j * rowSize = omega arith in
     rw z at (row-store (λ _. rowOf c) 0 c (omega arith) (λ x q. ap rowOf (stored-all x c w q)) n j m h k) ∙ place-filled i j (rowOf c) (viewRows n l) (viewRows n m) (omega (arith, view-length n m)) o

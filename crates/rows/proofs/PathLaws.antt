@@ -9,7 +9,7 @@ use lib.ListN.{length, take, drop, getD, replicate, length-append, length-replic
 use lib.Seq.{sets, sets-eq, take-suc, take-at, take-all, drop-at, drop-drop, length-take-le}
 use Rattle.types.specs.declared.coord.CoordEntry.{CoordEntry}
 use Rattle.types.specs.declared.coord.Path.{Path}
-use Rattle.types.specs.Paths.{zeroEntry, elements, asWritten}
+use Rattle.types.specs.Paths.{zeroEntry, elements, asWritten, pathPlaces}
 use Rattle.types.proofs.PathLaws.{noEntry}
 use Rattle.rules.specs.Cases.{Every}
 use Rattle.rules.specs.Lookups.{rewrite}
@@ -18,6 +18,7 @@ use Rattle.rules.specs.Lent.{CoordEntryFits, PathFits}
 use Rattle.rules.proofs.ViewLaws.{num-le, length-le}
 use Rattle.rules.proofs.MemoryLaws.{entries-cons}
 use Rattle.rules.proofs.Sizes.{small1, copies-bytes}
+use Rattle.rules.specs.Layout.{coordEntrySize, createdAtOffset, entryOffset, entrySize, expiresAtOffset, headSize, lastUsedOffset, mtuMarkOffset, mtuOffset, pathSize, rowSize, sourceOffset, verifiedUntilOffset}
 use Rattle.raw.proofs.StoreLaws.{cut-else}
 use Rattle.memory.proofs.Fields.{entry-store}
 use Rattle.rows.specs.Insertions.{pathBytes, withPath}
@@ -30,17 +31,17 @@ unfolding coordEntriesBytes
 entries-append [] ys = refl
 entries-append (x ∷ xs) ys = rw (entries-append xs ys) (simp append-assoc)
 
-entries-length : (xs : List CoordEntry) → Every CoordEntryFits xs → length (coordEntriesBytes xs) ≡ length xs * 32
+entries-length : (xs : List CoordEntry) → Every CoordEntryFits xs → length (coordEntriesBytes xs) ≡ length xs * coordEntrySize
 unfolding coordEntriesBytes
 entries-length [] h = refl
 entries-length (x ∷ xs) h = simp (length-append, length-le) (omega (arith, h .0 .address .size, entries-length xs (h .1)))
 
-entries-zero : (k : ℕ) → coordEntriesBytes (replicate k zeroEntry) ≡ replicate (k * 32) 0
+entries-zero : (k : ℕ) → coordEntriesBytes (replicate k zeroEntry) ≡ replicate (k * coordEntrySize) 0
 unfolding coordEntriesBytes zeroEntry leBytes
 entries-zero zero = refl
 entries-zero (suc k) =
-    let e : suc k * 32 ≡ 32 + k * 32 = omega arith in
-    rw (entries-zero k, e) (replicate-append-replicate {A = ℕ} 32 (k * 32) 0)
+    let e : suc k * coordEntrySize ≡ coordEntrySize + k * coordEntrySize = omega arith in
+    rw (entries-zero k, e) (replicate-append-replicate {A = ℕ} coordEntrySize (k * coordEntrySize) 0)
 
 every-take : (n : ℕ) (xs : List CoordEntry) → Every CoordEntryFits xs → Every CoordEntryFits (take n xs)
 every-take zero xs h = tt
@@ -57,51 +58,51 @@ every-zero zero = tt
 every-zero (suc k) = (record { address = record { size = refl; bytes = copies-bytes 16 }; sequence = omega arith; timestamp = omega arith }, every-zero k)
 
 -- what is written fits where what is given does
-pub written-fits : (p : Path) → PathFits p → p .len ≤ 32 → PathFits (asWritten p)
+pub written-fits : (p : Path) → PathFits p → p .len ≤ pathPlaces → PathFits (asWritten p)
 unfolding asWritten elements
 written-fits p f h =
     let n = f .places in
     record {
       places = rw (length-append, length-take-le (p .len) (p .entries) (omega arith), length-replicate) (omega arith);
-      each = every-append (take (p .len) (p .entries)) (replicate (32 - p .len) zeroEntry) (every-take (p .len) (p .entries) (f .each)) (every-zero (32 - p .len));
+      each = every-append (take (p .len) (p .entries)) (replicate (pathPlaces - p .len) zeroEntry) (every-take (p .len) (p .entries) (f .each)) (every-zero (pathPlaces - p .len));
     }
 
-pub path-length : (p : Path) → PathFits p → p .len ≤ 32 → length (pathBytes p) ≡ 1025
+pub path-length : (p : Path) → PathFits p → p .len ≤ pathPlaces → length (pathBytes p) ≡ pathSize
 path-length p f h =
     let w = written-fits p f h in
     rw (length-append, length-le, entries-length (asWritten p .entries) (w .each), w .places)
 
 -- ---- the stores of a path
 
-front-length : (p : Path) (i : ℕ) → PathFits p → i ≤ 32 → length (coordEntriesBytes (take i (p .entries))) ≡ i * 32
+front-length : (p : Path) (i : ℕ) → PathFits p → i ≤ pathPlaces → length (coordEntriesBytes (take i (p .entries))) ≡ i * coordEntrySize
 front-length p i f h =
     let n = f .places in
-    entries-length (take i (p .entries)) (every-take i (p .entries) (f .each)) ∙ ap (λ (x : ℕ). x * 32) (length-take-le i (p .entries) (omega arith))
+    entries-length (take i (p .entries)) (every-take i (p .entries) (f .each)) ∙ ap (λ (x : ℕ). x * coordEntrySize) (length-take-le i (p .entries) (omega arith))
 
 -- a turn of the loop
-pub entries-turn : (l s t : List ℕ) (at i : ℕ) (p : Path) → PathFits p → i < p .len → p .len ≤ 32 → s ≡ sets l at (coordEntriesBytes (take i (p .entries)))
-    → t ≡ sets s (at + i * 32) (coordEntriesBytes (getD (p .entries) i noEntry ∷ [])) → t ≡ sets l at (coordEntriesBytes (take (i + 1) (p .entries)))
+pub entries-turn : (l s t : List ℕ) (at i : ℕ) (p : Path) → PathFits p → i < p .len → p .len ≤ pathPlaces → s ≡ sets l at (coordEntriesBytes (take i (p .entries)))
+    → t ≡ sets s (at + i * coordEntrySize) (coordEntriesBytes (getD (p .entries) i noEntry ∷ [])) → t ≡ sets l at (coordEntriesBytes (take (i + 1) (p .entries)))
 entries-turn l s t at i p f h k e g =
     let es = p .entries in
     let n = f .places in
     let b : i < length es = omega arith in
     let q : take (i + 1) es ≡ take i es ++ (getD es i noEntry ∷ []) = rw add-one (take-suc es i noEntry b) in
-    g ∙ ap (λ (x : List ℕ). sets x (at + i * 32) (coordEntriesBytes (getD es i noEntry ∷ []))) e
-    ∙ behind l (coordEntriesBytes (take i es)) (coordEntriesBytes (getD es i noEntry ∷ [])) at (i * 32) (front-length p i f (omega arith))
+    g ∙ ap (λ (x : List ℕ). sets x (at + i * coordEntrySize) (coordEntriesBytes (getD es i noEntry ∷ []))) e
+    ∙ behind l (coordEntriesBytes (take i es)) (coordEntriesBytes (getD es i noEntry ∷ [])) at (i * coordEntrySize) (front-length p i f (omega arith))
     ∙ ap (sets l at) (sym (ap coordEntriesBytes q ∙ entries-append (take i es) (getD es i noEntry ∷ [])))
 
 -- the length, the elements, and zeros past them are the path's bytes
-pub path-stored : (l : List ℕ) (at : ℕ) (p : Path) → PathFits p → p .len ≤ 32
-    → sets (sets (sets l at (leBytes 1 (p .len))) (at + 1) (coordEntriesBytes (take (p .len) (p .entries)))) (at + 1 + p .len * 32) (replicate (at + 1025 - (at + 1 + p .len * 32)) 0)
+pub path-stored : (l : List ℕ) (at : ℕ) (p : Path) → PathFits p → p .len ≤ pathPlaces
+    → sets (sets (sets l at (leBytes 1 (p .len))) (at + 1) (coordEntriesBytes (take (p .len) (p .entries)))) (at + 1 + p .len * coordEntrySize) (replicate (at + pathSize - (at + 1 + p .len * coordEntrySize)) 0)
     ≡ sets l at (pathBytes p)
 unfolding asWritten elements
 path-stored l at p f h =
     let n = p .len in
     let es = take n (p .entries) in
-    let a : at + 1 + n * 32 ≡ at + (1 + n * 32) = omega arith in
-    let z : at + 1025 - (at + (1 + n * 32)) ≡ (32 - n) * 32 = omega arith in
-    rw (a, z, ← entries-zero (32 - n), entries-append es (replicate (32 - n) zeroEntry))
-    (three l (leBytes 1 n) (coordEntriesBytes es) (coordEntriesBytes (replicate (32 - n) zeroEntry)) at 1 (1 + n * 32) (length-le 1 n) (omega (arith, front-length p n f h)))
+    let a : at + 1 + n * coordEntrySize ≡ at + (1 + n * coordEntrySize) = omega arith in
+    let z : at + pathSize - (at + (1 + n * coordEntrySize)) ≡ (pathPlaces - n) * coordEntrySize = omega arith in
+    rw (a, z, ← entries-zero (pathPlaces - n), entries-append es (replicate (pathPlaces - n) zeroEntry))
+    (three l (leBytes 1 n) (coordEntriesBytes es) (coordEntriesBytes (replicate (pathPlaces - n) zeroEntry)) at 1 (1 + n * coordEntrySize) (length-le 1 n) (omega (arith, front-length p n f h)))
 
 -- ---- what a path's bytes are read as
 
@@ -123,23 +124,23 @@ entries-view zero (x ∷ xs) t l h = absurd (let z : ⊥ = omega arith in z)
 entries-view (suc n) [] t l h = absurd (let z : ⊥ = omega arith in z)
 entries-view (suc n) (x ∷ xs) t l h =
     let c = addrBytes (x .«node_addr») ++ (leBytes 8 (x .sequence) ++ leBytes 8 (x .timestamp)) in
-    let k : length c ≡ 32 = simp (length-append, length-le) (omega (arith, h .0 .address .size)) in
-    rw (entries-cons x xs, append-assoc c (coordEntriesBytes xs) t, take-at c (coordEntriesBytes xs ++ t) 32 k, drop-at c (coordEntriesBytes xs ++ t) 32 k, element-view x (h .0), entries-view n xs t (omega arith) (h .1))
+    let k : length c ≡ coordEntrySize = simp (length-append, length-le) (omega (arith, h .0 .address .size)) in
+    rw (entries-cons x xs, append-assoc c (coordEntriesBytes xs) t, take-at c (coordEntriesBytes xs ++ t) coordEntrySize k, drop-at c (coordEntriesBytes xs ++ t) coordEntrySize k, element-view x (h .0), entries-view n xs t (omega arith) (h .1))
 
-path-entry : (p : Path) → PathFits p → p .len ≤ 32 → (e : List ℕ) → length e ≡ 1061 → entryOf (sets e 0 (pathBytes p)) ≡ withPath p (entryOf e)
+path-entry : (p : Path) → PathFits p → p .len ≤ pathPlaces → (e : List ℕ) → length e ≡ entrySize → entryOf (sets e 0 (pathBytes p)) ≡ withPath p (entryOf e)
 unfolding entryOf pathOf withPath asWritten
 path-entry p f h e k =
     let w = written-fits p f h in
     let b = leBytes 1 (p .len) in
     let xs = asWritten p .entries in
     let vs = b ++ coordEntriesBytes xs in
-    let n : length vs ≡ 1025 = path-length p f h in
+    let n : length vs ≡ pathSize = path-length p f h in
     let s : sets e 0 vs ≡ b ++ (coordEntriesBytes xs ++ drop (0 + length vs) e) = sets-eq vs e 0 (omega arith) ∙ append-assoc b (coordEntriesBytes xs) _ in
     let l : leNumber (cut 0 1 (sets e 0 vs)) ≡ p .len = rw (s, take-at b (coordEntriesBytes xs ++ drop (0 + length vs) e) 1 (length-le 1 (p .len))) (num-le 1 (p .len) (small1 (p .len) (omega arith))) in
-    let d : coordEntriesOf 32 (drop 1 (sets e 0 vs)) ≡ xs = rw (s, drop-at b (coordEntriesBytes xs ++ drop (0 + length vs) e) 1 (length-le 1 (p .len))) (entries-view 32 xs _ (w .places) (w .each)) in
-    let a : (o m : ℕ) → 1025 ≤ o → cut o m (sets e 0 vs) ≡ cut o m e = λ o m q. cut-else e vs 0 o m (inr (omega arith)) in
-    rw (l, d, a 1025 8 (omega arith), a 1033 8 (omega arith), a 1041 8 (omega arith), a 1049 1 (omega arith), a 1050 2 (omega arith), a 1052 1 (omega arith), a 1053 8 (omega arith))
+    let d : coordEntriesOf pathPlaces (drop 1 (sets e 0 vs)) ≡ xs = rw (s, drop-at b (coordEntriesBytes xs ++ drop (0 + length vs) e) 1 (length-le 1 (p .len))) (entries-view pathPlaces xs _ (w .places) (w .each)) in
+    let a : (o m : ℕ) → createdAtOffset ≤ o → cut o m (sets e 0 vs) ≡ cut o m e = λ o m q. cut-else e vs 0 o m (inr (omega arith)) in
+    rw (l, d, a createdAtOffset 8 (omega arith), a lastUsedOffset 8 (omega arith), a expiresAtOffset 8 (omega arith), a mtuMarkOffset 1 (omega arith), a mtuOffset 2 (omega arith), a sourceOffset 1 (omega arith), a verifiedUntilOffset 8 (omega arith))
 
-pub path-view : (l : List ℕ) (n i : ℕ) (p : Path) → PathFits p → p .len ≤ 32 → i < n → 40 + n * 1095 ≤ length l
-    → viewRows n (sets l (40 + i * 1095 + 16) (pathBytes p)) ≡ rewrite (withPath p) i (viewRows n l)
+pub path-view : (l : List ℕ) (n i : ℕ) (p : Path) → PathFits p → p .len ≤ pathPlaces → i < n → headSize + n * rowSize ≤ length l
+    → viewRows n (sets l (headSize + i * rowSize + entryOffset) (pathBytes p)) ≡ rewrite (withPath p) i (viewRows n l)
 path-view l n i p f h g k = entry-store (withPath p) 0 (pathBytes p) (omega (arith, path-length p f h)) (path-entry p f h) n i l g k

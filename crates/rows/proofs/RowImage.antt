@@ -5,13 +5,14 @@ use Prim.Native.Nat.{ℕ, _+_, _≤_}
 use native.Mathlib.Omega.{arith}
 use lib.ListN.{length, take, drop, length-append, length-drop}
 use lib.Seq.{sets, take-all}
-use Rattle.types.specs.Paths.{asWritten}
+use Rattle.types.specs.Paths.{asWritten, pathPlaces}
 use Rattle.rules.specs.Records.{Row, State}
 use Rattle.rules.specs.Memory.{leBytes, entryBytes, rowBytes, rowsBytes, memory, rowOf, rowsOf, heldRows, view, viewRows}
 use Rattle.rules.specs.Lent.{Small, AddrFits, PathFits}
 use Rattle.rules.proofs.ViewLaws.{RowFits, Fits, length-le, memory-length, memory-view}
 use Rattle.rules.proofs.Foreign.{rows-of-length}
 use Rattle.rules.proofs.Sizes.{small1}
+use Rattle.rules.specs.Layout.{createdAtInRow, entryOffset, headSize, memorySize, mtuMarkInRow, placeOffset, rowSize}
 use Rattle.rows.specs.declared.row.NewRow.{NewRow}
 use Rattle.rows.specs.Insertions.{pathBytes, rowFrom}
 use Rattle.rows.proofs.Runs.{five}
@@ -33,13 +34,13 @@ unfolding rowBytes entryBytes rowFrom asWritten
 row-parts r = simp append-assoc
 
 -- its parts stored one behind the other
-pub row-stored : (l : List ℕ) (at : ℕ) (r : NewRow) → AddrFits (r .key) → PathFits (r .path) → r .path .len ≤ 32
-    → sets (sets (sets (sets (sets l at (r .key .0)) (at + 16) (pathBytes (r .path))) (at + 1041) (timesBytes r)) (at + 1065) (marksBytes r)) (at + 1077) (stampBytes r) ≡ sets l at (rowBytes (rowFrom r))
+pub row-stored : (l : List ℕ) (at : ℕ) (r : NewRow) → AddrFits (r .key) → PathFits (r .path) → r .path .len ≤ pathPlaces
+    → sets (sets (sets (sets (sets l at (r .key .0)) (at + 16) (pathBytes (r .path))) (at + createdAtInRow) (timesBytes r)) (at + mtuMarkInRow) (marksBytes r)) (at + placeOffset) (stampBytes r) ≡ sets l at (rowBytes (rowFrom r))
 row-stored l at r k p h =
-    five l (r .key .0) (pathBytes (r .path)) (timesBytes r) (marksBytes r) (stampBytes r) at 16 1041 1065 1077 (k .size) (omega (arith, path-length (r .path) p h)) (simp (length-append, length-le)) (simp (length-append, length-le))
+    five l (r .key .0) (pathBytes (r .path)) (timesBytes r) (marksBytes r) (stampBytes r) at entryOffset createdAtInRow mtuMarkInRow placeOffset (k .size) (omega (arith, path-length (r .path) p h)) (simp (length-append, length-le)) (simp (length-append, length-le))
     ∙ ap (sets l at) (row-parts r)
 
-pub new-row-fits : (r : NewRow) → AddrFits (r .key) → PathFits (r .path) → r .path .len ≤ 32 → Small 8 (r .«created_at») × Small 8 (r .«last_used») × Small 8 (r .«expires_at»)
+pub new-row-fits : (r : NewRow) → AddrFits (r .key) → PathFits (r .path) → r .path .len ≤ pathPlaces → Small 8 (r .«created_at») × Small 8 (r .«last_used») × Small 8 (r .«expires_at»)
     → Small 1 (r .«mtu_mark») × Small 2 (r .mtu) × Small 1 (r .source) × Small 8 (r .«verified_until») → Small 1 (r .place) × Small 8 (r .«stamp_first») × Small 8 (r .«stamp_seq») × Small 1 (r .weight) → RowFits (rowFrom r)
 unfolding rowFrom asWritten
 new-row-fits r k p h t m s =
@@ -58,21 +59,21 @@ new-row-fits r k p h t m s =
 abbrev alone : Row → State
 alone r = record { maxEntries = 0; defaultTtl = 0; seq = 0; storedWeight = 0; rowCount = 1; rows = r ∷ []; rest = [] }
 
-alone-fits : (r : Row) → RowFits r → Fits 1135 (alone r)
+alone-fits : (r : Row) → RowFits r → Fits (memorySize 1) (alone r)
 alone-fits r h = record { maxEntries = omega arith; defaultTtl = omega arith; seq = omega arith; storedWeight = omega arith; rowCount = omega arith; counted = refl; rows = (h, tt); rest = tt; size = omega arith }
 
-alone-row : (r : Row) → drop 40 (memory (alone r)) ≡ rowBytes r
+alone-row : (r : Row) → drop headSize (memory (alone r)) ≡ rowBytes r
 unfolding memory rowsBytes leBytes
 alone-row r = append-nil (rowBytes r ++ []) ∙ append-nil (rowBytes r)
 
-pub row-length : (r : Row) → RowFits r → length (rowBytes r) ≡ 1095
-row-length r h = sym (ap length (alone-row r)) ∙ length-drop 40 (memory (alone r)) ∙ omega (arith, memory-length 1135 (alone r) (alone-fits r h))
+pub row-length : (r : Row) → RowFits r → length (rowBytes r) ≡ rowSize
+row-length r h = sym (ap length (alone-row r)) ∙ length-drop headSize (memory (alone r)) ∙ omega (arith, memory-length (memorySize 1) (alone r) (alone-fits r h))
 
 pub row-view : (r : Row) → RowFits r → rowOf (rowBytes r) ≡ r
 unfolding view viewRows rowsOf
 row-view r h =
     let m = memory (alone r) in
-    let v : rowsOf (heldRows m) (drop 40 m) ≡ r ∷ [] = ap (λ (s : State). s .rows) (memory-view 1135 (alone r) (alone-fits r h)) in
-    let n : heldRows m ≡ 1 = sym (rows-of-length (heldRows m) (drop 40 m)) ∙ ap length v in
-    let f : take 1095 (drop 40 m) ≡ rowBytes r = ap (take 1095) (alone-row r) ∙ take-all 1095 (rowBytes r) (omega (arith, row-length r h)) in
+    let v : rowsOf (heldRows m) (drop headSize m) ≡ r ∷ [] = ap (λ (s : State). s .rows) (memory-view (memorySize 1) (alone r) (alone-fits r h)) in
+    let n : heldRows m ≡ 1 = sym (rows-of-length (heldRows m) (drop headSize m)) ∙ ap length v in
+    let f : take rowSize (drop headSize m) ≡ rowBytes r = ap (take rowSize) (alone-row r) ∙ take-all rowSize (rowBytes r) (omega (arith, row-length r h)) in
     ap rowOf (sym f) ∙ head-eq-of-cons-eq (rw n at v)

@@ -6,13 +6,10 @@ use lib.ListN.{length, take, drop}
 use Rattle.types.specs.declared.coord.Path.{Path}
 use Rattle.types.specs.Paths.{asWritten}
 use Rattle.rules.specs.Records.{Entry, Row, State}
-use Rattle.rules.specs.Rows.{rowSize, withoutRow, withRows}
+use Rattle.rules.specs.Rows.{withoutRow, withRows}
 use Rattle.rules.specs.Memory.{leBytes, coordEntriesBytes}
+use Rattle.rules.specs.Layout.{rowSize}
 use Rattle.rows.specs.declared.row.NewRow.{NewRow}
-
--- the length and 32 places
-abbrev pub pathSize : ℕ
-pathSize = 1025
 
 -- places past the length are zero
 abbrev pub pathBytes : Path → List ℕ

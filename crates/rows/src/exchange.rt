@@ -1,14 +1,14 @@
 // A row leaves, and another goes in: only the rows between the two places move.
 use crate::row;
 use crate::row::NewRow;
-use memory::head::HEAD;
-use memory::head::ROW;
+use raw::layout::HEAD;
+use raw::layout::ROW;
 ghost use mathlib.Core.Path.{_≡_};
 ghost use Prim.Native.Nat.{_+_, _*_, _≤_, _<_};
 ghost use lib.ListN.{length};
 ghost use Rattle.types.specs.Paths.{pathPlaces};
-ghost use Rattle.rules.specs.Rows.{rowSize};
-ghost use Rattle.rules.specs.Memory.{headSize, viewRows};
+ghost use Rattle.rules.specs.Memory.{viewRows};
+ghost use Rattle.rules.specs.Layout.{headSize, rowSize};
 ghost use Rattle.rows.specs.Insertions.{rowFrom, exchanged, Opened};
 
 // Row i is overwritten by the rows that move, and row j is free to be written.

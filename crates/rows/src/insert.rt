@@ -3,16 +3,16 @@ use crate::row;
 use crate::row::NewRow;
 use crate::values;
 use memory::head;
-use memory::head::HEAD;
-use memory::head::ROW;
+use raw::layout::HEAD;
+use raw::layout::ROW;
 use types::coord::Path;
 ghost use mathlib.Core.Path.{_≡_};
 ghost use Prim.Native.Nat.{_+_, _*_, _≤_, _<_};
 ghost use lib.ListN.{length};
 ghost use Rattle.types.specs.Paths.{pathPlaces};
-ghost use Rattle.rules.specs.Rows.{rowSize};
 ghost use Rattle.rules.specs.Lookups.{rewrite};
-ghost use Rattle.rules.specs.Memory.{headSize, viewRows};
+ghost use Rattle.rules.specs.Memory.{viewRows};
+ghost use Rattle.rules.specs.Layout.{headSize, rowSize};
 ghost use Rattle.rows.specs.Insertions.{rowFrom, inserted, withPath};
 
 // The rows from i on move up by a row, and row i is new.
@@ -31,5 +31,5 @@ pub fn set_path(state: &mut [u8], n: usize, i: usize, p: Path)
     requires { ⌜ (i < n) × (headSize + n * rowSize ≤ length (now state)) × (p .len ≤ pathPlaces) ⌝ }
     ensures { λ _. ⌜ viewRows n (now (state .exit)) ≡ rewrite (withPath p) i (viewRows n (now (state .entry))) ⌝ }
 {
-    values::store_path(state, HEAD + i * ROW + 16, p);
+    values::store_path(state, HEAD + i * ROW + raw::layout::ENTRY, p);
 }

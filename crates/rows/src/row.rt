@@ -1,5 +1,6 @@
 // A row by value, and its bytes. The offsets are those of docs/PACKING.md.
 use crate::values;
+use raw::layout;
 use types::coord::Path;
 use types::node_addr::NodeAddr;
 ghost use mathlib.Core.Path.{_≡_};
@@ -8,10 +9,10 @@ ghost use Prim.Native.Nat.{_+_, _≤_};
 ghost use lib.ListN.{length};
 ghost use lib.Seq.{sets};
 ghost use Rattle.types.specs.Paths.{pathPlaces};
-ghost use Rattle.rules.specs.Rows.{rowSize};
 ghost use Rattle.rules.specs.Memory.{leBytes, rowBytes};
 ghost use Rattle.rules.specs.Lent.{Small};
 ghost use Rattle.rules.proofs.ViewLaws.{RowFits};
+ghost use Rattle.rules.specs.Layout.{rowSize};
 ghost use Rattle.rows.specs.Insertions.{rowFrom};
 
 pub struct NewRow {
@@ -69,8 +70,28 @@ pub fn write_row(s: &mut [u8], at: usize, r: NewRow)
     ensures { λ _. ⌜ RowFits (rowFrom r) ⌝ }
 {
     values::store_addr(s, at, r.key);
-    values::store_path(s, at + 16, r.path);
-    write_times(s, at + 1041, r.created_at, r.last_used, r.expires_at);
-    write_marks(s, at + 1065, r.mtu_mark, r.mtu, r.source, r.verified_until);
-    write_stamp(s, at + 1077, r.place, r.stamp_first, r.stamp_seq, r.weight);
+    values::store_path(s, at + layout::ENTRY, r.path);
+    write_times(
+        s,
+        at + layout::CREATED_AT,
+        r.created_at,
+        r.last_used,
+        r.expires_at,
+    );
+    write_marks(
+        s,
+        at + layout::MTU_MARK,
+        r.mtu_mark,
+        r.mtu,
+        r.source,
+        r.verified_until,
+    );
+    write_stamp(
+        s,
+        at + layout::PLACE,
+        r.place,
+        r.stamp_first,
+        r.stamp_seq,
+        r.weight,
+    );
 }

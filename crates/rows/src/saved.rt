@@ -1,16 +1,16 @@
 // A row that goes in again with the bytes that it had.
 use memory::head;
-use memory::head::HEAD;
-use memory::head::ROW;
+use raw::layout::HEAD;
+use raw::layout::ROW;
 ghost use mathlib.Core.Path.{_≡_};
 ghost use Prim.Native.Nat.{_+_, _*_, _≤_};
 ghost use lib.ListN.{length};
 ghost use lib.Seq.{sets};
-ghost use Rattle.rules.specs.Rows.{rowSize};
-ghost use Rattle.rules.specs.Memory.{headSize, rowOf, viewRows};
+ghost use Rattle.rules.specs.Memory.{rowOf, viewRows};
+ghost use Rattle.rules.specs.Layout.{headSize, rowSize};
 ghost use Rattle.rows.specs.Insertions.{inserted};
 
-fn store_saved(s: &mut [u8], at: usize, row: [u8; 1095])
+fn store_saved(s: &mut [u8], at: usize, row: [u8; ROW])
     requires { ⌜ at + rowSize ≤ length (now s) ⌝ }
     ensures { λ _. ⌜ now (s .exit) ≡ sets (now (s .entry)) at row ⌝ }
     ensures { λ _. ⌜ length row ≡ rowSize ⌝ }
@@ -23,7 +23,7 @@ fn store_saved(s: &mut [u8], at: usize, row: [u8; 1095])
 }
 
 // The rows from i on move up by a row, and row i has these bytes.
-pub fn insert_saved(state: &mut [u8], n: usize, i: usize, row: [u8; 1095])
+pub fn insert_saved(state: &mut [u8], n: usize, i: usize, row: [u8; ROW])
     requires { ⌜ (i ≤ n) × (headSize + (n + 1) * rowSize ≤ length (now state)) ⌝ }
     ensures { λ _. ⌜ viewRows (n + 1) (now (state .exit)) ≡ inserted i (rowOf row) (viewRows n (now (state .entry))) ⌝ }
 {

@@ -1,4 +1,9 @@
 // An address, a path element and a path, written at an offset.
+use raw::layout::BYTE;
+use raw::layout::ELEMENT;
+use raw::layout::PATH;
+use raw::layout::SEQUENCE;
+use raw::layout::TIMESTAMP;
 use types::coord::CoordEntry;
 use types::coord::Path;
 use types::node_addr::NodeAddr;
@@ -8,9 +13,10 @@ ghost use Prim.Native.Nat.{_+_, _≤_};
 ghost use lib.ListN.{length};
 ghost use lib.Seq.{sets};
 ghost use Rattle.types.specs.Paths.{pathPlaces};
-ghost use Rattle.rules.specs.Memory.{addressSize, coordEntrySize, addrBytes, coordEntriesBytes};
+ghost use Rattle.rules.specs.Memory.{addrBytes, coordEntriesBytes};
 ghost use Rattle.rules.specs.Lent.{AddrFits, CoordEntryFits, PathFits};
-ghost use Rattle.rows.specs.Insertions.{pathSize, pathBytes};
+ghost use Rattle.rules.specs.Layout.{addressSize, coordEntrySize, pathSize};
+ghost use Rattle.rows.specs.Insertions.{pathBytes};
 
 pub fn store_addr(s: &mut [u8], at: usize, a: NodeAddr)
     requires { ⌜ at + addressSize ≤ length (now s) ⌝ }
@@ -31,8 +37,8 @@ pub fn store_coord_entry(s: &mut [u8], at: usize, e: CoordEntry)
     ensures { λ _. ⌜ CoordEntryFits e ⌝ }
 {
     store_addr(s, at, e.node_addr);
-    raw::numbers::write_u64(s, at + 16, e.sequence);
-    raw::numbers::write_u64(s, at + 24, e.timestamp);
+    raw::numbers::write_u64(s, at + SEQUENCE, e.sequence);
+    raw::numbers::write_u64(s, at + TIMESTAMP, e.timestamp);
 }
 
 // The length, the elements up to it, and zeros past them.
@@ -46,10 +52,10 @@ pub fn store_path(s: &mut [u8], at: usize, p: Path)
     let mut i = 0;
     while i < n {
         let e = p.entries[i];
-        store_coord_entry(s, at + 1 + i * 32, e);
+        store_coord_entry(s, at + BYTE + i * ELEMENT, e);
         i += 1;
     }
-    let from = at + 1 + n * 32;
-    let to = at + 1025;
+    let from = at + BYTE + n * ELEMENT;
+    let to = at + PATH;
     raw::moves::fill_zero(s, from, to);
 }

@@ -11,7 +11,7 @@ use native.Mathlib.Omega.{arith}
 use Rattle.types.specs.declared.coord.Path.{Path}
 use Rattle.types.specs.declared.node_addr.NodeAddr.{NodeAddr}
 use Rattle.types.specs.Addresses.{sameAddr}
-use Rattle.types.specs.Paths.{asWritten, contains, pathWeight, rootOf, startsAt}
+use Rattle.types.specs.Paths.{asWritten, contains, pathWeight, rootOf, startsAt, pathPlaces}
 use Rattle.types.specs.Values.{covers}
 use Rattle.rules.specs.Cases.{Every, maybe}
 use Rattle.rules.specs.Records.{Entry, Row, State, byUse, mainBound, parked, verifiedSource}
@@ -129,12 +129,12 @@ own-of a s k h = every-map (λ y e q. sym e ∙ ap a q) (cores (s .rows)) h
 
 pub path-ok : (p : Path) → badPath p ≡ false → PathOk p
 unfolding badPath
-path-ok p h = go (eqb (p .len) 0) refl (ltb 32 (p .len)) refl h
+path-ok p h = go (eqb (p .len) 0) refl (ltb pathPlaces (p .len)) refl h
   where
-    go : (a : Bool) → eqb (p .len) 0 ≡ a → (b : Bool) → ltb 32 (p .len) ≡ b → a || b ≡ false → PathOk p
+    go : (a : Bool) → eqb (p .len) 0 ≡ a → (b : Bool) → ltb pathPlaces (p .len) ≡ b → a || b ≡ false → PathOk p
     go true e b d g = contradiction {b = true} refl g
     go false e true d g = contradiction {b = true} refl g
-    go false e false d g = record { long = omega (arith, eqb-false (p .len) 0 e); short = omega (arith, ltb-false 32 (p .len) d) }
+    go false e false d g = record { long = omega (arith, eqb-false (p .len) 0 e); short = omega (arith, ltb-false pathPlaces (p .len) d) }
 
 keeps-hint : (R : ℕ) (a : NodeAddr → ℕ) (s : State) (q : Call) (k : NodeAddr) (p : Path) (ttl : ℕ) (st : Bool) → keyNamed q ≡ some k → badPath p ≡ false → Sound R s → Accounted a s → CallKeeps R a s q (hinted (placeHint k p (clock q) ttl (fundingOf q) st s))
 unfolding hinted gives withinFunding examinedOf wasRefused chargeOf accountAfter

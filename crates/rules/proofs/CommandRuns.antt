@@ -10,7 +10,7 @@ use lib.ListN.{length, take, drop, set, length-drop}
 use borrow.Author.Tests.{eqb-false, eqb-true, le-ltb, leb-false, leb-true, lt-ltb}
 use Rattle.types.specs.declared.coord.Path.{Path}
 use Rattle.types.specs.declared.coord.Appended.{Appended}
-use Rattle.types.specs.Paths.{appended, emptyPath}
+use Rattle.types.specs.Paths.{appended, emptyPath, pathPlaces}
 use Rattle.types.specs.declared.placed.Funding.{Funding}
 use Rattle.types.specs.declared.placed.Funding.the-variants.{Uncharged}
 use Rattle.types.specs.Values.{placedReply, refuses, says, statsReply, verifiedReply}
@@ -144,7 +144,7 @@ served-below-six R s x p = subst (λ (n : ℕ). n ≤ 5) (sym (reply-number (ser
 
 obeyed-below-six : (R : ℕ) (s : Session) (c : Command) → obey R s c .reply .refusal ≤ 5
 unfolding obey pended appended says refuses
-obeyed-below-six R s (Element e) = go (ltb (s .pending .len) 32)
+obeyed-below-six R s (Element e) = go (ltb (s .pending .len) pathPlaces)
   where
     go : (b : Bool) → let a : Appended = cond b (record { refusal = 0; path = record { entries = set (s .pending .entries) (s .pending .len) e; len = s .pending .len + 1 } }) (record { refusal = 2; path = s .pending }) in cond (eqb (a .refusal) 0) (says (a .path .len) 0 0 0 0) (refuses (a .refusal)) .refusal ≤ 5
     go true = omega arith

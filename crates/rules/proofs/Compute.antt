@@ -9,7 +9,7 @@ use Rattle.types.specs.declared.coord.CoordEntry.{CoordEntry}
 use Rattle.types.specs.declared.coord.Path.{Path}
 use Rattle.types.specs.declared.node_addr.NodeAddr.{NodeAddr}
 use Rattle.types.specs.Addresses.{addrBefore, bytesBefore, sameAddr, sameBytes}
-use Rattle.types.specs.Paths.{among, appended, asWritten, contains, elements, emptyPath, firstIs, lastAddr, pathWeight, rootOf, sameEntries, sameEntry, samePath, startsAt, zeroEntry}
+use Rattle.types.specs.Paths.{among, appended, asWritten, contains, elements, emptyPath, firstIs, lastAddr, pathWeight, rootOf, sameEntries, sameEntry, samePath, startsAt, zeroEntry, pathPlaces}
 use Rattle.types.specs.declared.placed.HintOutcome.{HintOutcome}
 use Rattle.types.specs.declared.placed.Segment.{Segment}
 use Rattle.types.specs.Values.{bit, covers, outcomeCode, placedReply, refuses, says, segmentCode, sourceOf, statsReply, tallied, verifiedReply}
@@ -37,7 +37,7 @@ elementsFrom a zero = []
 elementsFrom a (suc n) = record { «node_addr» = addr a; sequence = 0; timestamp = 0 } ∷ replicate n (record { «node_addr» = addr 90; sequence = 0; timestamp = 0 })
 
 unfoldable pub pathFrom : ℕ → ℕ → Path
-pathFrom a n = record { entries = take 32 (elementsFrom a n ++ replicate 32 zeroEntry); len = n }
+pathFrom a n = record { entries = take pathPlaces (elementsFrom a n ++ replicate pathPlaces zeroEntry); len = n }
 
 -- a path of n elements that starts at no key of the examples
 unfoldable pub path : ℕ → Path

@@ -1,5 +1,5 @@
 -- Closed examples that the original cannot show: foreign states, refusals and their order, rows vacated, the memory.
-use Prim.Native.Nat.{ℕ}
+use Prim.Native.Nat.{ℕ, _+_}
 use mathlib.Core.Path.{_≡_, refl}
 use mathlib.Core.List.{List, [], _∷_, _++_, map}
 use mathlib.Core.Option.{none, some}
@@ -13,7 +13,7 @@ use Rattle.types.specs.declared.placed.Funding.the-variants.{Upto}
 use Rattle.types.specs.declared.placed.HintOutcome.the-variants.{Inserted}
 use Rattle.types.specs.declared.placed.Segment.the-variants.{Main}
 use Rattle.types.specs.Values.{mtuMarkOf, sourceCode}
-use Rattle.rules.specs.Records.{Row, State, hintSource, noMtu, someMtu, verifiedSource}
+use Rattle.rules.specs.Records.{Row, State, hintSource, noMtu, someMtu, verifiedSource, maxRows}
 use Rattle.rules.specs.Rows.{inMain, weighRows, zeroRows}
 use Rattle.rules.specs.Calls.{Answer, Call, Clear, ClearPathMtu, Demote, Done, Get, GetAndTouch, Insert, InsertFunded, InsertStated, InsertVerified, InsertVerifiedWithPathMtu, InsertWithTtl, InvalidateOtherRoots, InvalidateViaNode, NextExpiry, PathFound, PurgeExpired, Refused, Remove, RowsRemoved, Stats}
 use Rattle.rules.specs.Refusals.{Asked, Fresh, fresh, refusal, serve, step}
@@ -118,7 +118,7 @@ unfolding holding seenFrom
 five = refl
 
 -- R 1,024 is not too many, 1,025 is; R 1 is enough for max 0, and R 66 for max 64
-five-at-the-limits : refusal 1024 (holding 2 0 []) (Fresh 0 1) ∷ refusal 1025 (holding 2 0 []) (Fresh 0 1) ∷ refusal 1 (holding 2 0 []) (Fresh 0 1) ∷ refusal 0 (holding 2 0 []) (Fresh 0 1) ∷ refusal 66 (holding 2 0 []) (Fresh 64 1) ∷ refusal 65 (holding 2 0 []) (Fresh 64 1) ∷ [] ≡ none ∷ some 5 ∷ none ∷ some 5 ∷ none ∷ some 5 ∷ []
+five-at-the-limits : refusal maxRows (holding 2 0 []) (Fresh 0 1) ∷ refusal (maxRows + 1) (holding 2 0 []) (Fresh 0 1) ∷ refusal 1 (holding 2 0 []) (Fresh 0 1) ∷ refusal 0 (holding 2 0 []) (Fresh 0 1) ∷ refusal 66 (holding 2 0 []) (Fresh 64 1) ∷ refusal 65 (holding 2 0 []) (Fresh 64 1) ∷ [] ≡ none ∷ some 5 ∷ none ∷ some 5 ∷ none ∷ some 5 ∷ []
 unfolding holding seenFrom
 five-at-the-limits = refl
 

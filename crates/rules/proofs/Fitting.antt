@@ -13,7 +13,7 @@ use Rattle.types.specs.declared.coord.CoordEntry.{CoordEntry}
 use Rattle.types.specs.declared.coord.Path.{Path}
 use Rattle.types.specs.declared.node_addr.NodeAddr.{NodeAddr}
 use Rattle.types.specs.Addresses.{sameAddr}
-use Rattle.types.specs.Paths.{asWritten, contains, elements, pathWeight, rootOf, startsAt, zeroEntry}
+use Rattle.types.specs.Paths.{asWritten, contains, elements, pathWeight, rootOf, startsAt, zeroEntry, pathPlaces}
 use Rattle.types.specs.declared.placed.Funding.the-variants.{Uncharged, Upto}
 use Rattle.types.specs.declared.placed.Funding.{Funding}
 use Rattle.types.specs.Values.{covers}
@@ -37,6 +37,7 @@ use Rattle.rules.proofs.Refused.{Allowed, by-step}
 use Rattle.rules.proofs.CallsKeep.{path-ok}
 use Rattle.rules.proofs.SoundKept.{perform-keeps}
 use Rattle.rules.proofs.Sizes.{Lasting, Sized, change-sized, copies-bytes, file-sized, fits-sized, keep-sized, only-sized, probation-sized, refile-sized, room-sized, sized-fits, small1, small8, small8-less, sum-small, takeOut-sized, zero-bytes, zero-length}
+use Rattle.rules.specs.Layout.{headSize, rowSize}
 
 -- ---- what is given fits
 
@@ -62,15 +63,15 @@ every-zero (suc n) = (zero-fits, every-zero n)
 
 record WrittenFits (p : Path) : Type 0 where
   len : Small 1 (asWritten p .len)
-  entries : length (asWritten p .entries) ≡ 32
+  entries : length (asWritten p .entries) ≡ pathPlaces
   each : Every CoordEntryFits (asWritten p .entries)
 
 written-fits : (p : Path) → PathOk p → PathFits p → WrittenFits p
 unfolding asWritten elements
 written-fits p o f = record {
   len = small1 (p .len) (omega (arith, o .short));
-  entries = rw (length-append (take (p .len) (p .entries)) (replicate (32 - p .len) zeroEntry), length-take-le (p .len) (p .entries) (omega (arith, o .short, f .places)), length-replicate (32 - p .len) zeroEntry) (omega (arith, o .short));
-  each = every-append (take (p .len) (p .entries)) (replicate (32 - p .len) zeroEntry) (every-take (p .len) (p .entries) (f .each)) (every-zero (32 - p .len));
+  entries = rw (length-append (take (p .len) (p .entries)) (replicate (pathPlaces - p .len) zeroEntry), length-take-le (p .len) (p .entries) (omega (arith, o .short, f .places)), length-replicate (pathPlaces - p .len) zeroEntry) (omega (arith, o .short));
+  each = every-append (take (p .len) (p .entries)) (replicate (pathPlaces - p .len) zeroEntry) (every-take (p .len) (p .entries) (f .each)) (every-zero (pathPlaces - p .len));
 }
 
 zero8 : Small 8 0
@@ -109,7 +110,7 @@ held-fits B i s h l = every-at Lasting i (s .rows) l (h .lasting) .entry
 
 -- ---- placement
 
-module _ (R B : ℕ) (l : R * 1095 ≤ B) (k : NodeAddr) (kf : AddrFits k) where
+module _ (R B : ℕ) (l : R * rowSize ≤ B) (k : NodeAddr) (kf : AddrFits k) where
   -- a sound outcome is sized
   abbrev KeepsSize : PlaceResult → Type 0
   KeepsSize u = Sound R (u .state) → Sized B (u .state)
@@ -207,7 +208,7 @@ module _ (R B : ℕ) (l : R * 1095 ≤ B) (k : NodeAddr) (kf : AddrFits k) where
 
 -- ---- every call that is not refused
 
-module _ (R B : ℕ) (l : R * 1095 ≤ B) (s : State) (h : Sized B s) where
+module _ (R B : ℕ) (l : R * rowSize ≤ B) (s : State) (h : Sized B s) where
   abbrev StepKeepsSize : Step → Type 0
   StepKeepsSize t = Sound R (t .state) → Sized B (t .state)
 
@@ -294,14 +295,14 @@ seq-bounded R s q l = by-step R s q (λ (t : Step). t .state .seq < 184467440737
 
 -- ---- every call keeps what fits
 
-perform-fits : (R L : ℕ) (s : State) (q : Call) → 40 ≤ L → R * 1095 ≤ L - 40 → Typed q → Fits L s → Allowed R s q → perform s q .state .seq < 18446744073709551616 → Fits L (perform s q .state)
-perform-fits R L s q a l g h o b = let k = perform-keeps R s q o in sized-fits R L (perform s q .state) a (k .sound) (perform-sized R (L - 40) l s (fits-sized L s h) q g (o .path) (k .sound)) (rw (k .demand .defaultTtl) (h .defaultTtl)) b
+perform-fits : (R L : ℕ) (s : State) (q : Call) → headSize ≤ L → R * rowSize ≤ L - headSize → Typed q → Fits L s → Allowed R s q → perform s q .state .seq < 18446744073709551616 → Fits L (perform s q .state)
+perform-fits R L s q a l g h o b = let k = perform-keeps R s q o in sized-fits R L (perform s q .state) a (k .sound) (perform-sized R (L - headSize) l s (fits-sized L s h) q g (o .path) (k .sound)) (rw (k .demand .defaultTtl) (h .defaultTtl)) b
 
-pub step-fits : (R L : ℕ) (s : State) (q : Call) → 40 ≤ L → R * 1095 ≤ L - 40 → Typed q → Fits L s → Fits L (step R s q .state)
+pub step-fits : (R L : ℕ) (s : State) (q : Call) → headSize ≤ L → R * rowSize ≤ L - headSize → Typed q → Fits L s → Fits L (step R s q .state)
 unfolding gives
 step-fits R L s q a l g h = by-step R s q (λ (t : Step). (t .state .seq < 18446744073709551616) → Fits L (t .state)) (λ n b. h) (λ o b. perform-fits R L s q a l g h o b) (seq-bounded R s q (small8-less (s .seq) (h .seq)))
 
 -- a fresh state fits
-pub fresh-fits : (R m ttl : ℕ) (tail : List ℕ) → Small 8 m → Small 8 ttl → Bytes tail → Fits (40 + R * 1095 + length tail) (fresh R m ttl tail)
+pub fresh-fits : (R m ttl : ℕ) (tail : List ℕ) → Small 8 m → Small 8 ttl → Bytes tail → Fits (headSize + R * rowSize + length tail) (fresh R m ttl tail)
 unfolding fresh
 fresh-fits R m ttl tail a b c = record { maxEntries = a; defaultTtl = b; seq = zero8; storedWeight = zero8; rowCount = zero8; counted = refl; rows = tt; rest = bytes-append (zeroRows R) tail (zero-bytes R) c; size = rw (length-append (zeroRows R) tail, zero-length R) (omega arith) }

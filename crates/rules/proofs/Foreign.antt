@@ -12,6 +12,8 @@ use Rattle.rules.specs.Memory.{coordEntriesBytes, coordEntriesOf, coordE
 use Rattle.rules.specs.Lent.{AddrFits, Bytes, CoordEntryFits, Small}
 use Rattle.rules.proofs.MemoryLaws.{bytes-append, bytes-cut, bytes-drop, bytes-take, held-fits, length-cut}
 use Rattle.rules.proofs.ViewLaws.{EntryFits, Fits, RowFits}
+use Rattle.rules.specs.Layout.{coordEntrySize, createdAtOffset, entryOffset, entrySize, expiresAtOffset, headSize, lastUsedOffset, mtuMarkOffset, mtuOffset, placeOffset, rowCountOffset, rowSize, sourceOffset, stampFirstOffset, stampSeqOffset, verifiedUntilOffset, weightOffset}
+use Rattle.types.specs.Paths.{pathPlaces}
 
 -- ---- a number read from n bytes has n bytes
 
@@ -26,80 +28,80 @@ cut-small k w c h b = subst (λ (n : ℕ). Small n (leNumber (cut k w c))) (leng
 address-fits : (k : ℕ) (c : List ℕ) → k + 16 ≤ length c → Bytes c → AddrFits (record { 0 = cut k 16 c })
 address-fits k c h b = record { size = length-cut k 16 c h; bytes = bytes-cut k 16 c b }
 
-entry-of-fits : (c : List ℕ) → length c ≡ 32 → Bytes c → CoordEntryFits (coordEntryOf c)
+entry-of-fits : (c : List ℕ) → length c ≡ coordEntrySize → Bytes c → CoordEntryFits (coordEntryOf c)
 unfolding coordEntryOf
 entry-of-fits c h b = record { address = address-fits 0 c (omega arith) b; sequence = cut-small 16 8 c (omega arith) b; timestamp = cut-small 24 8 c (omega arith) b }
 
 entries-of-length : (n : ℕ) (l : List ℕ) → length (coordEntriesOf n l) ≡ n
 unfolding coordEntriesOf
 entries-of-length zero l = refl
-entries-of-length (suc n) l = ap suc (entries-of-length n (drop 32 l))
+entries-of-length (suc n) l = ap suc (entries-of-length n (drop coordEntrySize l))
 
-entries-of-fit : (n : ℕ) (l : List ℕ) → n * 32 ≤ length l → Bytes l → Every CoordEntryFits (coordEntriesOf n l)
+entries-of-fit : (n : ℕ) (l : List ℕ) → n * coordEntrySize ≤ length l → Bytes l → Every CoordEntryFits (coordEntriesOf n l)
 unfolding coordEntriesOf
 entries-of-fit zero l h b = tt
 entries-of-fit (suc n) l h b =
-    let d : n * 32 ≤ length (drop 32 l) = rw length-drop (omega arith) in
-    (entry-of-fits (take 32 l) (length-take-le 32 l (omega arith)) (bytes-take 32 l b), entries-of-fit n (drop 32 l) d (bytes-drop 32 l b))
+    let d : n * coordEntrySize ≤ length (drop coordEntrySize l) = rw length-drop (omega arith) in
+    (entry-of-fits (take coordEntrySize l) (length-take-le coordEntrySize l (omega arith)) (bytes-take coordEntrySize l b), entries-of-fit n (drop coordEntrySize l) d (bytes-drop coordEntrySize l b))
 
-entry-fits-of : (c : List ℕ) → length c ≡ 1061 → Bytes c → EntryFits (entryOf c)
+entry-fits-of : (c : List ℕ) → length c ≡ entrySize → Bytes c → EntryFits (entryOf c)
 unfolding entryOf pathOf
 entry-fits-of c h b =
-    let d : 32 * 32 ≤ length (drop 1 c) = rw length-drop (omega arith) in
+    let d : pathPlaces * coordEntrySize ≤ length (drop 1 c) = rw length-drop (omega arith) in
     record {
       len = cut-small 0 1 c (omega arith) b;
-      entries = entries-of-length 32 (drop 1 c);
-      each = entries-of-fit 32 (drop 1 c) d (bytes-drop 1 c b);
-      createdAt = cut-small 1025 8 c (omega arith) b;
-      lastUsed = cut-small 1033 8 c (omega arith) b;
-      expiresAt = cut-small 1041 8 c (omega arith) b;
-      mtuMark = cut-small 1049 1 c (omega arith) b;
-      mtu = cut-small 1050 2 c (omega arith) b;
-      source = cut-small 1052 1 c (omega arith) b;
-      verifiedUntil = cut-small 1053 8 c (omega arith) b;
+      entries = entries-of-length pathPlaces (drop 1 c);
+      each = entries-of-fit pathPlaces (drop 1 c) d (bytes-drop 1 c b);
+      createdAt = cut-small createdAtOffset 8 c (omega arith) b;
+      lastUsed = cut-small lastUsedOffset 8 c (omega arith) b;
+      expiresAt = cut-small expiresAtOffset 8 c (omega arith) b;
+      mtuMark = cut-small mtuMarkOffset 1 c (omega arith) b;
+      mtu = cut-small mtuOffset 2 c (omega arith) b;
+      source = cut-small sourceOffset 1 c (omega arith) b;
+      verifiedUntil = cut-small verifiedUntilOffset 8 c (omega arith) b;
     }
 
-row-fits-of : (c : List ℕ) → length c ≡ 1095 → Bytes c → RowFits (rowOf c)
+row-fits-of : (c : List ℕ) → length c ≡ rowSize → Bytes c → RowFits (rowOf c)
 unfolding rowOf
 row-fits-of c h b =
     record {
       key = address-fits 0 c (omega arith) b;
-      entry = entry-fits-of (cut 16 1061 c) (length-cut 16 1061 c (omega arith)) (bytes-cut 16 1061 c b);
-      place = cut-small 1077 1 c (omega arith) b;
-      stampFirst = cut-small 1078 8 c (omega arith) b;
-      stampSeq = cut-small 1086 8 c (omega arith) b;
-      weight = cut-small 1094 1 c (omega arith) b;
+      entry = entry-fits-of (cut entryOffset entrySize c) (length-cut entryOffset entrySize c (omega arith)) (bytes-cut entryOffset entrySize c b);
+      place = cut-small placeOffset 1 c (omega arith) b;
+      stampFirst = cut-small stampFirstOffset 8 c (omega arith) b;
+      stampSeq = cut-small stampSeqOffset 8 c (omega arith) b;
+      weight = cut-small weightOffset 1 c (omega arith) b;
     }
 
-rows-of-fit : (n : ℕ) (l : List ℕ) → n * 1095 ≤ length l → Bytes l → Every RowFits (rowsOf n l)
+rows-of-fit : (n : ℕ) (l : List ℕ) → n * rowSize ≤ length l → Bytes l → Every RowFits (rowsOf n l)
 unfolding rowsOf
 rows-of-fit zero l h b = tt
 rows-of-fit (suc n) l h b =
-    let d : n * 1095 ≤ length (drop 1095 l) = rw length-drop (omega arith) in
-    (row-fits-of (take 1095 l) (length-take-le 1095 l (omega arith)) (bytes-take 1095 l b), rows-of-fit n (drop 1095 l) d (bytes-drop 1095 l b))
+    let d : n * rowSize ≤ length (drop rowSize l) = rw length-drop (omega arith) in
+    (row-fits-of (take rowSize l) (length-take-le rowSize l (omega arith)) (bytes-take rowSize l b), rows-of-fit n (drop rowSize l) d (bytes-drop rowSize l b))
 
 pub rows-of-length : (n : ℕ) (l : List ℕ) → length (rowsOf n l) ≡ n
 unfolding rowsOf
 rows-of-length zero l = refl
-rows-of-length (suc n) l = ap suc (rows-of-length n (drop 1095 l))
+rows-of-length (suc n) l = ap suc (rows-of-length n (drop rowSize l))
 
 -- ANY MEMORY'S VIEW FITS, where the head fits and counts the rows
-pub view-fits : (l : List ℕ) → 40 ≤ length l → Bytes l → view l .rowCount ≡ length (view l .rows) → Fits (length l) (view l)
+pub view-fits : (l : List ℕ) → headSize ≤ length l → Bytes l → view l .rowCount ≡ length (view l .rows) → Fits (length l) (view l)
 unfolding view viewRows
 view-fits l h b c =
     let n = heldRows l in
     let f = held-fits l h in
-    let d : n * 1095 ≤ length (drop 40 l) = rw length-drop (omega arith) in
+    let d : n * rowSize ≤ length (drop headSize l) = rw length-drop (omega arith) in
     record {
       maxEntries = cut-small 0 8 l (omega arith) b;
       defaultTtl = cut-small 8 8 l (omega arith) b;
       seq = cut-small 16 8 l (omega arith) b;
       storedWeight = cut-small 24 8 l (omega arith) b;
-      rowCount = cut-small 32 8 l (omega arith) b;
+      rowCount = cut-small rowCountOffset 8 l (omega arith) b;
       counted = c;
-      rows = rows-of-fit n (drop 40 l) d (bytes-drop 40 l b);
-      rest = bytes-drop (40 + n * 1095) l b;
-      size = rw (length-drop (40 + n * 1095) l, rows-of-length n (drop 40 l)) (omega arith);
+      rows = rows-of-fit n (drop headSize l) d (bytes-drop headSize l b);
+      rest = bytes-drop (headSize + n * rowSize) l b;
+      size = rw (length-drop (headSize + n * rowSize) l, rows-of-length n (drop headSize l)) (omega arith);
     }
 
 -- ---- the memory of a state that fits is bytes

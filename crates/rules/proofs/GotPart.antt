@@ -10,7 +10,7 @@ use borrow.Author.Tests.{le-ltb}
 use lib.Seq.{take-take, take-add, take-nil, drop-nil, drop-drop, length-take-le}
 use Rattle.types.specs.declared.node_addr.NodeAddr.{NodeAddr}
 use Rattle.types.specs.declared.coord.Path.{Path}
-use Rattle.types.specs.Paths.{elements}
+use Rattle.types.specs.Paths.{elements, pathPlaces}
 use Rattle.rules.specs.Cases.{Every, maybe}
 use Rattle.rules.specs.Records.{Entry, Row, State}
 use Rattle.rules.specs.Rows.{changeRow, find, nextIndex, rowAt, withRows}
@@ -32,6 +32,7 @@ use Rattle.rules.proofs.SoundKept.{step-sound}
 use Rattle.rules.proofs.Sizes.{small8-less}
 use Rattle.rules.proofs.Foreign.{rows-of-length}
 use Rattle.rules.proofs.LentMemory.{capacity-same, head-fits, lent-request}
+use Rattle.rules.specs.Layout.{coordEntrySize, entryOffset, entrySize, headSize, placesInRow, rowSize}
 
 -- ---- a part of a front is a part of the whole
 
@@ -42,55 +43,55 @@ front-part (suc k) m (suc n) [] h = refl
 front-part (suc k) m (suc n) (x ∷ xs) h = front-part k m n xs (omega arith)
 
 -- row i of the first n rows
-row-at : (i n : ℕ) (l : List ℕ) → i < n → rowAt i (rowsOf n l) ≡ rowOf (cut (i * 1095) 1095 l)
+row-at : (i n : ℕ) (l : List ℕ) → i < n → rowAt i (rowsOf n l) ≡ rowOf (cut (i * rowSize) rowSize l)
 unfolding rowsOf
 row-at i zero l h = absurd (let z : ⊥ = omega arith in z)
 row-at zero (suc n) l h = refl
 row-at (suc i) (suc n) l h =
-    let e : suc i * 1095 ≡ 1095 + i * 1095 = omega arith in
-    row-at i n (drop 1095 l) (omega arith) ∙ ap (λ (c : List ℕ). rowOf (take 1095 c)) (drop-drop (i * 1095) 1095 l ∙ ap (λ (k : ℕ). drop k l) (sym e))
+    let e : suc i * rowSize ≡ rowSize + i * rowSize = omega arith in
+    row-at i n (drop rowSize l) (omega arith) ∙ ap (λ (c : List ℕ). rowOf (take rowSize c)) (drop-drop (i * rowSize) rowSize l ∙ ap (λ (k : ℕ). drop k l) (sym e))
 
 -- the bytes of the first n of m elements
-entries-front : (n m : ℕ) (l : List ℕ) → n ≤ m → m * 32 ≤ length l → Bytes l → coordEntriesBytes (take n (coordEntriesOf m l)) ≡ take (n * 32) l
+entries-front : (n m : ℕ) (l : List ℕ) → n ≤ m → m * coordEntrySize ≤ length l → Bytes l → coordEntriesBytes (take n (coordEntriesOf m l)) ≡ take (n * coordEntrySize) l
 unfolding coordEntriesOf
 entries-front zero m l h g b = no-entries
 entries-front (suc n) zero l h g b = absurd (let z : ⊥ = omega arith in z)
 entries-front (suc n) (suc m) l h g b =
-    let c = take 32 l in
-    let k : length c ≡ 32 = length-take-le 32 l (omega arith) in
-    let d : m * 32 ≤ length (drop 32 l) = rw length-drop (omega arith) in
-    let e : suc n * 32 ≡ 32 + n * 32 = omega arith in
-    entries-cons (coordEntryOf c) (take n (coordEntriesOf m (drop 32 l)))
-    ∙ ap (λ (u : List ℕ). u ++ coordEntriesBytes (take n (coordEntriesOf m (drop 32 l)))) (elem-memory c (bytes-take 32 l b) k)
-    ∙ ap (λ (u : List ℕ). c ++ u) (entries-front n m (drop 32 l) (omega arith) d (bytes-drop 32 l b))
-    ∙ sym (take-add 32 (n * 32) l)
+    let c = take coordEntrySize l in
+    let k : length c ≡ coordEntrySize = length-take-le coordEntrySize l (omega arith) in
+    let d : m * coordEntrySize ≤ length (drop coordEntrySize l) = rw length-drop (omega arith) in
+    let e : suc n * coordEntrySize ≡ coordEntrySize + n * coordEntrySize = omega arith in
+    entries-cons (coordEntryOf c) (take n (coordEntriesOf m (drop coordEntrySize l)))
+    ∙ ap (λ (u : List ℕ). u ++ coordEntriesBytes (take n (coordEntriesOf m (drop coordEntrySize l)))) (elem-memory c (bytes-take coordEntrySize l b) k)
+    ∙ ap (λ (u : List ℕ). c ++ u) (entries-front n m (drop coordEntrySize l) (omega arith) d (bytes-drop coordEntrySize l b))
+    ∙ sym (take-add coordEntrySize (n * coordEntrySize) l)
     ∙ ap (λ (u : ℕ). take u l) (sym e)
 
 -- a row's path, in the row's bytes
-path-in-row : (n : ℕ) (c : List ℕ) → n ≤ 32 → length c ≡ 1095 → Bytes c → coordEntriesBytes (take n (rowOf c .entry .path .entries)) ≡ cut 17 (n * 32) c
+path-in-row : (n : ℕ) (c : List ℕ) → n ≤ pathPlaces → length c ≡ rowSize → Bytes c → coordEntriesBytes (take n (rowOf c .entry .path .entries)) ≡ cut placesInRow (n * coordEntrySize) c
 unfolding rowOf entryOf pathOf
 path-in-row n c h g b =
-    let e = cut 16 1061 c in
-    let k : length e ≡ 1061 = length-cut 16 1061 c (omega arith) in
-    let d : 32 * 32 ≤ length (drop 1 e) = rw length-drop (omega arith) in
-    entries-front n 32 (drop 1 e) h d (bytes-drop 1 e (bytes-cut 16 1061 c b))
-    ∙ front-part 1 (n * 32) 1061 (drop 16 c) (omega arith)
-    ∙ ap (take (n * 32)) (drop-drop 1 16 c)
+    let e = cut entryOffset entrySize c in
+    let k : length e ≡ entrySize = length-cut entryOffset entrySize c (omega arith) in
+    let d : pathPlaces * coordEntrySize ≤ length (drop 1 e) = rw length-drop (omega arith) in
+    entries-front n pathPlaces (drop 1 e) h d (bytes-drop 1 e (bytes-cut entryOffset entrySize c b))
+    ∙ front-part 1 (n * coordEntrySize) entrySize (drop 16 c) (omega arith)
+    ∙ ap (take (n * coordEntrySize)) (drop-drop 1 16 c)
 
 -- row i's path, in the memory
-path-in-memory : (i n : ℕ) (l : List ℕ) → 40 ≤ length l → Bytes l → i < length (view l .rows) → n ≤ 32 → coordEntriesBytes (take n (rowAt i (view l .rows) .entry .path .entries)) ≡ pathPart i n l
+path-in-memory : (i n : ℕ) (l : List ℕ) → headSize ≤ length l → Bytes l → i < length (view l .rows) → n ≤ pathPlaces → coordEntriesBytes (take n (rowAt i (view l .rows) .entry .path .entries)) ≡ pathPart i n l
 unfolding view viewRows pathPart
 path-in-memory i n l h b j m =
     let r = heldRows l in
     let f = held-fits l h in
-    let u : i < r = subst (λ (k : ℕ). i < k) (rows-of-length r (drop 40 l)) j in
-    let c = cut (i * 1095) 1095 (drop 40 l) in
-    let g : i * 1095 + 1095 ≤ length (drop 40 l) = rw length-drop (omega arith) in
-    let e : 40 + i * 1095 + 17 ≡ 40 + (i * 1095 + 17) = omega arith in
-    ap (λ (x : Row). coordEntriesBytes (take n (x .entry .path .entries))) (row-at i r (drop 40 l) u)
-    ∙ path-in-row n c m (length-cut (i * 1095) 1095 (drop 40 l) g) (bytes-cut (i * 1095) 1095 (drop 40 l) (bytes-drop 40 l b))
-    ∙ front-part 17 (n * 32) 1095 (drop (i * 1095) (drop 40 l)) (omega arith)
-    ∙ ap (take (n * 32)) (drop-drop 17 (i * 1095) (drop 40 l) ∙ drop-drop (i * 1095 + 17) 40 l ∙ ap (λ (k : ℕ). drop k l) (sym e))
+    let u : i < r = subst (λ (k : ℕ). i < k) (rows-of-length r (drop headSize l)) j in
+    let c = cut (i * rowSize) rowSize (drop headSize l) in
+    let g : i * rowSize + rowSize ≤ length (drop headSize l) = rw length-drop (omega arith) in
+    let e : headSize + i * rowSize + placesInRow ≡ headSize + (i * rowSize + placesInRow) = omega arith in
+    ap (λ (x : Row). coordEntriesBytes (take n (x .entry .path .entries))) (row-at i r (drop headSize l) u)
+    ∙ path-in-row n c m (length-cut (i * rowSize) rowSize (drop headSize l) g) (bytes-cut (i * rowSize) rowSize (drop headSize l) (bytes-drop headSize l b))
+    ∙ front-part placesInRow (n * coordEntrySize) rowSize (drop (i * rowSize) (drop headSize l)) (omega arith)
+    ∙ ap (take (n * coordEntrySize)) (drop-drop placesInRow (i * rowSize) (drop headSize l) ∙ drop-drop (i * rowSize + placesInRow) headSize l ∙ ap (λ (k : ℕ). drop k l) (sym e))
 
 -- ---- the part is the answer
 
@@ -108,11 +109,11 @@ answerBytes (StatsGiven c) = []
 answerBytes (ExpiryGiven o) = []
 
 -- an unexpired key's row is held, and its length is legal
-unexpired-row : (R : ℕ) (k : NodeAddr) (now : ℕ) (s : State) (i : ℕ) → Sound R s → unexpiredRow k now s ≡ some i → (i < length (s .rows)) × (rowAt i (s .rows) .entry .path .len ≤ 32)
+unexpired-row : (R : ℕ) (k : NodeAddr) (now : ℕ) (s : State) (i : ℕ) → Sound R s → unexpiredRow k now s ≡ some i → (i < length (s .rows)) × (rowAt i (s .rows) .entry .path .len ≤ pathPlaces)
 unfolding unexpiredRow
-unexpired-row R k now s i h = by-maybe (λ (o : Option ℕ). o ≡ some i → (i < length (s .rows)) × (rowAt i (s .rows) .entry .path .len ≤ 32)) (find k (s .rows)) (λ e g. contradiction {b = true} refl (cc))
-    (λ j e. by-cond (λ (o : Option ℕ). o ≡ some i → (i < length (s .rows)) × (rowAt i (s .rows) .entry .path .len ≤ 32)) (expired now (rowAt j (s .rows) .entry)) (λ x g. contradiction {b = true} refl (cc))
-    (λ x g. let z : j ≡ i = cc in let l = find-at k (s .rows) j e .inside in subst (λ (n : ℕ). (n < length (s .rows)) × (rowAt n (s .rows) .entry .path .len ≤ 32)) z (l, every-at (RowOk (s .seq)) j (s .rows) l (h .each) .short)))
+unexpired-row R k now s i h = by-maybe (λ (o : Option ℕ). o ≡ some i → (i < length (s .rows)) × (rowAt i (s .rows) .entry .path .len ≤ pathPlaces)) (find k (s .rows)) (λ e g. contradiction {b = true} refl (cc))
+    (λ j e. by-cond (λ (o : Option ℕ). o ≡ some i → (i < length (s .rows)) × (rowAt i (s .rows) .entry .path .len ≤ pathPlaces)) (expired now (rowAt j (s .rows) .entry)) (λ x g. contradiction {b = true} refl (cc))
+    (λ x g. let z : j ≡ i = cc in let l = find-at k (s .rows) j e .inside in subst (λ (n : ℕ). (n < length (s .rows)) × (rowAt n (s .rows) .entry .path .len ≤ pathPlaces)) z (l, every-at (RowOk (s .seq)) j (s .rows) l (h .each) .short)))
 
 -- GET HANDS BACK THE STORED PATH, AS A PART OF THE MEMORY: the elements up to its length and no more
 pub got-part : (l : List ℕ) (k : NodeAddr) (now : ℕ) → Bytes l → gotPart k now l ≡ answerBytes (call l (Get k now) .answer)

@@ -10,7 +10,7 @@ use lib.Dec.{ltb}
 use lib.ListN.{length, drop, length-drop}
 use borrow.Author.Tests.{ltb-false}
 use Rattle.rules.specs.Cases.{Every}
-use Rattle.rules.specs.Records.{State, probationBound}
+use Rattle.rules.specs.Records.{State, probationBound, maxRows}
 use Rattle.rules.specs.Sound.{sound}
 use Rattle.rules.specs.Calls.{Call, Clear, ClearPathMtu, Demote, Get, GetAndTouch, Insert, InsertFunded, InsertStated, InsertVerified, InsertVerifiedWithPathMtu, InsertWithTtl, InvalidateOtherRoots, InvalidateViaNode, NextExpiry, PurgeExpired, Refused, Remove, Stats, wasRefused}
 use Rattle.rules.specs.Refusals.{Asked, Fresh, Request, Step, badSize, fresh, gives, perform, performRequest, serve, step}
@@ -27,6 +27,7 @@ use Rattle.rules.proofs.SoundKept.{fresh-sound, step-sound}
 use Rattle.rules.proofs.ThirdDemand.{third-demand}
 use Rattle.rules.proofs.Fitting.{fresh-fits, step-fits}
 use Rattle.rules.proofs.Foreign.{memory-bytes, rows-of-length, view-fits}
+use Rattle.rules.specs.Layout.{headSize, rowSize}
 
 -- ---- one request
 
@@ -38,11 +39,11 @@ leaves-done : (l : List ℕ) (t : Step) → wasRefused (t .answer) ≡ false →
 leaves-done l t e f = rw e (memory-bytes (length l) (t .state) f, memory-length (length l) (t .state) f, memory-view (length l) (t .state) f)
 
 -- the rows of a sound state, and so its head, are in the memory
-pub head-fits : (l : List ℕ) (m : ℕ) → m + probationBound m ≤ capacity l → 40 ≤ length l
+pub head-fits : (l : List ℕ) (m : ℕ) → m + probationBound m ≤ capacity l → headSize ≤ length l
 unfolding capacity
 head-fits l m h = omega arith
 
-rows-fit : (l : List ℕ) → capacity l * 1095 ≤ length l - 40
+rows-fit : (l : List ℕ) → capacity l * rowSize ≤ length l - headSize
 unfolding capacity
 rows-fit l = omega arith
 
@@ -56,19 +57,19 @@ call-leaves l q b g = by-step (capacity l) (view l) q (λ (t : Step). (sound (ca
 
 -- what stays past the R rows
 abbrev pub tailOf : List ℕ → List ℕ
-tailOf l = drop ((capacity l - length (view l .rows)) * 1095) (view l .rest)
+tailOf l = drop ((capacity l - length (view l .rows)) * rowSize) (view l .rest)
 
 tail-bytes : (l : List ℕ) → Bytes l → Bytes (tailOf l)
 unfolding view viewRows
-tail-bytes l b = bytes-drop ((capacity l - length (view l .rows)) * 1095) (view l .rest) (bytes-drop (40 + heldRows l * 1095) l b)
+tail-bytes l b = bytes-drop ((capacity l - length (view l .rows)) * rowSize) (view l .rest) (bytes-drop (headSize + heldRows l * rowSize) l b)
 
-fresh-size : (l : List ℕ) → 40 ≤ length l → 40 + capacity l * 1095 + length (tailOf l) ≡ length l
+fresh-size : (l : List ℕ) → headSize ≤ length l → headSize + capacity l * rowSize + length (tailOf l) ≡ length l
 unfolding view viewRows heldRows capacity
-fresh-size l h = rw (length-drop ((capacity l - length (view l .rows)) * 1095) (view l .rest), length-drop (40 + heldRows l * 1095) l, rows-of-length (heldRows l) (drop 40 l)) (omega arith)
+fresh-size l h = rw (length-drop ((capacity l - length (view l .rows)) * rowSize) (view l .rest), length-drop (headSize + heldRows l * rowSize) l, rows-of-length (heldRows l) (drop headSize l)) (omega arith)
 
 pub size-allowed : (R m : ℕ) → badSize R m ≡ false → m + probationBound m ≤ R
 unfolding badSize
-size-allowed R m h = go (ltb 1024 R) (ltb R (m + probationBound m)) refl h
+size-allowed R m h = go (ltb maxRows R) (ltb R (m + probationBound m)) refl h
   where
     go : (a b : Bool) → ltb R (m + probationBound m) ≡ b → a || b ≡ false → m + probationBound m ≤ R
     go true b e g = contradiction {b = true} refl g

@@ -8,6 +8,8 @@ use lib.Seq.{length-take-le, take-all, drop-drop}
 use Rattle.types.specs.declared.coord.CoordEntry.{CoordEntry}
 use Rattle.rules.specs.Memory.{addrBytes, capacity, coordEntriesBytes, coordEntriesOf, coordEntryOf, cut, entryBytes, entryOf, heldRows, leBytes, leNumber, memory, pathOf, rowBytes, rowOf, rowsBytes, rowsOf, view, viewRows}
 use Rattle.rules.specs.Lent.{Bytes}
+use Rattle.rules.specs.Layout.{coordEntrySize, createdAtOffset, entryOffset, entrySize, expiresAtOffset, headSize, lastUsedOffset, mtuMarkOffset, mtuOffset, placeOffset, placesSize, rowCountOffset, rowSize, sourceOffset, stampFirstOffset, stampSeqOffset, verifiedUntilOffset, weightOffset}
+use Rattle.types.specs.Paths.{pathPlaces}
 
 pub all-bytes : (l : List ℕ) → ((i : ℕ) → getD l i 0 < 256) → Bytes l
 all-bytes [] h = tt
@@ -69,58 +71,58 @@ pub entries-cons : (x : CoordEntry) (xs : List CoordEntry) → coordEntriesBytes
 unfolding coordEntriesBytes
 entries-cons x xs = simp append-assoc
 
-pub elem-memory : (c : List ℕ) → Bytes c → length c ≡ 32 → addrBytes (coordEntryOf c .«node_addr») ++ (leBytes 8 (coordEntryOf c .sequence) ++ leBytes 8 (coordEntryOf c .timestamp)) ≡ c
+pub elem-memory : (c : List ℕ) → Bytes c → length c ≡ coordEntrySize → addrBytes (coordEntryOf c .«node_addr») ++ (leBytes 8 (coordEntryOf c .sequence) ++ leBytes 8 (coordEntryOf c .timestamp)) ≡ c
 unfolding coordEntryOf
 elem-memory c b k = part c b 0 16 _ (number c b 16 8 _ (omega arith) (last-number c b 24 8 k))
 
-elems-memory : (n : ℕ) (l : List ℕ) → n * 32 ≤ length l → Bytes l → coordEntriesBytes (coordEntriesOf n l) ++ drop (n * 32) l ≡ l
+elems-memory : (n : ℕ) (l : List ℕ) → n * coordEntrySize ≤ length l → Bytes l → coordEntriesBytes (coordEntriesOf n l) ++ drop (n * coordEntrySize) l ≡ l
 unfolding coordEntriesOf
 elems-memory zero l h b = no-entry l
 elems-memory (suc n) l h b =
-    let c = take 32 l in
-    let xs = coordEntriesOf n (drop 32 l) in
-    let k : length c ≡ 32 = length-take-le 32 l (omega arith) in
-    let e : suc n * 32 ≡ 32 + n * 32 = omega arith in
-    let t : drop (suc n * 32) l ≡ drop (n * 32) (drop 32 l) = ap (λ (m : ℕ). drop m l) e ∙ sym (drop-drop (n * 32) 32 l) in
-    let d : n * 32 ≤ length (drop 32 l) = rw length-drop (omega arith) in
-    let later : coordEntriesBytes xs ++ drop (suc n * 32) l ≡ drop 32 l = ap (λ (u : List ℕ). coordEntriesBytes xs ++ u) t ∙ elems-memory n (drop 32 l) d (bytes-drop 32 l b) in
-    entry-first (coordEntryOf c) xs (drop (suc n * 32) l)
-    ∙ ap (λ (u : List ℕ). u ++ (coordEntriesBytes xs ++ drop (suc n * 32) l)) (elem-memory c (bytes-take 32 l b) k)
+    let c = take coordEntrySize l in
+    let xs = coordEntriesOf n (drop coordEntrySize l) in
+    let k : length c ≡ coordEntrySize = length-take-le coordEntrySize l (omega arith) in
+    let e : suc n * coordEntrySize ≡ coordEntrySize + n * coordEntrySize = omega arith in
+    let t : drop (suc n * coordEntrySize) l ≡ drop (n * coordEntrySize) (drop coordEntrySize l) = ap (λ (m : ℕ). drop m l) e ∙ sym (drop-drop (n * coordEntrySize) coordEntrySize l) in
+    let d : n * coordEntrySize ≤ length (drop coordEntrySize l) = rw length-drop (omega arith) in
+    let later : coordEntriesBytes xs ++ drop (suc n * coordEntrySize) l ≡ drop coordEntrySize l = ap (λ (u : List ℕ). coordEntriesBytes xs ++ u) t ∙ elems-memory n (drop coordEntrySize l) d (bytes-drop coordEntrySize l b) in
+    entry-first (coordEntryOf c) xs (drop (suc n * coordEntrySize) l)
+    ∙ ap (λ (u : List ℕ). u ++ (coordEntriesBytes xs ++ drop (suc n * coordEntrySize) l)) (elem-memory c (bytes-take coordEntrySize l b) k)
     ∙ ap (λ (u : List ℕ). c ++ u) later
-    ∙ take-append-drop 32 l
+    ∙ take-append-drop coordEntrySize l
 
-entry-memory : (c : List ℕ) → Bytes c → length c ≡ 1061 → entryBytes (entryOf c) ≡ c
+entry-memory : (c : List ℕ) → Bytes c → length c ≡ entrySize → entryBytes (entryOf c) ≡ c
 unfolding entryBytes entryOf pathOf
 entry-memory c b h =
-    let d : 32 * 32 ≤ length (drop 1 c) = rw length-drop (omega arith) in
-    let entries : (t : List ℕ) → t ≡ drop 1025 c → coordEntriesBytes (coordEntriesOf 32 (drop 1 c)) ++ t ≡ drop 1 c = λ t e. ap (λ (u : List ℕ). coordEntriesBytes (coordEntriesOf 32 (drop 1 c)) ++ u) (e ∙ sym (drop-drop 1024 1 c)) ∙ elems-memory 32 (drop 1 c) d (bytes-drop 1 c b) in
-    number c b 0 1 _ (omega arith) (entries _ (number c b 1025 8 _ (omega arith) (number c b 1033 8 _ (omega arith) (number c b 1041 8 _ (omega arith) (number c b 1049 1 _ (omega arith) (number c b 1050 2 _ (omega arith) (number c b 1052 1 _ (omega arith) (last-number c b 1053 8 h))))))))
+    let d : pathPlaces * coordEntrySize ≤ length (drop 1 c) = rw length-drop (omega arith) in
+    let entries : (t : List ℕ) → t ≡ drop createdAtOffset c → coordEntriesBytes (coordEntriesOf pathPlaces (drop 1 c)) ++ t ≡ drop 1 c = λ t e. ap (λ (u : List ℕ). coordEntriesBytes (coordEntriesOf pathPlaces (drop 1 c)) ++ u) (e ∙ sym (drop-drop placesSize 1 c)) ∙ elems-memory pathPlaces (drop 1 c) d (bytes-drop 1 c b) in
+    number c b 0 1 _ (omega arith) (entries _ (number c b createdAtOffset 8 _ (omega arith) (number c b lastUsedOffset 8 _ (omega arith) (number c b expiresAtOffset 8 _ (omega arith) (number c b mtuMarkOffset 1 _ (omega arith) (number c b mtuOffset 2 _ (omega arith) (number c b sourceOffset 1 _ (omega arith) (last-number c b verifiedUntilOffset 8 h))))))))
 
-row-memory : (c : List ℕ) → Bytes c → length c ≡ 1095 → rowBytes (rowOf c) ≡ c
+row-memory : (c : List ℕ) → Bytes c → length c ≡ rowSize → rowBytes (rowOf c) ≡ c
 unfolding rowBytes rowOf
 row-memory c b h =
-    part c b 0 16 _ (ap (λ (u : List ℕ). u ++ (leBytes 1 (leNumber (cut 1077 1 c)) ++ (leBytes 8 (leNumber (cut 1078 8 c)) ++ (leBytes 8 (leNumber (cut 1086 8 c)) ++ leBytes 1 (leNumber (cut 1094 1 c)))))) (entry-memory (cut 16 1061 c) (bytes-cut 16 1061 c b) (length-cut 16 1061 c (omega arith)))
-    ∙ part c b 16 1061 _ (number c b 1077 1 _ (omega arith) (number c b 1078 8 _ (omega arith) (number c b 1086 8 _ (omega arith) (last-number c b 1094 1 h)))))
+    part c b 0 16 _ (ap (λ (u : List ℕ). u ++ (leBytes 1 (leNumber (cut placeOffset 1 c)) ++ (leBytes 8 (leNumber (cut stampFirstOffset 8 c)) ++ (leBytes 8 (leNumber (cut stampSeqOffset 8 c)) ++ leBytes 1 (leNumber (cut weightOffset 1 c)))))) (entry-memory (cut entryOffset entrySize c) (bytes-cut entryOffset entrySize c b) (length-cut entryOffset entrySize c (omega arith)))
+    ∙ part c b entryOffset entrySize _ (number c b placeOffset 1 _ (omega arith) (number c b stampFirstOffset 8 _ (omega arith) (number c b stampSeqOffset 8 _ (omega arith) (last-number c b weightOffset 1 h)))))
 
-rows-memory : (n : ℕ) (l : List ℕ) → n * 1095 ≤ length l → Bytes l → rowsBytes (rowsOf n l) ++ drop (n * 1095) l ≡ l
+rows-memory : (n : ℕ) (l : List ℕ) → n * rowSize ≤ length l → Bytes l → rowsBytes (rowsOf n l) ++ drop (n * rowSize) l ≡ l
 unfolding rowsOf rowsBytes
 rows-memory zero l h b = refl
 rows-memory (suc n) l h b =
-    let e : suc n * 1095 ≡ 1095 + n * 1095 = omega arith in
-    let t : length (take 1095 l) ≡ 1095 = length-take-le 1095 l (omega arith) in
-    let d : n * 1095 ≤ length (drop 1095 l) = rw length-drop (omega arith) in
-    rw (e, row-memory (take 1095 l) (bytes-take 1095 l b) t, append-assoc, ← drop-drop (n * 1095) 1095 l, rows-memory n (drop 1095 l) d (bytes-drop 1095 l b)) (take-append-drop 1095 l)
+    let e : suc n * rowSize ≡ rowSize + n * rowSize = omega arith in
+    let t : length (take rowSize l) ≡ rowSize = length-take-le rowSize l (omega arith) in
+    let d : n * rowSize ≤ length (drop rowSize l) = rw length-drop (omega arith) in
+    rw (e, row-memory (take rowSize l) (bytes-take rowSize l b) t, append-assoc, ← drop-drop (n * rowSize) rowSize l, rows-memory n (drop rowSize l) d (bytes-drop rowSize l b)) (take-append-drop rowSize l)
 
-pub held-fits : (l : List ℕ) → 40 ≤ length l → 40 + heldRows l * 1095 ≤ length l
+pub held-fits : (l : List ℕ) → headSize ≤ length l → headSize + heldRows l * rowSize ≤ length l
 unfolding heldRows capacity
 held-fits l h = omega arith
 
 -- THE STATE SAYS ALL THAT THE MEMORY HOLDS, where the head fits
-pub view-memory : (l : List ℕ) → 40 ≤ length l → Bytes l → memory (view l) ≡ l
+pub view-memory : (l : List ℕ) → headSize ≤ length l → Bytes l → memory (view l) ≡ l
 unfolding view viewRows memory
 view-memory l h b =
     let n = heldRows l in
     let f = held-fits l h in
-    let d : n * 1095 ≤ length (drop 40 l) = rw length-drop (omega arith) in
-    let r : rowsBytes (rowsOf n (drop 40 l)) ++ drop (40 + n * 1095) l ≡ drop 40 l = rw (← drop-drop (n * 1095) 40 l) (rows-memory n (drop 40 l) d (bytes-drop 40 l b)) in
-    number l b 0 8 _ (omega arith) (number l b 8 8 _ (omega arith) (number l b 16 8 _ (omega arith) (number l b 24 8 _ (omega arith) (number l b 32 8 _ (omega arith) r))))
+    let d : n * rowSize ≤ length (drop headSize l) = rw length-drop (omega arith) in
+    let r : rowsBytes (rowsOf n (drop headSize l)) ++ drop (headSize + n * rowSize) l ≡ drop headSize l = rw (← drop-drop (n * rowSize) headSize l) (rows-memory n (drop headSize l) d (bytes-drop headSize l b)) in
+    number l b 0 8 _ (omega arith) (number l b 8 8 _ (omega arith) (number l b 16 8 _ (omega arith) (number l b 24 8 _ (omega arith) (number l b rowCountOffset 8 _ (omega arith) r))))

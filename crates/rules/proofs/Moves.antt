@@ -9,9 +9,9 @@ use lib.ListN.{length}
 use borrow.Author.Tests.{eq-eqb, ne-eqb, eqb-true, eqb-false, ltb-true, ltb-false, leb-true, lt-ltb, le-ltb}
 use native.Mathlib.Omega.{arith}
 use Rattle.types.specs.declared.node_addr.NodeAddr.{NodeAddr}
-use Rattle.types.specs.Paths.{pathWeight}
+use Rattle.types.specs.Paths.{pathWeight, pathPlaces}
 use Rattle.rules.specs.Cases.{Every}
-use Rattle.rules.specs.Records.{Entry, Row, State, byUse, mainBound, probation, probationBound}
+use Rattle.rules.specs.Records.{Entry, Row, State, byUse, mainBound, probation, probationBound, weightLimit}
 use Rattle.rules.specs.Rows.{atPlace, changeRow, countRows, inMain, inProbation, keepRows, lowestStamp, mainCount, probationCount, rowAt, total, withOnlyRows, withRows, withoutRow}
 use Rattle.rules.specs.Sound.{fromVerified}
 use Rattle.rules.specs.Room.{Walk, evictProbation, fileNew, makeProbationRoom, makeRoom, probationVisits, raised, refile, refiled, restamp, stale, stamp, takeOut, takeUp}
@@ -76,9 +76,9 @@ pub record EntryOk (e : Entry) (w : ℕ) : Type 0 where
   pub source : e .source ≤ 1
   pub mtuMark : e .mtuMark ≤ 1
   pub long : 1 ≤ e .path .len
-  pub short : e .path .len ≤ 32
+  pub short : e .path .len ≤ pathPlaces
   pub heavy : pathWeight (e .path) ≤ w
-  pub light : w ≤ 32
+  pub light : w ≤ weightLimit
   pub hinted : fromVerified e ≡ false → e .verifiedUntil ≡ 0
 
 pub own-ok : (q : ℕ) (r : Row) → RowOk q r → EntryOk (r .entry) (r .weight)

@@ -9,7 +9,7 @@ use borrow.Author.Tests.{eq-eqb, ne-eqb, eqb-true, ltb-true, ltb-false, leb-true
 use native.Mathlib.Omega.{arith}
 use Rattle.types.specs.declared.coord.Path.{Path}
 use Rattle.types.specs.declared.node_addr.NodeAddr.{NodeAddr}
-use Rattle.types.specs.Paths.{asWritten, pathWeight, samePath}
+use Rattle.types.specs.Paths.{asWritten, pathWeight, samePath, pathPlaces}
 use Rattle.types.specs.declared.placed.Funding.the-variants.{Uncharged, Upto}
 use Rattle.types.specs.declared.placed.HintOutcome.the-variants.{Inserted, Rejected}
 use Rattle.types.specs.declared.placed.Segment.the-variants.{Main, Probation}
@@ -18,7 +18,7 @@ use Rattle.types.specs.declared.placed.HintOutcome.{HintOutcome}
 use Rattle.types.specs.declared.placed.Segment.{Segment}
 use Rattle.types.specs.Values.{covers}
 use Rattle.rules.specs.Cases.{Every}
-use Rattle.rules.specs.Records.{Entry, Row, State, byUse, mainBound, probation, probationBound}
+use Rattle.rules.specs.Records.{Entry, Row, State, byUse, mainBound, probation, probationBound, weightLimit}
 use Rattle.rules.specs.Rows.{atPlace, changeRow, find, inMain, inProbation, insertInOrder, mainCount, probationCount, rowAt, total, withOnlyRows, withRows, withoutRow}
 use Rattle.rules.specs.Sound.{fromVerified}
 use Rattle.rules.specs.Entries.{expired, newEntry, update, verified}
@@ -221,17 +221,17 @@ module _ {R : ℕ} {k : NodeAddr} {now : ℕ} {f : Funding} {a : ℕ} (c : State
 
 pub record PathOk (p : Path) : Type 0 where
   pub long : 1 ≤ p .len
-  pub short : p .len ≤ 32
+  pub short : p .len ≤ pathPlaces
 
-pub weight-ok : (p : Path) → PathOk p → pathWeight p ≤ 32
+pub weight-ok : (p : Path) → PathOk p → pathWeight p ≤ weightLimit
 unfolding pathWeight
 weight-ok p h = omega (arith, h .short)
 
-new-ok : (p : Path) (now ttl w : ℕ) → PathOk p → pathWeight p ≤ w → w ≤ 32 → EntryOk (newEntry p now ttl) w
+new-ok : (p : Path) (now ttl w : ℕ) → PathOk p → pathWeight p ≤ w → w ≤ weightLimit → EntryOk (newEntry p now ttl) w
 unfolding newEntry asWritten pathWeight
 new-ok p now ttl w h a b = record { source = omega arith; mtuMark = omega arith; long = h .long; short = h .short; heavy = a; light = b; hinted = λ q. refl }
 
-update-ok : (p : Path) (now ttl w : ℕ) (e : Entry) → e .mtuMark ≤ 1 → PathOk p → pathWeight p ≤ w → w ≤ 32 → EntryOk (update p now ttl e) w
+update-ok : (p : Path) (now ttl w : ℕ) (e : Entry) → e .mtuMark ≤ 1 → PathOk p → pathWeight p ≤ w → w ≤ weightLimit → EntryOk (update p now ttl e) w
 unfolding update asWritten pathWeight
 update-ok p now ttl w e m h a b = record { source = omega arith; mtuMark = m; long = h .long; short = h .short; heavy = a; light = b; hinted = λ q. refl }
 

@@ -8,7 +8,7 @@ use mathlib.Core.Bool.{Bool, true, false, cond}
 use lib.ListN.{length, drop}
 use lib.Seq.{drop-drop}
 use Rattle.rules.specs.Cases.{maybe}
-use Rattle.rules.specs.Records.{State, probationBound}
+use Rattle.rules.specs.Records.{State, probationBound, maxRows}
 use Rattle.rules.specs.Sound.{sound}
 use Rattle.rules.specs.Calls.{Call, Done, Refused, wasRefused}
 use Rattle.rules.specs.Refusals.{Asked, Fresh, Request, badSize, fresh, gives, perform, performRequest, refusal, serve}
@@ -22,8 +22,9 @@ use Rattle.rules.proofs.SoundKept.{fresh-sound, perform-keeps}
 use Rattle.rules.proofs.Sizes.{few-rows}
 use Rattle.rules.proofs.Foreign.{rows-of-length}
 use Rattle.rules.proofs.LentMemory.{capacity-same, head-fits, tailOf}
+use Rattle.rules.specs.Layout.{headSize, rowCountOffset, rowSize}
 
-count-shown : (n : ℕ) (m : List ℕ) → leNumber (cut 32 8 m) ≡ viewRows n m .rowCount
+count-shown : (n : ℕ) (m : List ℕ) → leNumber (cut rowCountOffset 8 m) ≡ viewRows n m .rowCount
 unfolding viewRows
 count-shown n m = refl
 
@@ -31,8 +32,8 @@ view-shown : (R : ℕ) (m : List ℕ) (s : State) → capacity m ≡ R → Sound
 unfolding view heldRows
 view-shown R m s c h k v =
     let n = length (s .rows) in
-    let q : leNumber (cut 32 8 m) ≡ n = count-shown n m ∙ ap (λ (x : State). x .rowCount) v ∙ h .counted in
-    let e : min (leNumber (cut 32 8 m)) (capacity m) ≡ n = rw (q, c) (omega arith) in
+    let q : leNumber (cut rowCountOffset 8 m) ≡ n = count-shown n m ∙ ap (λ (x : State). x .rowCount) v ∙ h .counted in
+    let e : min (leNumber (cut rowCountOffset 8 m)) (capacity m) ≡ n = rw (q, c) (omega arith) in
     ap (λ (x : ℕ). viewRows x m) e ∙ v
 
 -- a memory that shows a sound state is its memory
@@ -77,12 +78,12 @@ call-done l q m b z e v =
 
 -- ---- fresh
 
-tail-is : (l : List ℕ) → tailOf l ≡ drop (40 + capacity l * 1095) l
+tail-is : (l : List ℕ) → tailOf l ≡ drop (headSize + capacity l * rowSize) l
 unfolding view viewRows heldRows
 tail-is l =
-    let n = min (leNumber (cut 32 8 l)) (capacity l) in
-    let e : 40 + n * 1095 + (capacity l - n) * 1095 ≡ 40 + capacity l * 1095 = omega arith in
-    ap (λ (k : ℕ). drop ((capacity l - k) * 1095) (drop (40 + n * 1095) l)) (rows-of-length n (drop 40 l)) ∙ drop-drop ((capacity l - n) * 1095) (40 + n * 1095) l ∙ ap (λ (k : ℕ). drop k l) e
+    let n = min (leNumber (cut rowCountOffset 8 l)) (capacity l) in
+    let e : headSize + n * rowSize + (capacity l - n) * rowSize ≡ headSize + capacity l * rowSize = omega arith in
+    ap (λ (k : ℕ). drop ((capacity l - k) * rowSize) (drop (headSize + n * rowSize) l)) (rows-of-length n (drop headSize l)) ∙ drop-drop ((capacity l - n) * rowSize) (headSize + n * rowSize) l ∙ ap (λ (k : ℕ). drop k l) e
 
 pub record FreshRefused (l : List ℕ) (m ttl : ℕ) : Type 0 where
   pub answer : lent l (Fresh m ttl) .answer ≡ Refused 5
@@ -104,7 +105,7 @@ no-rows : (R m ttl : ℕ) (tail : List ℕ) → length (fresh R m ttl tail .rows
 unfolding fresh
 no-rows R m ttl tail = refl
 
-pub fresh-is-done : (l : List ℕ) (m ttl : ℕ) (x : List ℕ) → Bytes x → length x ≡ length l → badSize (capacity l) m ≡ false → viewRows 0 x ≡ fresh (capacity l) m ttl (drop (40 + capacity l * 1095) l) → FreshDone l m ttl x
+pub fresh-is-done : (l : List ℕ) (m ttl : ℕ) (x : List ℕ) → Bytes x → length x ≡ length l → badSize (capacity l) m ≡ false → viewRows 0 x ≡ fresh (capacity l) m ttl (drop (headSize + capacity l * rowSize) l) → FreshDone l m ttl x
 fresh-is-done l m ttl x b z h v =
     let R = capacity l in
     let s = fresh R m ttl (tailOf l) in
@@ -116,15 +117,15 @@ fresh-is-done l m ttl x b z h v =
 -- ---- a sound memory, as the code meets it: n rows that are there
 
 pub record SoundMemory (l : List ℕ) (n : ℕ) : Type 0 where
-  pub long : 40 + n * 1095 ≤ length l
+  pub long : headSize + n * rowSize ≤ length l
   pub same : viewRows n l ≡ view l
-  pub few : n ≤ 1024
+  pub few : n ≤ maxRows
   pub rows : length (viewRows n l .rows) ≡ n
   pub sound : Sound (capacity l) (viewRows n l)
 
 held-is : (l : List ℕ) → view l .rowCount ≡ length (view l .rows) → viewRows 0 l .rowCount ≡ heldRows l
 unfolding view viewRows
-held-is l e = e ∙ rows-of-length (heldRows l) (drop 40 l)
+held-is l e = e ∙ rows-of-length (heldRows l) (drop headSize l)
 
 view-is : (l : List ℕ) → view l ≡ viewRows (heldRows l) l
 unfolding view
@@ -132,7 +133,7 @@ view-is l = refl
 
 shown-length : (n : ℕ) (l : List ℕ) → length (viewRows n l .rows) ≡ n
 unfolding viewRows
-shown-length n l = rows-of-length n (drop 40 l)
+shown-length n l = rows-of-length n (drop headSize l)
 
 pub sound-memory : (l : List ℕ) (n : ℕ) → sound (capacity l) (view l) ≡ true → n ≡ viewRows 0 l .rowCount → SoundMemory l n
 sound-memory l n h e =

@@ -12,7 +12,7 @@ use borrow.Author.Tests.{eqb-false, ltb-false}
 use Rattle.types.specs.declared.node_addr.NodeAddr.{NodeAddr}
 use Rattle.types.specs.Addresses.{addrBefore}
 use Rattle.rules.specs.Cases.{Every}
-use Rattle.rules.specs.Records.{Entry, Row, State, aside, byUse, parked, probation, probationBound}
+use Rattle.rules.specs.Records.{Entry, Row, State, aside, byUse, parked, probation, probationBound, weightLimit}
 use Rattle.rules.specs.Rows.{atPlace, changeRow, inMain, insertInOrder, keepRows, lowestStamp, probationCount, rowAt, total, weighRows, withOnlyRows, withRows, withoutRow, zeroRows}
 use Rattle.rules.specs.Entries.{addTimes, verified}
 use Rattle.rules.specs.Room.{Chosen, Sought, Walk, atNewPlace, chooseVictims, evictProbation, fileNew, hasRoom, makeProbationRoom, makeRoom, nextVictim, park, parkedAt, probationVisits, putBack, raised, refile, refiled, restamp, returnLapsed, seek, setAside, settled, sought, stale, stamp, takeOut, takeUp, untouched, visitsLeft}
@@ -22,6 +22,7 @@ use Rattle.rules.proofs.SoundTest.{RowOk, Sound}
 use Rattle.rules.proofs.MemoryLaws.{bytes-append, bytes-drop}
 use Rattle.rules.proofs.ViewLaws.{EntryFits, Fits, RowFits}
 use Rattle.rules.proofs.SoundKept.{both-segments}
+use Rattle.rules.specs.Layout.{headSize, rowSize}
 
 -- ---- bounds
 
@@ -82,7 +83,7 @@ back-lasts r h = by-cond Lasting (atPlace aside r) (λ e. placed-lasts byUse r h
 pub record Sized (B : ℕ) (s : State) : Type 0 where
   pub lasting : Every Lasting (s .rows)
   pub rest : Bytes (s .rest)
-  pub bulk : length (s .rows) * 1095 + length (s .rest) ≡ B
+  pub bulk : length (s .rows) * rowSize + length (s .rest) ≡ B
 
 length-without : (i : ℕ) (rs : List Row) → length (withoutRow i rs) ≤ length rs
 unfolding withoutRow
@@ -108,9 +109,9 @@ length-copies : (n : ℕ) → length (replicate {A = ℕ} n 0) ≡ n
 length-copies zero = refl
 length-copies (suc n) = ap suc (length-copies n)
 
-pub zero-length : (n : ℕ) → length (zeroRows n) ≡ n * 1095
+pub zero-length : (n : ℕ) → length (zeroRows n) ≡ n * rowSize
 unfolding zeroRows
-zero-length n = length-copies (n * 1095)
+zero-length n = length-copies (n * rowSize)
 
 pub copies-bytes : (n : ℕ) → Bytes (replicate n 0)
 copies-bytes zero = tt
@@ -118,7 +119,7 @@ copies-bytes (suc n) = (omega arith, copies-bytes n)
 
 pub zero-bytes : (n : ℕ) → Bytes (zeroRows n)
 unfolding zeroRows
-zero-bytes n = copies-bytes (n * 1095)
+zero-bytes n = copies-bytes (n * rowSize)
 
 pub only-sized : (B : ℕ) (s : State) (rs : List Row) → Sized B s → length rs ≤ length (s .rows) → Every Lasting rs → Sized B (withOnlyRows rs s)
 unfolding withOnlyRows
@@ -202,31 +203,31 @@ probation-sized B s h = evict-sized B (total probationVisits (s .rows)) (record 
 pub few-rows : (R : ℕ) (s : State) → Sound R s → length (s .rows) ≤ R
 few-rows R s h = omega (arith, both-segments (s .seq) (s .rows) (h .each), h .mains, h .probations, h .space)
 
-pub file-sized : (R B : ℕ) (k : NodeAddr) (e : Entry) (w p : ℕ) (s : State) → R * 1095 ≤ B → AddrFits k → EntryFits e → Sized B s → Sound R (fileNew k e w p s) → Sized B (fileNew k e w p s)
+pub file-sized : (R B : ℕ) (k : NodeAddr) (e : Entry) (w p : ℕ) (s : State) → R * rowSize ≤ B → AddrFits k → EntryFits e → Sized B s → Sound R (fileNew k e w p s) → Sized B (fileNew k e w p s)
 unfolding fileNew
 file-sized R B k e w p s l f g h sd =
     let r : Row = record { key = k; entry = e; place = p; stampFirst = e .lastUsed; stampSeq = s .seq + 1; weight = w } in
     record {
       lasting = every-insert Lasting r (s .rows) (record { key = f; entry = g; stampFirst = g .lastUsed }) (h .lasting);
-      rest = bytes-drop 1095 (s .rest) (h .rest);
-      bulk = rw (length-insert r (s .rows), length-drop 1095 (s .rest)) (omega (arith, h .bulk, few-rows R (fileNew k e w p s) sd, length-insert r (s .rows)));
+      rest = bytes-drop rowSize (s .rest) (h .rest);
+      bulk = rw (length-insert r (s .rows), length-drop rowSize (s .rest)) (omega (arith, h .bulk, few-rows R (fileNew k e w p s) sd, length-insert r (s .rows)));
     }
 
 -- ---- sound and sized: it fits
 
-pub light : (q : ℕ) (rs : List Row) → Every (RowOk q) rs → weighRows inMain rs ≤ 32 * length rs
+pub light : (q : ℕ) (rs : List Row) → Every (RowOk q) rs → weighRows inMain rs ≤ weightLimit * length rs
 unfolding total
 light q [] h = omega arith
 light q (r ∷ rs) h = omega (arith, one (inMain r), light q rs (h .1))
   where
-    one : (b : Bool) → cond b (r .weight) 0 ≤ 32
+    one : (b : Bool) → cond b (r .weight) 0 ≤ weightLimit
     one true = h .0 .light
     one false = omega arith
 
-pub fits-sized : (L : ℕ) (s : State) → Fits L s → Sized (L - 40) s
+pub fits-sized : (L : ℕ) (s : State) → Fits L s → Sized (L - headSize) s
 fits-sized L s h = record { lasting = every-map {P = RowFits} (λ r f. record { key = f .key; entry = f .entry; stampFirst = f .stampFirst }) (s .rows) (h .rows); rest = h .rest; bulk = omega (arith, h .size) }
 
-pub sized-fits : (R L : ℕ) (s : State) → 40 ≤ L → Sound R s → Sized (L - 40) s → Small 8 (s .defaultTtl) → s .seq < 18446744073709551616 → Fits L s
+pub sized-fits : (R L : ℕ) (s : State) → headSize ≤ L → Sound R s → Sized (L - headSize) s → Small 8 (s .defaultTtl) → s .seq < 18446744073709551616 → Fits L s
 sized-fits R L s l h z t q = record {
   maxEntries = small8 (s .maxEntries) (omega (arith, h .space, h .small));
   defaultTtl = t;

@@ -10,7 +10,7 @@ use borrow.Author.Tests.{ltb-true, ltb-false, le-leb, le-ltb, lt-ltb, ne-eqb, eq
 use native.Mathlib.Omega.{arith}
 use Rattle.types.specs.declared.node_addr.NodeAddr.{NodeAddr}
 use Rattle.rules.specs.Cases.{Every, maybe}
-use Rattle.rules.specs.Records.{Row, State, aside, probationBound}
+use Rattle.rules.specs.Records.{Row, State, aside, probationBound, maxRows}
 use Rattle.rules.specs.Rows.{atPlace, countRows, inMain, inProbation, total}
 use Rattle.rules.specs.Sound.{sound}
 use Rattle.rules.specs.Calls.{Call}
@@ -52,12 +52,12 @@ run-sound R s (q ∷ qs) h = run-sound R (step R s q .state) qs (step-sound R s 
 -- A FRESH THAT IS NOT REFUSED MAKES A SOUND STATE
 pub fresh-sound : (R m ttl : ℕ) (tail : List ℕ) → badSize R m ≡ false → sound R (fresh R m ttl tail) ≡ true
 unfolding badSize fresh total
-fresh-sound R m ttl tail h = go (ltb 1024 R) refl (ltb R (m + probationBound m)) refl h
+fresh-sound R m ttl tail h = go (ltb maxRows R) refl (ltb R (m + probationBound m)) refl h
   where
-    go : (a : Bool) → ltb 1024 R ≡ a → (b : Bool) → ltb R (m + probationBound m) ≡ b → a || b ≡ false → sound R (fresh R m ttl tail) ≡ true
+    go : (a : Bool) → ltb maxRows R ≡ a → (b : Bool) → ltb R (m + probationBound m) ≡ b → a || b ≡ false → sound R (fresh R m ttl tail) ≡ true
     go true e b f g = contradiction {b = true} refl g
     go false e true f g = contradiction {b = true} refl g
-    go false e false f g = is-sound R (fresh R m ttl tail) (record { small = omega (arith, ltb-false 1024 R e); space = omega (arith, ltb-false R (m + probationBound m) f); mains = omega arith; probations = omega arith; counted = refl; storedWeight = refl; rising = tt; each = tt })
+    go false e false f g = is-sound R (fresh R m ttl tail) (record { small = omega (arith, ltb-false maxRows R e); space = omega (arith, ltb-false R (m + probationBound m) f); mains = omega arith; probations = omega arith; counted = refl; storedWeight = refl; rising = tt; each = tt })
 
 off-aside : (r : Row) → r .place ≤ 2 → atPlace aside r ≡ false
 unfolding atPlace

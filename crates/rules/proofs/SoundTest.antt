@@ -9,9 +9,9 @@ use borrow.Author.Tests.{eq-eqb, eqb-true, eqb-false, leb-true, le-leb}
 use native.Mathlib.Omega.{arith}
 use Rattle.types.specs.declared.node_addr.NodeAddr.{NodeAddr}
 use Rattle.types.specs.Addresses.{addrBefore}
-use Rattle.types.specs.Paths.{pathWeight}
+use Rattle.types.specs.Paths.{pathWeight, pathPlaces}
 use Rattle.rules.specs.Cases.{Every}
-use Rattle.rules.specs.Records.{Row, State, mainBound, parked, probation, probationBound}
+use Rattle.rules.specs.Records.{Row, State, mainBound, parked, probation, probationBound, maxRows, weightLimit}
 use Rattle.rules.specs.Rows.{atPlace, mainCount, mainWeight, probationCount}
 use Rattle.rules.specs.Sound.{all, ascends, fromVerified, leads, legal, rowSound, sound, sourced, weighed}
 use Rattle.rules.proofs.Addresses.{before-trans, contradiction}
@@ -50,16 +50,16 @@ pub record RowOk (q : ℕ) (r : Row) : Type 0 where
   pub source : r .entry .source ≤ 1
   pub mtuMark : r .entry .mtuMark ≤ 1
   pub long : 1 ≤ r .entry .path .len
-  pub short : r .entry .path .len ≤ 32
+  pub short : r .entry .path .len ≤ pathPlaces
   pub heavy : pathWeight (r .entry .path) ≤ r .weight
-  pub light : r .weight ≤ 32
+  pub light : r .weight ≤ weightLimit
   pub stamped : r .stampSeq ≤ q
   pub hinted : fromVerified (r .entry) ≡ false → r .entry .verifiedUntil ≡ 0
   pub onProbation : atPlace probation r ≡ true → fromVerified (r .entry) ≡ false
   pub parked : atPlace parked r ≡ true → (fromVerified (r .entry) ≡ true) × (r .stampFirst ≡ r .entry .verifiedUntil)
 
 pub record Sound (R : ℕ) (s : State) : Type 0 where
-  pub small : R ≤ 1024
+  pub small : R ≤ maxRows
   pub space : s .maxEntries + probationBound (s .maxEntries) ≤ R
   pub mains : mainCount s ≤ mainBound R (s .maxEntries)
   pub probations : probationCount s ≤ probationBound (s .maxEntries)

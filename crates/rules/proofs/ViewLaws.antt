@@ -10,6 +10,8 @@ use Rattle.rules.specs.Cases.{Every}
 use Rattle.rules.specs.Records.{Entry, Row, State}
 use Rattle.rules.specs.Memory.{addrBytes, capacity, coordEntriesBytes, coordEntriesOf, coordEntryOf, cut, entryBytes, entryOf, heldRows, leBytes, leNumber, memory, pathOf, rowBytes, rowOf, rowsBytes, rowsOf, view, viewRows}
 use Rattle.rules.specs.Lent.{AddrFits, Bytes, CoordEntryFits, Small}
+use Rattle.rules.specs.Layout.{coordEntrySize, createdAtOffset, entryOffset, entrySize, expiresAtOffset, headSize, lastUsedOffset, mtuMarkOffset, mtuOffset, placeOffset, placesSize, rowCountOffset, rowSize, sourceOffset, stampFirstOffset, stampSeqOffset, verifiedUntilOffset, weightOffset}
+use Rattle.types.specs.Paths.{pathPlaces}
 
 pub num-le : (n v : ℕ) → Small n v → leNumber (leBytes n v) ≡ v
 unfolding leNumber leBytes
@@ -23,7 +25,7 @@ length-le (suc n) v = ap suc (length-le n (v / 256))
 
 pub record EntryFits (e : Entry) : Type 0 where
   pub len : Small 1 (e .path .len)
-  pub entries : length (e .path .entries) ≡ 32
+  pub entries : length (e .path .entries) ≡ pathPlaces
   pub each : Every CoordEntryFits (e .path .entries)
   pub createdAt : Small 8 (e .createdAt)
   pub lastUsed : Small 8 (e .lastUsed)
@@ -51,7 +53,7 @@ pub record Fits (L : ℕ) (s : State) : Type 0 where
   pub counted : s .rowCount ≡ length (s .rows)
   pub rows : Every RowFits (s .rows)
   pub rest : Bytes (s .rest)
-  pub size : 40 + length (s .rows) * 1095 + length (s .rest) ≡ L
+  pub size : headSize + length (s .rows) * rowSize + length (s .rest) ≡ L
 
 -- a field at k: f, and t behind it
 record At (k w : ℕ) (c f t : List ℕ) : Type 0 where
@@ -79,10 +81,10 @@ elem-view x c e h =
     let d = last-number 24 8 (x .timestamp) c (b .on) (h .timestamp) in
     let z : coordEntryOf c ≡ record { «node_addr» = record { 0 = x .«node_addr» .0 }; sequence = x .sequence; timestamp = x .timestamp } = cc (a .is, b .is, d) in z
 
-elem-length : (x : CoordEntry) → CoordEntryFits x → length (addrBytes (x .«node_addr») ++ (leBytes 8 (x .sequence) ++ leBytes 8 (x .timestamp))) ≡ 32
+elem-length : (x : CoordEntry) → CoordEntryFits x → length (addrBytes (x .«node_addr») ++ (leBytes 8 (x .sequence) ++ leBytes 8 (x .timestamp))) ≡ coordEntrySize
 elem-length x h = simp (length-append, length-le) (omega (arith, h .address .size))
 
-elems-length : (xs : List CoordEntry) → Every CoordEntryFits xs → length (coordEntriesBytes xs) ≡ length xs * 32
+elems-length : (xs : List CoordEntry) → Every CoordEntryFits xs → length (coordEntriesBytes xs) ≡ length xs * coordEntrySize
 unfolding coordEntriesBytes
 elems-length [] h = refl
 elems-length (x ∷ xs) h = simp (length-append, length-le) (omega (arith, h .0 .address .size, elems-length xs (h .1)))
@@ -96,24 +98,24 @@ elems-view (suc n) (x ∷ xs) t l h =
     let c = addrBytes (x .«node_addr») ++ (leBytes 8 (x .sequence) ++ leBytes 8 (x .timestamp)) in
     let e : (addrBytes (x .«node_addr») ++ (leBytes 8 (x .sequence) ++ (leBytes 8 (x .timestamp) ++ coordEntriesBytes xs))) ++ t ≡ c ++ (coordEntriesBytes xs ++ t) = simp append-assoc in
     let k = elem-length x (h .0) in
-    rw (e, take-at c (coordEntriesBytes xs ++ t) 32 k, drop-at c (coordEntriesBytes xs ++ t) 32 k) (cc (elem-view x c refl (h .0), elems-view n xs t (omega arith) (h .1)))
+    rw (e, take-at c (coordEntriesBytes xs ++ t) coordEntrySize k, drop-at c (coordEntriesBytes xs ++ t) coordEntrySize k) (cc (elem-view x c refl (h .0), elems-view n xs t (omega arith) (h .1)))
 
 entry-view : (e : Entry) (c : List ℕ) → c ≡ entryBytes e → EntryFits e → entryOf c ≡ e
 unfolding entryOf pathOf entryBytes
 entry-view e c q h =
     let f0 = number 0 1 (e .path .len) c _ q (h .len) in
-    let f1 = field 1 1024 c (coordEntriesBytes (e .path .entries)) _ (f0 .on) (elems-length (e .path .entries) (h .each) ∙ ap (λ (n : ℕ). n * 32) (h .entries)) in
-    let ps : coordEntriesOf 32 (drop 1 c) ≡ e .path .entries = ap (coordEntriesOf 32) (f0 .on) ∙ elems-view 32 (e .path .entries) _ (h .entries) (h .each) in
-    let f2 = number 1025 8 (e .createdAt) c _ (f1 .on) (h .createdAt) in
-    let f3 = number 1033 8 (e .lastUsed) c _ (f2 .on) (h .lastUsed) in
-    let f4 = number 1041 8 (e .expiresAt) c _ (f3 .on) (h .expiresAt) in
-    let f5 = number 1049 1 (e .mtuMark) c _ (f4 .on) (h .mtuMark) in
-    let f6 = number 1050 2 (e .mtu) c _ (f5 .on) (h .mtu) in
-    let f7 = number 1052 1 (e .source) c _ (f6 .on) (h .source) in
-    let f8 = last-number 1053 8 (e .verifiedUntil) c (f7 .on) (h .verifiedUntil) in
+    let f1 = field 1 placesSize c (coordEntriesBytes (e .path .entries)) _ (f0 .on) (elems-length (e .path .entries) (h .each) ∙ ap (λ (n : ℕ). n * coordEntrySize) (h .entries)) in
+    let ps : coordEntriesOf pathPlaces (drop 1 c) ≡ e .path .entries = ap (coordEntriesOf pathPlaces) (f0 .on) ∙ elems-view pathPlaces (e .path .entries) _ (h .entries) (h .each) in
+    let f2 = number createdAtOffset 8 (e .createdAt) c _ (f1 .on) (h .createdAt) in
+    let f3 = number lastUsedOffset 8 (e .lastUsed) c _ (f2 .on) (h .lastUsed) in
+    let f4 = number expiresAtOffset 8 (e .expiresAt) c _ (f3 .on) (h .expiresAt) in
+    let f5 = number mtuMarkOffset 1 (e .mtuMark) c _ (f4 .on) (h .mtuMark) in
+    let f6 = number mtuOffset 2 (e .mtu) c _ (f5 .on) (h .mtu) in
+    let f7 = number sourceOffset 1 (e .source) c _ (f6 .on) (h .source) in
+    let f8 = last-number verifiedUntilOffset 8 (e .verifiedUntil) c (f7 .on) (h .verifiedUntil) in
     let z : entryOf c ≡ record { path = record { len = e .path .len; entries = e .path .entries }; createdAt = e .createdAt; lastUsed = e .lastUsed; expiresAt = e .expiresAt; mtuMark = e .mtuMark; mtu = e .mtu; source = e .source; verifiedUntil = e .verifiedUntil } = cc (f0 .is, ps, f2 .is, f3 .is, f4 .is, f5 .is, f6 .is, f7 .is, f8) in z
 
-entry-length : (e : Entry) → EntryFits e → length (entryBytes e) ≡ 1061
+entry-length : (e : Entry) → EntryFits e → length (entryBytes e) ≡ entrySize
 unfolding entryBytes
 entry-length e h = simp (length-append, length-le) (omega (arith, elems-length (e .path .entries) (h .each), h .entries))
 
@@ -121,18 +123,18 @@ row-view : (r : Row) (c : List ℕ) → c ≡ rowBytes r → RowFits r → rowOf
 unfolding rowOf rowBytes
 row-view r c q h =
     let f0 = field 0 16 c (r .key .0) _ q (h .key .size) in
-    let f1 = field 16 1061 c (entryBytes (r .entry)) _ (f0 .on) (entry-length (r .entry) (h .entry)) in
-    let f2 = number 1077 1 (r .place) c _ (f1 .on) (h .place) in
-    let f3 = number 1078 8 (r .stampFirst) c _ (f2 .on) (h .stampFirst) in
-    let f4 = number 1086 8 (r .stampSeq) c _ (f3 .on) (h .stampSeq) in
-    let f5 = last-number 1094 1 (r .weight) c (f4 .on) (h .weight) in
-    let z : rowOf c ≡ record { key = record { 0 = r .key .0 }; entry = r .entry; place = r .place; stampFirst = r .stampFirst; stampSeq = r .stampSeq; weight = r .weight } = cc (f0 .is, entry-view (r .entry) (cut 16 1061 c) (f1 .is) (h .entry), f2 .is, f3 .is, f4 .is, f5) in z
+    let f1 = field entryOffset entrySize c (entryBytes (r .entry)) _ (f0 .on) (entry-length (r .entry) (h .entry)) in
+    let f2 = number placeOffset 1 (r .place) c _ (f1 .on) (h .place) in
+    let f3 = number stampFirstOffset 8 (r .stampFirst) c _ (f2 .on) (h .stampFirst) in
+    let f4 = number stampSeqOffset 8 (r .stampSeq) c _ (f3 .on) (h .stampSeq) in
+    let f5 = last-number weightOffset 1 (r .weight) c (f4 .on) (h .weight) in
+    let z : rowOf c ≡ record { key = record { 0 = r .key .0 }; entry = r .entry; place = r .place; stampFirst = r .stampFirst; stampSeq = r .stampSeq; weight = r .weight } = cc (f0 .is, entry-view (r .entry) (cut entryOffset entrySize c) (f1 .is) (h .entry), f2 .is, f3 .is, f4 .is, f5) in z
 
-row-length : (r : Row) → RowFits r → length (rowBytes r) ≡ 1095
+row-length : (r : Row) → RowFits r → length (rowBytes r) ≡ rowSize
 unfolding rowBytes
 row-length r h = simp (length-append, length-le) (omega (arith, h .key .size, entry-length (r .entry) (h .entry)))
 
-rows-length : (rs : List Row) → Every RowFits rs → length (rowsBytes rs) ≡ length rs * 1095
+rows-length : (rs : List Row) → Every RowFits rs → length (rowsBytes rs) ≡ length rs * rowSize
 unfolding rowsBytes
 rows-length [] h = refl
 rows-length (r ∷ rs) h = simp length-append (omega (arith, row-length r (h .0), rows-length rs (h .1)))
@@ -144,7 +146,7 @@ rows-view zero (r ∷ rs) t l h = absurd (let z : ⊥ = omega arith in z)
 rows-view (suc n) [] t l h = absurd (let z : ⊥ = omega arith in z)
 rows-view (suc n) (r ∷ rs) t l h =
     let k = row-length r (h .0) in
-    rw (append-assoc (rowBytes r) (rowsBytes rs) t, take-at (rowBytes r) (rowsBytes rs ++ t) 1095 k, drop-at (rowBytes r) (rowsBytes rs ++ t) 1095 k) (cc (row-view r (rowBytes r) refl (h .0), rows-view n rs t (omega arith) (h .1)))
+    rw (append-assoc (rowBytes r) (rowsBytes rs) t, take-at (rowBytes r) (rowsBytes rs ++ t) rowSize k, drop-at (rowBytes r) (rowsBytes rs ++ t) rowSize k) (cc (row-view r (rowBytes r) refl (h .0), rows-view n rs t (omega arith) (h .1)))
 
 pub memory-length : (L : ℕ) (s : State) → Fits L s → length (memory s) ≡ L
 unfolding memory
@@ -168,8 +170,8 @@ memory-view L s h =
     let f1 = number 8 8 (s .defaultTtl) c _ (f0 .on) (h .defaultTtl) in
     let f2 = number 16 8 (s .seq) c _ (f1 .on) (h .seq) in
     let f3 = number 24 8 (s .storedWeight) c _ (f2 .on) (h .storedWeight) in
-    let f4 = number 32 8 (s .rowCount) c _ (f3 .on) (h .rowCount) in
-    let m : min (leNumber (cut 32 8 c)) ((length c - 40) / 1095) ≡ n = rw (f4 .is) (omega (arith, h .counted, h .size, z)) in
-    let rs : rowsOf n (drop 40 c) ≡ s .rows = ap (rowsOf n) (f4 .on) ∙ rows-view n (s .rows) (s .rest) refl (h .rows) in
-    let re : drop (40 + n * 1095) c ≡ s .rest = sym (drop-drop (n * 1095) 40 c) ∙ ap (drop (n * 1095)) (f4 .on) ∙ drop-at (rowsBytes (s .rows)) (s .rest) (n * 1095) (rows-length (s .rows) (h .rows)) in
+    let f4 = number rowCountOffset 8 (s .rowCount) c _ (f3 .on) (h .rowCount) in
+    let m : min (leNumber (cut rowCountOffset 8 c)) ((length c - headSize) / rowSize) ≡ n = rw (f4 .is) (omega (arith, h .counted, h .size, z)) in
+    let rs : rowsOf n (drop headSize c) ≡ s .rows = ap (rowsOf n) (f4 .on) ∙ rows-view n (s .rows) (s .rest) refl (h .rows) in
+    let re : drop (headSize + n * rowSize) c ≡ s .rest = sym (drop-drop (n * rowSize) headSize c) ∙ ap (drop (n * rowSize)) (f4 .on) ∙ drop-at (rowsBytes (s .rows)) (s .rest) (n * rowSize) (rows-length (s .rows) (h .rows)) in
     rw m (same-state (f0 .is) (f1 .is) (f2 .is) (f3 .is) (f4 .is) rs re)

@@ -20,6 +20,7 @@ use Rattle.rules.specs.Records.{State}
 use Rattle.rules.specs.Memory.{cut, leNumber, coordEntryOf}
 use Rattle.rules.specs.Calls.{Call, Insert, InsertWithTtl, InsertFunded, InsertStated, InsertVerified, InsertVerifiedWithPathMtu, Get, GetAndTouch, Remove, Demote, ClearPathMtu, PurgeExpired, Clear, InvalidateViaNode, InvalidateOtherRoots, Stats, NextExpiry, Answer, Refused, Hinted, VerifiedDone, PathFound, EntryRemoved, KeyHeld, Done, RowsRemoved, StatsGiven, ExpiryGiven}
 use Rattle.rules.specs.Refusals.{Request, Fresh, Asked, Step, serve, fresh}
+use Rattle.rules.specs.Layout.{coordEntrySize}
 
 -- ---- replies
 
@@ -68,7 +69,7 @@ funded o f =
 unfoldable pub codes : List Code
 codes =
     code 0x00 10 (λ o. some (Plain (Fresh (leNumber (cut 0 2 o)) (leNumber (cut 2 8 o)))))
-    ∷ code 0x01 32 (λ o. some (Element (coordEntryOf o)))
+    ∷ code 0x01 coordEntrySize (λ o. some (Element (coordEntryOf o)))
     ∷ code 0x10 24 (λ o. some (WithPath (λ p. Insert (keyIn o) p (timeIn o))))
     ∷ code 0x11 32 (λ o. some (WithPath (λ p. InsertWithTtl (keyIn o) p (timeIn o) (leNumber (cut 24 8 o)))))
     ∷ code 0x12 33 (λ o. funded o (λ f p. InsertFunded (keyIn o) p (timeIn o) f))
@@ -168,9 +169,13 @@ unfoldable pub tallyAfter : Tally → List Line → Tally
 tallyAfter t [] = t
 tallyAfter t (l ∷ ls) = tallyAfter (tallied t (l .reply .refusal)) ls
 
--- coordrun: R 24, starting fresh at max 8, ttl 300000, with no pending path
+-- coordrun's R
+abbrev pub coordrunRows : ℕ
+coordrunRows = 24
+
+-- coordrun: on that many rows, starting fresh at max 8, ttl 300000, with no pending path
 unfoldable pub coordrun : List ℕ → List Line
-coordrun bs = runCommands (length bs) 24 (record { state = fresh 24 8 300000 []; pending = emptyPath }) bs .lines
+coordrun bs = runCommands (length bs) coordrunRows (record { state = fresh coordrunRows 8 300000 []; pending = emptyPath }) bs .lines
 
 -- ---- a line as text
 

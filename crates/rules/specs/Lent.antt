@@ -11,12 +11,13 @@ use Rattle.types.specs.declared.coord.Path.{Path}
 use Rattle.types.specs.Paths.{pathPlaces}
 use Rattle.rules.specs.Cases.{maybe, Every}
 use Rattle.rules.specs.Records.{State}
-use Rattle.rules.specs.Rows.{rowAt, rowSize}
-use Rattle.rules.specs.Memory.{headSize, entryOffset, placesOffset, coordEntrySize, addressSize, cut, capacity, view, memory}
+use Rattle.rules.specs.Rows.{rowAt}
+use Rattle.rules.specs.Memory.{cut, capacity, view, memory}
 use Rattle.rules.specs.Lookups.{unexpiredRow}
 use Rattle.rules.specs.Calls.{Call, Insert, InsertWithTtl, InsertFunded, InsertStated, InsertVerified, InsertVerifiedWithPathMtu, Get, GetAndTouch, Remove, Demote, ClearPathMtu, PurgeExpired, Clear, InvalidateViaNode, InvalidateOtherRoots, Stats, NextExpiry, Answer, wasRefused}
 use Rattle.rules.specs.Refusals.{Request, Fresh, Asked, refusal, Step, serve}
 use Rattle.rules.specs.Lists.{Event, Served}
+use Rattle.rules.specs.Layout.{addressSize, coordEntrySize, entryOffset, headSize, placesOffset, rowSize}
 
 pub record Lent : Type 0 where
   pub answer : Answer

@@ -1,6 +1,7 @@
 -- Document 01 as definitions, in its order.
 pub mod Cases
 pub mod Records
+pub mod Layout
 pub mod Rows
 pub mod Sound
 pub mod Entries

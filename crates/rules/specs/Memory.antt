@@ -7,91 +7,7 @@ use Rattle.types.specs.declared.coord.CoordEntry.{CoordEntry}
 use Rattle.types.specs.declared.coord.Path.{Path}
 use Rattle.types.specs.Paths.{pathPlaces}
 use Rattle.rules.specs.Records.{Entry, Row, State}
-use Rattle.rules.specs.Rows.{rowSize}
-
--- ---- where the fields stand, and how many bytes they have
-
-abbrev pub headSize : ℕ
-headSize = 40
-
--- in the head
-abbrev pub maxEntriesOffset : ℕ
-maxEntriesOffset = 0
-
-abbrev pub defaultTtlOffset : ℕ
-defaultTtlOffset = 8
-
-abbrev pub seqOffset : ℕ
-seqOffset = 16
-
-abbrev pub storedWeightOffset : ℕ
-storedWeightOffset = 24
-
-abbrev pub rowCountOffset : ℕ
-rowCountOffset = 32
-
--- in a row
-abbrev pub keyOffset : ℕ
-keyOffset = 0
-
-abbrev pub entryOffset : ℕ
-entryOffset = 16
-
-abbrev pub placeOffset : ℕ
-placeOffset = 1077
-
-abbrev pub stampFirstOffset : ℕ
-stampFirstOffset = 1078
-
-abbrev pub stampSeqOffset : ℕ
-stampSeqOffset = 1086
-
-abbrev pub weightOffset : ℕ
-weightOffset = 1094
-
--- in an entry
-abbrev pub entrySize : ℕ
-entrySize = 1061
-
-abbrev pub lengthOffset : ℕ
-lengthOffset = 0
-
-abbrev pub placesOffset : ℕ
-placesOffset = 1
-
-abbrev pub createdAtOffset : ℕ
-createdAtOffset = 1025
-
-abbrev pub lastUsedOffset : ℕ
-lastUsedOffset = 1033
-
-abbrev pub expiresAtOffset : ℕ
-expiresAtOffset = 1041
-
-abbrev pub mtuMarkOffset : ℕ
-mtuMarkOffset = 1049
-
-abbrev pub mtuOffset : ℕ
-mtuOffset = 1050
-
-abbrev pub sourceOffset : ℕ
-sourceOffset = 1052
-
-abbrev pub verifiedUntilOffset : ℕ
-verifiedUntilOffset = 1053
-
--- in a path element
-abbrev pub coordEntrySize : ℕ
-coordEntrySize = 32
-
-abbrev pub sequenceOffset : ℕ
-sequenceOffset = 16
-
-abbrev pub timestampOffset : ℕ
-timestampOffset = 24
-
-abbrev pub addressSize : ℕ
-addressSize = 16
+use Rattle.rules.specs.Layout.{addressSize, coordEntrySize, createdAtOffset, defaultTtlOffset, entryOffset, entrySize, expiresAtOffset, headSize, keyOffset, lastUsedOffset, lengthOffset, maxEntriesOffset, mtuMarkOffset, mtuOffset, placeOffset, placesOffset, rowCountOffset, rowSize, seqOffset, sequenceOffset, sourceOffset, stampFirstOffset, stampSeqOffset, storedWeightOffset, timestampOffset, verifiedUntilOffset, weightOffset}
 
 -- ---- memory as a state
 
@@ -112,7 +28,7 @@ unfoldable pub coordEntriesOf : ℕ → List ℕ → List CoordEntry
 coordEntriesOf zero l = []
 coordEntriesOf (suc n) l = coordEntryOf (take coordEntrySize l) ∷ coordEntriesOf n (drop coordEntrySize l)
 
--- all 32 places, and the length
+-- all places, and the length
 unfoldable pub pathOf : List ℕ → Path
 pathOf c = record { len = leNumber (cut lengthOffset 1 c); entries = coordEntriesOf pathPlaces (drop placesOffset c) }
 

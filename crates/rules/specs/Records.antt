@@ -6,7 +6,7 @@ use mathlib.Core.Bool.{Bool, cond}
 use lib.Dec.{eqb}
 use Rattle.types.specs.declared.node_addr.NodeAddr.{NodeAddr}
 use Rattle.types.specs.declared.coord.Path.{Path}
-use Rattle.types.specs.Paths.{addrsPerEntry}
+use Rattle.types.specs.Paths.{addrsPerEntry, pathPlaces}
 use Rattle.types.specs.declared.entry.PathMtu.{PathMtu}
 use Rattle.types.specs.declared.entry.PathMtu.the-variants.{Unknown, Known}
 use Rattle.types.specs.declared.entry.CacheEntry.{CacheEntry}
@@ -93,6 +93,10 @@ maxRows = 1024
 
 abbrev pub probationDivisor : ℕ
 probationDivisor = 32
+
+-- no row weighs more: a path weighs its length, and sixteen at least
+abbrev pub weightLimit : ℕ
+weightLimit = pathPlaces
 
 -- B = 16 × max_entries
 abbrev pub weightBound : ℕ → ℕ

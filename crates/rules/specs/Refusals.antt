@@ -12,7 +12,7 @@ use Rattle.types.specs.Paths.{pathPlaces, contains, rootOf, startsAt, pathWeigh
 use Rattle.types.specs.declared.placed.Funding.the-variants.{Uncharged}
 use Rattle.rules.specs.Cases.{maybe}
 use Rattle.rules.specs.Records.{Entry, Row, State, maxRows, probationBound, mainBound}
-use Rattle.rules.specs.Rows.{rowAt, inMain, find, mainCount, rowSize, zeroRows, withOnlyRows}
+use Rattle.rules.specs.Rows.{rowAt, inMain, find, mainCount, zeroRows, withOnlyRows}
 use Rattle.rules.specs.Sound.{sound}
 use Rattle.rules.specs.Entries.{expired}
 use Rattle.rules.specs.Room.{Walk, roomCanBeMade}
@@ -20,6 +20,7 @@ use Rattle.rules.specs.Placement.{PlaceResult, placeHint, withoutKey, in
 use Rattle.rules.specs.Lookups.{get, touched, removedEntry, demoted, holds, clearPathMtu, sweep, matching}
 use Rattle.rules.specs.Statistics.{stats, nextExpiry}
 use Rattle.rules.specs.Calls.{Call, Insert, InsertWithTtl, InsertFunded, InsertStated, InsertVerified, InsertVerifiedWithPathMtu, Get, GetAndTouch, Remove, Demote, ClearPathMtu, PurgeExpired, Clear, InvalidateViaNode, InvalidateOtherRoots, Stats, NextExpiry, Answer, Refused, Hinted, VerifiedDone, PathFound, EntryRemoved, KeyHeld, Done, RowsRemoved, StatsGiven, ExpiryGiven, pathGiven, drawsStamps, VerifiedWrite, verifiedWrite}
+use Rattle.rules.specs.Layout.{rowSize}
 
 -- fresh with its two limits, or a call
 pub data Request : Type 0 where

@@ -8,8 +8,9 @@ use lib.ListN.{length, drop}
 use Rattle.types.specs.declared.node_addr.NodeAddr.{NodeAddr}
 use Rattle.rules.specs.Cases.{maybe}
 use Rattle.rules.specs.Records.{Entry, Row, State, byUse, parked, probation, aside, weightBound, probationBound}
-use Rattle.rules.specs.Rows.{rowAt, atPlace, inMain, lowestStamp, changeRow, withoutRow, keepRows, insertInOrder, total, countRows, weighRows, mainCount, mainWeight, probationCount, rowSize, withRows, withOnlyRows}
+use Rattle.rules.specs.Rows.{rowAt, atPlace, inMain, lowestStamp, changeRow, withoutRow, keepRows, insertInOrder, total, countRows, weighRows, mainCount, mainWeight, probationCount, withRows, withOnlyRows}
 use Rattle.rules.specs.Entries.{verified}
+use Rattle.rules.specs.Layout.{rowSize}
 
 -- ---- stamps
 

@@ -9,6 +9,7 @@ use Rattle.types.specs.declared.node_addr.NodeAddr.{NodeAddr}
 use Rattle.types.specs.Addresses.{sameAddr, addrBefore}
 use Rattle.types.specs.Paths.{emptyPath}
 use Rattle.rules.specs.Records.{Row, State, probation}
+use Rattle.rules.specs.Layout.{rowSize}
 
 -- what stands past the last row; nothing reads it
 unfoldable pub blankRow : Row
@@ -98,10 +99,6 @@ abbrev pub probationCount : State → ℕ
 probationCount s = countRows inProbation (s .rows)
 
 -- ---- states with other rows
-
--- a row has this many bytes
-abbrev pub rowSize : ℕ
-rowSize = 1095
 
 -- n zero rows, as bytes
 unfoldable pub zeroRows : ℕ → List ℕ

@@ -6,7 +6,7 @@ use lib.Dec.{ltb, leb, eqb}
 use lib.ListN.{length}
 use Rattle.types.specs.Addresses.{addrBefore}
 use Rattle.types.specs.Paths.{pathPlaces, pathWeight}
-use Rattle.rules.specs.Records.{Entry, Row, State, parked, probation, hintSource, verifiedSource, someMtu, maxRows, probationBound, mainBound}
+use Rattle.rules.specs.Records.{Entry, Row, State, parked, probation, hintSource, verifiedSource, someMtu, maxRows, probationBound, mainBound, weightLimit}
 use Rattle.rules.specs.Rows.{atPlace, mainCount, mainWeight, probationCount}
 
 -- the row's key stands before the first of these
@@ -30,9 +30,9 @@ fromVerified e = eqb (e .source) verifiedSource
 unfoldable pub legal : Row → Bool
 legal r = leb (r .place) probation && (leb (r .entry .source) hintSource && (leb (r .entry .mtuMark) someMtu && (leb 1 (r .entry .path .len) && leb (r .entry .path .len) pathPlaces)))
 
--- each weight is from its path weight to 32
+-- each weight is from its path weight to the limit
 unfoldable pub weighed : Row → Bool
-weighed r = leb (pathWeight (r .entry .path)) (r .weight) && leb (r .weight) pathPlaces
+weighed r = leb (pathWeight (r .entry .path)) (r .weight) && leb (r .weight) weightLimit
 
 -- hints have verified_until 0; probation rows are hints; a parked row is Verified with stamp first = verified_until
 unfoldable pub sourced : Row → Bool

@@ -11,6 +11,7 @@ use Rattle.rules.specs.Rows.{rowAt}
 use Rattle.rules.specs.Memory.{cut, rowOf, viewRows}
 use Rattle.rules.proofs.Addresses.{same-eq}
 use Rattle.rules.proofs.Foreign.{rows-of-length}
+use Rattle.rules.specs.Layout.{headSize, rowSize}
 use Rattle.raw.proofs.StoreLaws.{cut-cut}
 use Rattle.memory.proofs.Fields.{row-at}
 use Rattle.search.specs.BigEndian.{NumberOf}
@@ -49,11 +50,11 @@ module _ (at : ℕ) (l : List ℕ) (k : NodeAddr) (fits : at + 16 ≤ length l) 
 
 pub rows-length : (n : ℕ) (l : List ℕ) → length (viewRows n l .rows) ≡ n
 unfolding viewRows
-rows-length n l = rows-of-length n (drop 40 l)
+rows-length n l = rows-of-length n (drop headSize l)
 
-pub key-bytes : (n i : ℕ) (l : List ℕ) → i < n → record { 0 = cut (40 + i * 1095) 16 l } ≡ rowAt i (viewRows n l .rows) .key
+pub key-bytes : (n i : ℕ) (l : List ℕ) → i < n → record { 0 = cut (headSize + i * rowSize) 16 l } ≡ rowAt i (viewRows n l .rows) .key
 unfolding rowOf
 key-bytes n i l h =
-    let z : 40 + i * 1095 + 0 ≡ 40 + i * 1095 = omega arith in
-    let k : cut 0 16 (cut (40 + i * 1095) 1095 l) ≡ cut (40 + i * 1095) 16 l = rw z at (cut-cut (40 + i * 1095) 1095 0 16 l (omega arith)) in
+    let z : headSize + i * rowSize + 0 ≡ headSize + i * rowSize = omega arith in
+    let k : cut 0 16 (cut (headSize + i * rowSize) rowSize l) ≡ cut (headSize + i * rowSize) 16 l = rw z at (cut-cut (headSize + i * rowSize) rowSize 0 16 l (omega arith)) in
     sym (ap (λ (r : Row). r .key) (row-at n i l h) ∙ ap (λ (x : List ℕ). record { 0 = x }) k)

@@ -1,17 +1,18 @@
 // Keys of the held rows, which ascend. A key is the first sixteen bytes of its row.
 use crate::answers::Order;
 use crate::answers::Search;
-use memory::head::HEAD;
-use memory::head::ROW;
+use raw::layout::HEAD;
+use raw::layout::ROW;
 use raw::numbers::wide;
 use types::node_addr::NodeAddr;
 ghost use mathlib.Core.Path.{_≡_};
 ghost use mathlib.Core.Bool.{true};
 ghost use Prim.Native.Nat.{_+_, _*_, _≤_, _<_};
 ghost use lib.ListN.{length};
-ghost use Rattle.rules.specs.Rows.{rowSize, rowAt};
+ghost use Rattle.rules.specs.Rows.{rowAt};
 ghost use Rattle.rules.specs.Sound.{ascends};
-ghost use Rattle.rules.specs.Memory.{headSize, addressSize, cut, viewRows};
+ghost use Rattle.rules.specs.Memory.{cut, viewRows};
+ghost use Rattle.rules.specs.Layout.{addressSize, headSize, rowSize};
 ghost use Rattle.search.specs.BigEndian.{NumberOf};
 ghost use Rattle.search.specs.ByKey.{orderOf, searched};
 

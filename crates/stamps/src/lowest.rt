@@ -8,8 +8,8 @@ use crate::row::PROBATION;
 ghost use mathlib.Core.Path.{_≡_};
 ghost use Prim.Native.Nat.{_+_, _*_, _≤_, _<_};
 ghost use lib.ListN.{length};
-ghost use Rattle.rules.specs.Rows.{rowSize};
-ghost use Rattle.rules.specs.Memory.{headSize, viewRows};
+ghost use Rattle.rules.specs.Memory.{viewRows};
+ghost use Rattle.rules.specs.Layout.{headSize, rowSize};
 ghost use Rattle.stamps.specs.Walked.{noRow, lowerBest, lowerRow, bestRow, lowestOf, LowestIs, MainIs};
 
 // The row with the lowest stamp so far, and that stamp; a row past the last where there is none. An enum is slow to copy for each row.

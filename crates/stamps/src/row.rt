@@ -5,10 +5,11 @@ ghost use Prim.Native.Nat.{_+_, _*_, _≤_, _<_};
 ghost use lib.Dec.{ltb};
 ghost use lib.ListN.{length};
 ghost use Rattle.rules.specs.Records.{probation, byUse};
-ghost use Rattle.rules.specs.Rows.{rowSize, rowAt};
+ghost use Rattle.rules.specs.Rows.{rowAt};
 ghost use Rattle.rules.specs.Entries.{verified};
 ghost use Rattle.rules.specs.Room.{stale, stamp, restamp, park};
-ghost use Rattle.rules.specs.Memory.{headSize, viewRows};
+ghost use Rattle.rules.specs.Memory.{viewRows};
+ghost use Rattle.rules.specs.Layout.{headSize, rowSize};
 ghost use Rattle.memory.specs.Edits.{stampedAs};
 
 // Places.

@@ -13,9 +13,10 @@ ghost use mathlib.Core.Path.{_≡_};
 ghost use Prim.Native.Nat.{_+_, _*_, _≤_, _<_};
 ghost use lib.ListN.{length};
 ghost use Rattle.rules.specs.Records.{byUse};
-ghost use Rattle.rules.specs.Rows.{rowSize, lowestStamp};
+ghost use Rattle.rules.specs.Rows.{lowestStamp};
 ghost use Rattle.rules.specs.Room.{visitsLeft, returnLapsed, nextVictim};
-ghost use Rattle.rules.specs.Memory.{headSize, viewRows};
+ghost use Rattle.rules.specs.Memory.{viewRows};
+ghost use Rattle.rules.specs.Layout.{headSize, rowSize};
 ghost use Rattle.stamps.specs.Walked.{lowestOf, walkFrom, soughtOf, MainIs};
 
 // How many parked rows returned, and the row that the walk takes up next, if any.

@@ -14,14 +14,15 @@ use Rattle.rules.specs.Refusals.{badSize}
 use Rattle.rules.specs.Memory.{capacity, heldRows, viewRows, view}
 use Rattle.rules.proofs.SoundTest.{and-left, and-right}
 use Rattle.rules.proofs.Public.{SoundMemory, sound-memory}
+use Rattle.rules.specs.Layout.{headSize, rowSize}
 use Rattle.state.specs.Parts.{headSound, rowsSound}
 use Rattle.state.proofs.PassLaws.{head-facts, headed, rowed, sound-parts}
 
 -- what `is_sound` gives of a memory whose head counts n rows, beside what the rules say of it
 pub record Checked (l : List ℕ) (n : ℕ) : Type 0 where
   pub shown : SoundMemory l n
-  pub head : 40 ≤ length l
-  pub fits : capacity l * 1095 + 40 ≤ length l
+  pub head : headSize ≤ length l
+  pub fits : capacity l * rowSize + headSize ≤ length l
   pub there : n ≤ capacity l
   pub held : heldRows l ≡ n
   pub rising : ascends (view l .rows) ≡ true

@@ -14,6 +14,7 @@ use Rattle.rules.specs.Rows.{rowAt, blankRow}
 use Rattle.rules.specs.Sound.{leads}
 use Rattle.rules.specs.Memory.{cut, rowOf, viewRows}
 use Rattle.rules.proofs.MemoryLaws.{length-cut}
+use Rattle.rules.specs.Layout.{headSize, rowSize}
 use Rattle.raw.proofs.StoreLaws.{cut-cut}
 use Rattle.memory.proofs.Fields.{row-at}
 
@@ -32,14 +33,14 @@ module _ (l : List ℕ) (a b i : ℕ) (ha : a + 16 ≤ length l) (hb : b + 16 �
   bytes-agree e = before-go (cut a 16 l) (cut b 16 l) i (rw (length-cut a 16 l ha) h) (rw (length-cut b 16 l hb) h) (byte-at l a 16 i h ∙ e ∙ sym (byte-at l b 16 i h))
 
 -- where a row's key stands
-row-key : (l : List ℕ) (n i : ℕ) → i < n → rowAt i (viewRows n l .rows) .key .0 ≡ cut (40 + i * 1095) 16 l
+row-key : (l : List ℕ) (n i : ℕ) → i < n → rowAt i (viewRows n l .rows) .key .0 ≡ cut (headSize + i * rowSize) 16 l
 unfolding rowOf
 row-key l n i h =
-    let z : 40 + i * 1095 + 0 ≡ 40 + i * 1095 = omega arith in
-    ap (λ (r : Row). r .key .0) (row-at n i l h) ∙ cut-cut (40 + i * 1095) 1095 0 16 l (omega arith) ∙ ap (λ (k : ℕ). cut k 16 l) z
+    let z : headSize + i * rowSize + 0 ≡ headSize + i * rowSize = omega arith in
+    ap (λ (r : Row). r .key .0) (row-at n i l h) ∙ cut-cut (headSize + i * rowSize) rowSize 0 16 l (omega arith) ∙ ap (λ (k : ℕ). cut k 16 l) z
 
 pub keys-before : (l : List ℕ) (n i j : ℕ) → i < n → j < n
-    → bytesBefore (cut (40 + i * 1095) 16 l) (cut (40 + j * 1095) 16 l) ≡ addrBefore (rowAt i (viewRows n l .rows) .key) (rowAt j (viewRows n l .rows) .key)
+    → bytesBefore (cut (headSize + i * rowSize) 16 l) (cut (headSize + j * rowSize) 16 l) ≡ addrBefore (rowAt i (viewRows n l .rows) .key) (rowAt j (viewRows n l .rows) .key)
 unfolding addrBefore
 keys-before l n i j hi hj = rw (row-key l n i hi, row-key l n j hj)
 

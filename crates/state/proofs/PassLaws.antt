@@ -118,7 +118,7 @@ passing-end q M Q w rs t i p h =
 -- ---- the head, and both together
 
 pub record HeadFacts (R m count : ℕ) : Type 0 where
-  pub small : R ≤ 1024
+  pub small : R ≤ maxRows
   pub space : m + probationBound m ≤ R
   pub there : count ≤ R
 

@@ -8,10 +8,11 @@ use lib.ListN.{length}
 use Rattle.rules.specs.Refusals.{badSize}
 use Rattle.rules.specs.Memory.{capacity}
 use Rattle.rules.proofs.LentMemory.{size-allowed}
+use Rattle.rules.specs.Layout.{headSize, rowSize}
 use Rattle.state.specs.Parts.{headSound}
 use Rattle.state.proofs.Facts.{size-refused}
 
-pub rows-there : (l : List ℕ) (m : ℕ) → badSize (capacity l) m ≡ false → 40 + capacity l * 1095 ≤ length l
+pub rows-there : (l : List ℕ) (m : ℕ) → badSize (capacity l) m ≡ false → headSize + capacity l * rowSize ≤ length l
 unfolding capacity
 rows-there l m h = let g = size-allowed (capacity l) m h in omega arith
 

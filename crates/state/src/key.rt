@@ -1,13 +1,14 @@
 // The order of the rows' keys.
-use memory::head::HEAD;
-use memory::head::ROW;
+use raw::layout::HEAD;
+use raw::layout::ROW;
 ghost use mathlib.Core.Path.{_≡_};
 ghost use Prim.Native.Nat.{_+_, _*_, _≤_, _<_};
 ghost use lib.ListN.{length, drop};
 ghost use Rattle.types.specs.Addresses.{bytesBefore};
-ghost use Rattle.rules.specs.Rows.{rowSize, rowAt};
+ghost use Rattle.rules.specs.Rows.{rowAt};
 ghost use Rattle.rules.specs.Sound.{leads};
-ghost use Rattle.rules.specs.Memory.{headSize, addressSize, cut, viewRows};
+ghost use Rattle.rules.specs.Memory.{cut, viewRows};
+ghost use Rattle.rules.specs.Layout.{addressSize, headSize, rowSize};
 
 // The address at byte a stands before the one at byte b: the first byte that differs decides.
 pub fn address_before(s: &[u8], a: usize, b: usize) -> bool

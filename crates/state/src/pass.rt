@@ -4,8 +4,9 @@ use crate::row::row_is_sound;
 ghost use mathlib.Core.Path.{_≡_};
 ghost use Prim.Native.Nat.{_+_, _*_, _^_, _≤_, _<_};
 ghost use lib.ListN.{length};
-ghost use Rattle.rules.specs.Rows.{rowSize};
-ghost use Rattle.rules.specs.Memory.{headSize, viewRows};
+ghost use Rattle.rules.specs.Memory.{viewRows};
+ghost use Rattle.rules.specs.Layout.{headSize, rowSize};
+ghost use Rattle.rules.specs.Records.{maxRows};
 ghost use Rattle.state.specs.Parts.{tallied, rowsSound};
 
 // Over the rows passed: main rows, probation rows, the weight of the main rows.
@@ -45,7 +46,7 @@ pub fn rows_are_sound(
     probation: u64,
     stored: u64,
 ) -> bool
-    requires { ⌜ (n ≤ 1024) × (headSize + n * rowSize ≤ length (now state)) ⌝ }
+    requires { ⌜ (n ≤ maxRows) × (headSize + n * rowSize ≤ length (now state)) ⌝ }
     ensures { λ r. ⌜ r ≡ rowsSound main probation seq stored (viewRows n (now (state .entry)) .rows) ⌝ }
 {
     let mut t = Totals {

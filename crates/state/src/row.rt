@@ -1,11 +1,18 @@
 // What is asked of a row by itself.
+use types::coord::PLACES;
 ghost use mathlib.Core.Path.{_≡_};
 ghost use Prim.Native.Nat.{_+_, _*_, _≤_, _<_, max};
 ghost use lib.ListN.{length};
 ghost use Rattle.types.specs.Paths.{addrsPerEntry};
-ghost use Rattle.rules.specs.Rows.{rowSize, rowAt};
+ghost use Rattle.rules.specs.Rows.{rowAt};
 ghost use Rattle.rules.specs.Sound.{rowSound};
-ghost use Rattle.rules.specs.Memory.{headSize, viewRows};
+ghost use Rattle.rules.specs.Memory.{viewRows};
+ghost use Rattle.rules.specs.Layout.{headSize, rowSize};
+
+// The most elements of a path, and the most that a row weighs, as the bytes of a row have them.
+const LONGEST: u8 = PLACES as u8;
+
+const WEIGHT_LIMIT: u8 = LONGEST;
 
 pub fn path_weight(len: u8) -> u8
     ensures { λ r. ⌜ r ≡ max addrsPerEntry len ⌝ }
@@ -27,8 +34,8 @@ pub fn row_is_sound(state: &[u8], n: usize, i: usize, seq: u64) -> bool
     let until = memory::row::verified_until(state, n, i);
     let first = memory::row::stamp_first(state, n, i);
     let least = path_weight(len);
-    let legal = (place <= 2) & ((source <= 1) & ((mark <= 1) & ((1 <= len) & (len <= 32))));
-    let weighed = (least <= weight) & (weight <= 32);
+    let legal = (place <= 2) & ((source <= 1) & ((mark <= 1) & ((1 <= len) & (len <= LONGEST))));
+    let weighed = (least <= weight) & (weight <= WEIGHT_LIMIT);
     let sourced = ((source == 0) | (until == 0))
         & (((place != 2) | (source != 0)) & ((place != 1) | ((source == 0) & (first == until))));
     legal & (weighed & ((stamp <= seq) & sourced))

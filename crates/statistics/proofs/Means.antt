@@ -7,7 +7,7 @@ use native.Mathlib.Nat.{mul-comm, mul-assoc, mod-lt, div-add-mod', mul-add-div-r
 use mathlib.Core.List.{List}
 use lib.ListN.{length, drop, drop-of-length-le}
 use lib.Seq.{drop-cons}
-use Rattle.rules.specs.Records.{Row}
+use Rattle.rules.specs.Records.{Row, maxRows}
 use Rattle.rules.specs.Rows.{rowAt, blankRow, total}
 use Rattle.rules.specs.Memory.{rowsOf, viewRows}
 use Rattle.rules.specs.Cases.{maybe}
@@ -43,7 +43,7 @@ pub mean-start : (n T : ℕ) → 0 < n → Mean n 0 0 0 T T
 unfolding AtMost
 mean-start n T h = record { some-rows = h; within = omega arith; exact = omega arith; bounded = omega arith; high = omega arith; low = omega arith }
 
-pub mean-turn : (n i q r a t u T : ℕ) → n ≤ 1024 → i < n → a ≤ largest → t ≡ a + u → Mean n i q r t T → Mean n (i + 1) (q + a / half) (r + a % half) u T
+pub mean-turn : (n i q r a t u T : ℕ) → n ≤ maxRows → i < n → a ≤ largest → t ≡ a + u → Mean n i q r t T → Mean n (i + 1) (q + a / half) (r + a % half) u T
 unfolding AtMost
 mean-turn n i q r a t u T k h b e m =
     record { some-rows = m .some-rows; within = omega arith; exact = omega (arith, m .exact); bounded = omega (arith, m .bounded); high = omega (arith, m .high); low = omega (arith, m .low) }
@@ -59,10 +59,10 @@ over n q r =
 high-of : (a : ℕ) → a ≤ largest → a / half ≤ 4294967295
 high-of a h = omega arith
 
-plus-fits : (i q x : ℕ) → i ≤ 1024 → q ≤ i * 4294967295 → x ≤ 4294967295 → q + x < 18446744073709551616
+plus-fits : (i q x : ℕ) → i ≤ maxRows → q ≤ i * 4294967295 → x ≤ 4294967295 → q + x < 18446744073709551616
 plus-fits i q x h g k = omega arith
 
-pub sum-fits : (n i q r t T a : ℕ) → n ≤ 1024 → a ≤ largest → Mean n i q r t T → q + a / half < 18446744073709551616
+pub sum-fits : (n i q r t T a : ℕ) → n ≤ maxRows → a ≤ largest → Mean n i q r t T → q + a / half < 18446744073709551616
 sum-fits n i q r t T a h k m = plus-fits i q (a / half) (omega (arith, m .within)) (m .high) (high-of a k)
 
 pub high-fits : (n i q r t T : ℕ) → i ≡ n → Mean n i q r t T → q / n ≤ 4294967295
@@ -83,7 +83,7 @@ mean-end (suc n) q r T m =
 
 -- ---- the ages of n rows
 
-pub age-turn : (l : List ℕ) (n i q r a time : ℕ) → n ≤ 1024 → i < n → time < 18446744073709551616 → a ≡ time - rowAt i (viewRows n l .rows) .entry .createdAt
+pub age-turn : (l : List ℕ) (n i q r a time : ℕ) → n ≤ maxRows → i < n → time < 18446744073709551616 → a ≡ time - rowAt i (viewRows n l .rows) .entry .createdAt
     → Mean n i q r (total (λ x. time - x .entry .createdAt) (drop i (viewRows n l .rows))) (total (λ x. time - x .entry .createdAt) (viewRows n l .rows))
     → Mean n (i + 1) (q + a / half) (r + a % half) (total (λ x. time - x .entry .createdAt) (drop (i + 1) (viewRows n l .rows))) (total (λ x. time - x .entry .createdAt) (viewRows n l .rows))
 age-turn l n i q r a time k h b e m =

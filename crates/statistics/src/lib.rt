@@ -6,17 +6,19 @@ ghost use mathlib.Core.Path.{_≡_};
 ghost use mathlib.Core.Bool.{true};
 ghost use Prim.Native.Nat.{_+_, _*_, _-_, _≤_, _<_, min};
 ghost use lib.ListN.{length};
-ghost use Rattle.rules.specs.Rows.{rowSize, rowAt, countRows};
+ghost use Rattle.rules.specs.Rows.{rowAt, countRows};
 ghost use Rattle.rules.specs.Entries.{expired};
 ghost use Rattle.rules.specs.Statistics.{totalAge, mean, stats, nextExpiry};
 ghost use Rattle.rules.specs.Sound.{sound};
-ghost use Rattle.rules.specs.Memory.{headSize, capacity, viewRows, view};
+ghost use Rattle.rules.specs.Memory.{capacity, viewRows, view};
 ghost use Rattle.rules.specs.Lent.{call};
 ghost use Rattle.rules.specs.Calls.{Stats, NextExpiry, ExpiryGiven};
 ghost use Rattle.rules.specs.Answers.{statsSaid, expirySaid};
+ghost use Rattle.rules.specs.Layout.{headSize, rowSize};
+ghost use Rattle.rules.specs.Records.{maxRows};
 
 fn count_expired(state: &[u8], n: usize, time: u64) -> u64
-    requires { ⌜ (n ≤ 1024) × (headSize + n * rowSize ≤ length (now state)) ⌝ }
+    requires { ⌜ (n ≤ maxRows) × (headSize + n * rowSize ≤ length (now state)) ⌝ }
     ensures { λ r. ⌜ r ≡ countRows (λ x. expired time (x .entry)) (viewRows n (now (state .entry)) .rows) ⌝ }
 {
     let mut count: u64 = 0;
@@ -42,7 +44,7 @@ const HALF: u64 = 0x1_0000_0000;
 
 // The exact total can pass 2^64, so the high and the low halves of the ages are summed apart, and divided at the end.
 fn mean_age(state: &[u8], n: usize, time: u64) -> u64
-    requires { ⌜ (n ≤ 1024) × (headSize + n * rowSize ≤ length (now state)) ⌝ }
+    requires { ⌜ (n ≤ maxRows) × (headSize + n * rowSize ≤ length (now state)) ⌝ }
     ensures { λ r. ⌜ r ≡ mean (totalAge time (viewRows n (now (state .entry)) .rows)) n ⌝ }
 {
     if n == 0 {
@@ -64,7 +66,7 @@ fn mean_age(state: &[u8], n: usize, time: u64) -> u64
 
 // Statistics of n rows.
 fn stats_of(state: &[u8], n: usize, time: u64) -> CacheStats
-    requires { ⌜ (n ≤ 1024) × (headSize + n * rowSize ≤ length (now state)) ⌝ }
+    requires { ⌜ (n ≤ maxRows) × (headSize + n * rowSize ≤ length (now state)) ⌝ }
     ensures { λ r. ⌜ r ≡ stats time (viewRows n (now (state .entry))) ⌝ }
 {
     let max = memory::head::max_entries(state);

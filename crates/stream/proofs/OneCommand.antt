@@ -11,7 +11,7 @@ use lib.Seq.{take-append-le, drop-append-le, take-length, drop-length, length-ta
 use borrow.Author.Tests.{leb-true, le-leb, le-ltb, ltb-false}
 use Rattle.types.specs.declared.coord.Appended.{Appended}
 use Rattle.types.specs.declared.coord.Path.{Path}
-use Rattle.types.specs.Paths.{appended, emptyPath}
+use Rattle.types.specs.Paths.{appended, emptyPath, pathPlaces}
 use Rattle.types.specs.Values.{says, refuses}
 use Rattle.rules.specs.Cases.{maybe}
 use Rattle.rules.specs.Records.{State}
@@ -197,7 +197,7 @@ answered-below-six l x p = below-six (capacity l) (view l) x
 -- what a command says is below 6
 pub obeyed-below-six : (h : Held) (c : Command) → obey h c .reply .refusal ≤ 5
 unfolding obey pended appended says refuses
-obeyed-below-six h (Element e) = go (ltb (h .pending .len) 32)
+obeyed-below-six h (Element e) = go (ltb (h .pending .len) pathPlaces)
   where
     go : (b : Bool) → let a : Appended = cond b (record { refusal = 0; path = record { entries = set (h .pending .entries) (h .pending .len) e; len = h .pending .len + 1 } }) (record { refusal = 2; path = h .pending }) in cond (eqb (a .refusal) 0) (says (a .path .len) 0 0 0 0) (refuses (a .refusal)) .refusal ≤ 5
     go true = omega arith

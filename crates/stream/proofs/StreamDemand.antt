@@ -21,7 +21,7 @@ use Rattle.rules.specs.Records.{State}
 use Rattle.rules.specs.Refusals.{Asked, Fresh, Request, badSize, fresh, gives, performRequest, refusal, serve}
 use Rattle.rules.specs.Lists.{Event}
 use Rattle.rules.specs.Lent.{Bytes, PathFits, Small, Typed, TypedRequest, call, calls, lent, requests}
-use Rattle.rules.specs.Commands.{Code, Command, Decoded, Element, Line, Plain, Session, WithPath, code, codes, coordrun, decode, funded, line, runCommands}
+use Rattle.rules.specs.Commands.{Code, Command, Decoded, Element, Line, Plain, Session, WithPath, code, codes, coordrun, decode, funded, line, runCommands, coordrunRows}
 use Rattle.rules.proofs.Addresses.{contradiction}
 use Rattle.rules.proofs.MemoryLaws.{bytes-take}
 use Rattle.rules.proofs.LentMemory.{calls-run, freshened, lent-request, refused-leaves, tailOf, third-demand-of-bytes}
@@ -29,6 +29,7 @@ use Rattle.rules.proofs.Requests.{requests-run}
 use Rattle.rules.proofs.Foreign.{rows-of-length}
 use Rattle.rules.proofs.Sizes.{copies-bytes, small8}
 use Rattle.rules.proofs.Refused.{fresh-refusal}
+use Rattle.rules.specs.Layout.{headSize, memorySize, rowSize}
 use Rattle.commands.specs.OnMemory.{Held, answered, held, obey, pended, reads, refusedSix}
 use Rattle.commands.proofs.Operands.{known, of-whole}
 use Rattle.commands.proofs.Typing.{Fitting, empty-fits, pending-fits}
@@ -255,15 +256,15 @@ empty-list [] h = refl
 empty-list (x ∷ xs) h = absurd (let z : ⊥ = omega arith in z)
 
 -- 24 rows, and nothing past them
-rows-24 : (l : List ℕ) → length l ≡ 26320 → capacity l ≡ 24
+rows-24 : (l : List ℕ) → length l ≡ memorySize coordrunRows → capacity l ≡ coordrunRows
 unfolding capacity
 rows-24 l h = rw h
 
-no-tail : (l : List ℕ) → length l ≡ 26320 → tailOf l ≡ []
+no-tail : (l : List ℕ) → length l ≡ memorySize coordrunRows → tailOf l ≡ []
 unfolding view viewRows heldRows
-no-tail l h = empty-list (tailOf l) (rw (length-drop ((capacity l - length (view l .rows)) * 1095) (view l .rest), length-drop (40 + heldRows l * 1095) l, rows-of-length (heldRows l) (drop 40 l), rows-24 l h) (omega arith))
+no-tail l h = empty-list (tailOf l) (rw (length-drop ((capacity l - length (view l .rows)) * rowSize) (view l .rest), length-drop (headSize + heldRows l * rowSize) l, rows-of-length (heldRows l) (drop headSize l), rows-24 l h) (omega arith))
 
-fresh-24 : (l : List ℕ) → length l ≡ 26320 → wasRefused (lent l (Fresh 8 300000) .answer) ≡ false
+fresh-24 : (l : List ℕ) → length l ≡ memorySize coordrunRows → wasRefused (lent l (Fresh 8 300000) .answer) ≡ false
 unfolding lent serve performRequest gives wasRefused badSize
 fresh-24 l h = let e : refusal (capacity l) (view l) (Fresh 8 300000) ≡ none = fresh-refusal (capacity l) 8 300000 (view l) ∙ rw (rows-24 l h) in rw e
 
@@ -274,7 +275,7 @@ pub record OnRows24 (l bs : List ℕ) : Type 0 where
   pub stream : FromFresh 300000 (held (lent l (Fresh 8 300000) .memory) emptyPath) bs
 
 -- COORDRUN, FOR EVERY BYTE STRING, on any memory of 24 rows
-pub coordrun-on-memory : (l bs : List ℕ) → length l ≡ 26320 → Bytes l → Bytes bs → OnRows24 l bs
+pub coordrun-on-memory : (l bs : List ℕ) → length l ≡ memorySize coordrunRows → Bytes l → Bytes bs → OnRows24 l bs
 unfolding coordrun
 coordrun-on-memory l bs e y z =
     let hm = small8 8 (omega arith) in
@@ -283,10 +284,10 @@ coordrun-on-memory l bs e y z =
     let h = held (lent l (Fresh 8 300000) .memory) emptyPath in
     let f = freshened l 8 300000 y hm ht d in
     let o = on-states (length bs) h bs (record { bytes = lent-request l (Fresh 8 300000) y (hm, ht) .bytes; pending = empty-fits }) z in
-    let s : sessionOf h ≡ record { state = fresh 24 8 300000 []; pending = emptyPath } = ap (λ (x : State). record { state = x; pending = emptyPath }) (f .state ∙ ap₂ (λ (R : ℕ) (t : List ℕ). fresh R 8 300000 t) (rows-24 l e) (no-tail l e)) in
+    let s : sessionOf h ≡ record { state = fresh coordrunRows 8 300000 []; pending = emptyPath } = ap (λ (x : State). record { state = x; pending = emptyPath }) (f .state ∙ ap₂ (λ (R : ℕ) (t : List ℕ). fresh R 8 300000 t) (rows-24 l e) (no-tail l e)) in
     let w : toEnd h bs .lines ≡ coordrun bs = o .lines ∙ ap₂ (λ (R : ℕ) (x : Session). runCommands (length bs) R x bs .lines) (f .size ∙ rows-24 l e) s in
     record { done = d; lines = w; stream = third-demand-of-stream l 8 300000 emptyPath bs y hm ht empty-fits z d }
 
 -- as the program starts: on a memory of zeros
-pub coordrun-from-zeros : (bs : List ℕ) → Bytes bs → OnRows24 (replicate 26320 0) bs
-coordrun-from-zeros bs z = coordrun-on-memory (replicate 26320 0) bs (length-replicate {A = ℕ} 26320 0) (copies-bytes 26320) z
+pub coordrun-from-zeros : (bs : List ℕ) → Bytes bs → OnRows24 (replicate (memorySize coordrunRows) 0) bs
+coordrun-from-zeros bs z = coordrun-on-memory (replicate (memorySize coordrunRows) 0) bs (length-replicate {A = ℕ} (memorySize coordrunRows) 0) (copies-bytes (memorySize coordrunRows)) z

@@ -1,13 +1,17 @@
 // The command stream for a driver in another language: runs as the crate `stream` proves them, with the pending path as bytes
 // and the run's end as numbers. Thin; the calls have the contracts.
+use raw::layout::BYTE;
+use raw::layout::ELEMENT;
+use raw::layout::PATH;
 use stream::stop::Stop;
 use types::coord::CoordEntry;
+use types::coord::PLACES;
 use types::coord::Path;
 use types::node_addr::NodeAddr;
 use types::reply::Tally;
 
-// A length, and 32 places of 32 bytes.
-const PENDING: usize = 1025;
+// A length, and the places.
+const PENDING: usize = PATH;
 
 // Used, written, why it stopped, commands done, commands refused.
 const REPORT: usize = 5;
@@ -21,13 +25,13 @@ fn blank() -> CoordEntry {
 }
 
 fn load(pending: &[u8]) -> Path {
-    let mut entries = [blank(); 32];
+    let mut entries = [blank(); PLACES];
     if pending.len() < PENDING {
         return Path::empty();
     }
     let mut k = 0;
-    while k < 32 {
-        entries[k] = entries::addr::load_coord_entry(pending, 1 + k * 32);
+    while k < PLACES {
+        entries[k] = entries::addr::load_coord_entry(pending, BYTE + k * ELEMENT);
         k += 1;
     }
     let len = raw::numbers::wide(pending[0]) as usize;
@@ -38,7 +42,7 @@ fn store(pending: &mut [u8], path: Path) {
     if pending.len() < PENDING {
         return;
     }
-    if 32 < path.len {
+    if PLACES < path.len {
         return;
     }
     rows::values::store_path(pending, 0, path);

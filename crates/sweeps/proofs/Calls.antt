@@ -14,7 +14,7 @@ use Rattle.memory.proofs.RowLaws.{view-length}
 use Rattle.types.specs.declared.node_addr.NodeAddr.{NodeAddr}
 use Rattle.types.specs.declared.answers.SweepAnswer.{SweepAnswer}
 use Rattle.rules.specs.Cases.{Every}
-use Rattle.rules.specs.Records.{Entry, Row, State}
+use Rattle.rules.specs.Records.{Entry, Row, State, maxRows}
 use Rattle.rules.specs.Rows.{total, inMain, weighRows, withOnlyRows}
 use Rattle.rules.specs.Sound.{sound}
 use Rattle.rules.specs.Lookups.{sweep, matching}
@@ -25,6 +25,7 @@ use Rattle.rules.specs.Memory.{capacity, rowsOf, viewRows, view}
 use Rattle.rules.specs.Lent.{Bytes, call}
 use Rattle.rules.proofs.SoundTest.{RowOk}
 use Rattle.rules.proofs.Public.{sound-memory}
+use Rattle.rules.specs.Layout.{headSize, rowSize}
 use Rattle.memory.specs.Edits.{OnlyRows, shrunk}
 use Rattle.memory.proofs.RowLaws.{only-shrunk}
 use Rattle.refusals.proofs.Frame.{done-with, not-refused}
@@ -37,7 +38,7 @@ fit-rows : (q : ℕ) (rs : List Row) → Every (RowOk q) rs → Every PathFit rs
 fit-rows q [] h = tt
 fit-rows q (r ∷ rs) h = (record { long = h .0 .long; short = h .0 .short }, fit-rows q rs (h .1))
 
-pub sweepable : (l : List ℕ) (n : ℕ) → sound (capacity l) (view l) ≡ true → n ≡ viewRows 0 l .rowCount → (n ≤ 1024) × (40 + n * 1095 ≤ length l) × PathsFit (viewRows n l .rows) × (viewRows n l .rowCount ≡ n) × (viewRows n l .storedWeight ≡ mainWeight (viewRows n l))
+pub sweepable : (l : List ℕ) (n : ℕ) → sound (capacity l) (view l) ≡ true → n ≡ viewRows 0 l .rowCount → (n ≤ maxRows) × (headSize + n * rowSize ≤ length l) × PathsFit (viewRows n l .rows) × (viewRows n l .rowCount ≡ n) × (viewRows n l .storedWeight ≡ mainWeight (viewRows n l))
 sweepable l n h e = let s = sound-memory l n h e in (s .few, s .long, fit-rows (viewRows n l .seq) (viewRows n l .rows) (s .sound .each), s .sound .counted ∙ s .rows, s .sound .storedWeight)
 
 sweeps-answer : (p : Entry → Bool) (s : State) → sweeps p s .answer ≡ RowsRemoved (matching p s)

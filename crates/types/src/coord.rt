@@ -3,7 +3,7 @@ use crate::node_addr::NodeAddr;
 ghost use mathlib.Core.Path.{_≡_};
 ghost use Prim.Native.Nat.{_≤_};
 ghost use lib.ListN.{length};
-ghost use Rattle.types.specs.Paths.{emptyPath, elements, startsAt, pathWeight, appended};
+ghost use Rattle.types.specs.Paths.{pathPlaces, emptyPath, elements, startsAt, pathWeight, appended};
 
 // A node on a path, with the sequence number and the timestamp of its declaration.
 pub struct CoordEntry {
@@ -12,9 +12,12 @@ pub struct CoordEntry {
     pub timestamp: u64,
 }
 
-// Thirty-two places and a length: element 0 is the node, the last one up to the length is the root.
+// How many places a path has.
+pub const PLACES: usize = 32;
+
+// Places and a length: element 0 is the node, the last one up to the length is the root.
 pub struct Path {
-    pub entries: [CoordEntry; 32],
+    pub entries: [CoordEntry; PLACES],
     pub len: usize,
 }
 
@@ -34,7 +37,7 @@ impl Path {
             sequence: 0,
             timestamp: 0,
         };
-        let es = [e; 32];
+        let es = [e; PLACES];
         Path {
             entries: es,
             len: 0,
@@ -44,9 +47,9 @@ impl Path {
     // How many places hold an element. A length past the last place, which no write makes, means all of them.
     pub fn count(self) -> usize
         ensures { λ r. ⌜ r ≡ length (elements self) ⌝ }
-        ensures { λ r. ⌜ r ≤ 32 ⌝ }
+        ensures { λ r. ⌜ r ≤ pathPlaces ⌝ }
     {
-        if self.len < 32 { self.len } else { 32 }
+        if self.len < PLACES { self.len } else { PLACES }
     }
 
     pub fn starts_at(self, key: NodeAddr) -> bool
@@ -73,7 +76,7 @@ impl Path {
         ensures { λ r. ⌜ r ≡ appended self e ⌝ }
     {
         let n = self.len;
-        if n < 32 {
+        if n < PLACES {
             let mut q = self;
             q.entries[n] = e;
             q.len = n + 1;

@@ -1,12 +1,16 @@
 // What a stream left, against what was recorded.
 use crate::text;
-use memory::head::HEAD;
-use memory::head::ROW;
+use raw::layout;
+use raw::layout::HEAD;
+use raw::layout::ROW;
+use state::head::MAX_ROWS;
 
 // A row's key and path length stand in front of its places, and its other fields behind them.
-const FRONT: usize = 17;
+const FRONT: usize = layout::PLACES_AT;
 
-const BACK: usize = 1041;
+const BACK: usize = layout::CREATED_AT;
+
+const MOST: usize = MAX_ROWS as usize;
 
 fn same(a: &[u8], b: &[u8]) -> bool {
     if a.len() != b.len() {
@@ -57,11 +61,11 @@ pub fn same_head(line: &[u8], memory: &[u8]) -> bool {
     if memory.len() < HEAD {
         return false;
     }
-    (text::number(line, 1) == raw::numbers::read_u64(memory, 0))
-        & (text::number(line, 2) == raw::numbers::read_u64(memory, 8))
-        & (text::number(line, 3) == raw::numbers::read_u64(memory, 16))
-        & (text::number(line, 4) == raw::numbers::read_u64(memory, 24))
-        & (text::number(line, 5) == raw::numbers::read_u64(memory, 32))
+    (text::number(line, 1) == raw::numbers::read_u64(memory, layout::MAX_ENTRIES))
+        & (text::number(line, 2) == raw::numbers::read_u64(memory, layout::DEFAULT_TTL))
+        & (text::number(line, 3) == raw::numbers::read_u64(memory, layout::SEQ))
+        & (text::number(line, 4) == raw::numbers::read_u64(memory, layout::STORED_WEIGHT))
+        & (text::number(line, 5) == raw::numbers::read_u64(memory, layout::ROW_COUNT))
 }
 
 // A row of the memory, whose places in use end at `end`: those behind are zero, and are not in the recorded bytes.
@@ -80,7 +84,7 @@ fn same_parts(row: &[u8], bytes: &[u8], end: usize) -> bool {
 
 // Row `n` of the memory against its recorded bytes.
 pub fn same_row(memory: &[u8], n: usize, bytes: &[u8]) -> bool {
-    if n > 1024 {
+    if n > MOST {
         return false;
     }
     let from = HEAD + n * ROW;
@@ -92,12 +96,12 @@ pub fn same_row(memory: &[u8], n: usize, bytes: &[u8]) -> bool {
         return false;
     }
     let length = raw::numbers::wide(bytes[FRONT - 1]) as usize;
-    same_parts(&memory[from..to], bytes, FRONT + length * 32)
+    same_parts(&memory[from..to], bytes, FRONT + length * layout::ELEMENT)
 }
 
 // Whether the rows from `n` on are zero.
 pub fn rest_is_zero(memory: &[u8], n: usize) -> bool {
-    if n > 1024 {
+    if n > MOST {
         return false;
     }
     let from = HEAD + n * ROW;

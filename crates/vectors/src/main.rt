@@ -6,8 +6,8 @@ mod session;
 mod text;
 
 use libc::STDIN_FILENO;
-use memory::head::HEAD;
-use memory::head::ROW;
+use raw::layout::HEAD;
+use raw::layout::ROW;
 use session::Session;
 use types::coord::Path;
 use types::reply::Tally;

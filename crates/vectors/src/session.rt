@@ -14,6 +14,8 @@ pub const ROW: u8 = 4;
 
 pub const REST: u8 = 5;
 
+const MOST: usize = state::head::MAX_ROWS as usize;
+
 pub struct Session {
     // The byte that the line before began with, comments aside.
     pub before: u8,
@@ -102,7 +104,7 @@ impl Session {
 
     pub fn one_row(self, is_same: bool) -> Session {
         let mut s = self;
-        if s.rows < 1024 {
+        if s.rows < MOST {
             s.rows = s.rows + 1;
         }
         s.holds(is_same, ROW, s.rows as u64)

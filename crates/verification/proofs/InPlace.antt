@@ -1,6 +1,6 @@
 -- A row written again where it stands is the row taken out and filed again.
 use mathlib.Core.Path.{_≡_, refl, sym, ap, _∙_}
-use Prim.Native.Nat.{ℕ, zero, suc, _+_, _-_, _≤_, _<_}
+use Prim.Native.Nat.{ℕ, zero, suc, _+_, _-_, _≤_, _<_, _*_}
 use native.Mathlib.Omega.{arith}
 use mathlib.Core.List.{List, [], _∷_, _++_}
 use mathlib.Core.Option.{some}
@@ -15,7 +15,7 @@ use Rattle.types.specs.Addresses.{addrBefore}
 use Rattle.types.specs.declared.entry.PathMtu.{PathMtu}
 use Rattle.types.specs.declared.entry.PathMtu.the-variants.{Unknown, Known}
 use Rattle.rules.specs.Cases.{maybe}
-use Rattle.rules.specs.Records.{Entry, Row, State, weightBound}
+use Rattle.rules.specs.Records.{Entry, Row, State, weightBound, maxRows, weightLimit}
 use Rattle.rules.specs.Rows.{rowAt, inMain, find, changeRow, withoutRow, insertInOrder, countRows, weighRows, mainCount, zeroRows, withRows, withOnlyRows}
 use Rattle.rules.specs.Sound.{sound}
 use Rattle.rules.specs.Entries.{update, markVerified, setMtu}
@@ -26,6 +26,7 @@ use Rattle.rules.specs.Memory.{viewRows}
 use Rattle.rules.proofs.Addresses.{before-irrefl, before-trans, contradiction}
 use Rattle.rules.proofs.RowLists.{Rising, cores, of-cores, every-at, change-at, length-change, total-insert, total-without, total-without-le, total-some, find-at}
 use Rattle.rules.proofs.SoundTest.{Sound, sound-is}
+use Rattle.rules.specs.Layout.{rowSize}
 use Rattle.stamps.proofs.Counting.{count-few}
 use Rattle.memory.specs.Edits.{withStoredWeight}
 use Rattle.memory.proofs.Changes.{change-twice}
@@ -65,11 +66,11 @@ weight-in : (k : NodeAddr) (e : Entry) (w q : ℕ) (rs : List Row) → weighRows
 unfolding inMain
 weight-in k e w q rs = omega (arith, total-insert (λ (x : Row). cond (ltb (x .place) 2) (x .weight) 0) (record { key = k; entry = e; place = 0; stampFirst = e .lastUsed; stampSeq = q; weight = w }) rs)
 
-rest-back : (i : ℕ) (rs : List Row) (l : List ℕ) → i < length rs → drop 1095 (zeroRows (length rs - length (withoutRow i rs)) ++ l) ≡ l
+rest-back : (i : ℕ) (rs : List Row) (l : List ℕ) → i < length rs → drop rowSize (zeroRows (length rs - length (withoutRow i rs)) ++ l) ≡ l
 unfolding zeroRows
 rest-back i rs l h =
     let e : length rs - length (withoutRow i rs) ≡ 1 = omega (arith, length-without i rs h) in
-    rw e (drop-at (replicate 1095 0) l 1095 (length-replicate {A = ℕ} 1095 0))
+    rw e (drop-at (replicate rowSize 0) l rowSize (length-replicate {A = ℕ} rowSize 0))
 
 module _ (R : ℕ) (k : NodeAddr) (s : State) (d : Sound R s) where
   pub filed-back : (i w v : ℕ) (e : Entry) → i < length (s .rows) → rowAt i (s .rows) .key ≡ k → inMain (rowAt i (s .rows)) ≡ true → v ≡ weighRows inMain (withoutRow i (s .rows)) + w → withStoredWeight v (refile e w i s) ≡ fileNew k e w 0 (takeOut i s)
@@ -149,7 +150,7 @@ weight-out R i v w s d h m ev ew =
     (omega arith, omega arith)
 
 -- the weight that stays is small
-pub stored-few : (R i : ℕ) (s : State) → sound R s ≡ true → weighRows inMain (withoutRow i (s .rows)) ≤ 32768
+pub stored-few : (R i : ℕ) (s : State) → sound R s ≡ true → weighRows inMain (withoutRow i (s .rows)) ≤ maxRows * weightLimit
 stored-few R i s h = omega (arith, total-without-le (λ r. cond (inMain r) (r .weight) 0) i (s .rows), sound-is R s h .storedWeight, sound-small R s h .stored)
 
 pub room-out : (i m c u x : ℕ) (s : State) (b : Bool) → i < length (s .rows) → inMain (rowAt i (s .rows)) ≡ true → m ≡ s .maxEntries → ltb c m ≡ ltb (mainCount s - 1) m → u ≡ weighRows inMain (withoutRow i (s .rows))

@@ -22,6 +22,7 @@ use Rattle.rules.specs.Refusals.{noPlaceFor}
 use Rattle.rules.specs.Memory.{capacity, viewRows}
 use Rattle.rules.proofs.CallsKeep.{Out, withoutKey-out, verified-free}
 use Rattle.rules.proofs.LentMemory.{capacity-same}
+use Rattle.rules.specs.Layout.{headSize, rowSize}
 use Rattle.search.specs.declared.answers.Search.{Search}
 use Rattle.search.specs.declared.answers.Search.the-variants.{At, Absent}
 use Rattle.search.specs.ByKey.{searched}
@@ -86,7 +87,7 @@ module _ (k : NodeAddr) (p : Path) (t n r w : ℕ) (l m : List ℕ) (h : sound (
   seq-out q = omega (arith, ap (λ (x : State). x .seq) (o .state), out .seq)
 
   -- what seeking room asks
-  pub room-asked : viewRows n l .seq ≤ 18446744073709547519 → (40 + r * 1095 ≤ length m) × (sound (capacity m) (viewRows r m) ≡ true) × (viewRows r m .seq + total (mainVisits t) (viewRows r m .rows) < 18446744073709551616)
+  pub room-asked : viewRows n l .seq ≤ 18446744073709547519 → (headSize + r * rowSize ≤ length m) × (sound (capacity m) (viewRows r m) ≡ true) × (viewRows r m .seq + total (mainVisits t) (viewRows r m .rows) < 18446744073709551616)
   room-asked q = room-asks t r m (without .sound) (seq-out q)
 
   main-free : noPlaceFor (capacity l) (viewRows n l) (record { key = k; path = p; time = t }) ≡ false → mainCount (makeRoom t w (viewRows r m) .state) < mainBound (capacity m) (makeRoom t w (viewRows r m) .state .maxEntries)

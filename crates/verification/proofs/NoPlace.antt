@@ -17,6 +17,7 @@ use Rattle.rules.specs.Calls.{VerifiedWrite}
 use Rattle.rules.specs.Refusals.{keyInMain, noPlaceFor}
 use Rattle.rules.specs.Memory.{capacity, viewRows}
 use Rattle.rules.proofs.SoundTest.{ascends-test}
+use Rattle.rules.specs.Layout.{headSize, rowSize}
 use Rattle.memory.proofs.Fields.{same-head}
 use Rattle.memory.proofs.RowLaws.{view-length}
 use Rattle.search.specs.declared.answers.Search.{Search}
@@ -30,7 +31,7 @@ use Rattle.room.proofs.Files.{shown, laid-out}
 -- ---- the key's row
 
 -- the rows are there, and rise
-pub rows-searchable : (n : ℕ) (l : List ℕ) → sound (capacity l) (viewRows n l) ≡ true → (ascends (viewRows n l .rows) ≡ true) × (40 + n * 1095 ≤ length l)
+pub rows-searchable : (n : ℕ) (l : List ℕ) → sound (capacity l) (viewRows n l) ≡ true → (ascends (viewRows n l .rows) ≡ true) × (headSize + n * rowSize ≤ length l)
 rows-searchable n l h = (ascends-test (viewRows n l .rows) (shown n l h .rising), laid-out n l h)
 
 pub row-inside : (n : ℕ) (l : List ℕ) (k : NodeAddr) (i : ℕ) (r : Search) → r ≡ searched k (viewRows n l .rows) → r ≡ At i → i < n

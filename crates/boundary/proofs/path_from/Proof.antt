@@ -5,7 +5,7 @@ use Prim.Native.Nat.{_-_, _*_, _≤_, min}
 use native.Mathlib.Omega.{arith}
 use borrow.Author.Needs.{needs}
 use lib.ListN.{length, take, drop, replicate, length-set}
-use Rattle.types.specs.Paths.{zeroEntry}
+use Rattle.types.specs.Paths.{zeroEntry, pathPlaces}
 use Rattle.rules.specs.Memory.{coordEntriesOf}
 use Rattle.entries.proofs.Bytes.{stored}
 use Rattle.entries.proofs.Places.{entries-length, entries-at}
@@ -14,13 +14,13 @@ use Rattle.boundary.proofs.path_from.Statement.{statement}
 use Rattle.boundary.proofs.path_from.Tie as tie
 
 abbrev Inv-loop : tie.InvT-loop
-Inv-loop bytes len held entries₀ k₀ entries k = (k ≤ held) × (entries ≡ take k (coordEntriesOf held bytes) ++ drop k (replicate 32 zeroEntry)) × (length entries ≡ 32)
+Inv-loop bytes len held entries₀ k₀ entries k = (k ≤ held) × (entries ≡ take k (coordEntriesOf held bytes) ++ drop k (replicate pathPlaces zeroEntry)) × (length entries ≡ pathPlaces)
 
 abbrev μ-loop : tie.MeasureT-loop
 μ-loop bytes len held entries₀ k₀ entries k = held - k
 
 loop-holds : tie.Need-loop-holds Inv-loop μ-loop
-loop-holds c = (omega arith, ap (replicate 32) (c .zero-entry .ensures), refl)
+loop-holds c = (omega arith, ap (replicate pathPlaces) (c .zero-entry .ensures), refl)
 
 load-coord-entry-requires : tie.Need-load-coord-entry-requires Inv-loop μ-loop
 load-coord-entry-requires c κs = omega (arith, c .before .before .before .lesser .ensures)
@@ -29,7 +29,7 @@ loop-again : tie.Need-loop-again Inv-loop μ-loop
 loop-again c =
     let s = c .before .before .before .before .before .before .args in
     let n = entries-length (c .before .before .before .before .lesser .result) (s .bytes .now) in
-    (omega arith, stored (coordEntriesOf (c .before .before .before .before .lesser .result) (s .bytes .now)) (replicate 32 zeroEntry) (c .before .before .loop .entries) (c .before .before .loop .k) (c .load-coord-entry .result) (c .load-coord-entry .result) (c .before .before .loop .inv .1) (c .load-coord-entry .ensures ∙ sym (entries-at (c .before .before .before .before .lesser .result) (c .before .before .loop .k) (s .bytes .now) _ (omega arith))) (omega (arith, n)) (omega (arith, c .before .before .before .before .lesser .ensures)), simp length-set (c .before .before .loop .inv .2))
+    (omega arith, stored (coordEntriesOf (c .before .before .before .before .lesser .result) (s .bytes .now)) (replicate pathPlaces zeroEntry) (c .before .before .loop .entries) (c .before .before .loop .k) (c .load-coord-entry .result) (c .load-coord-entry .result) (c .before .before .loop .inv .1) (c .load-coord-entry .ensures ∙ sym (entries-at (c .before .before .before .before .lesser .result) (c .before .before .loop .k) (s .bytes .now) _ (omega arith))) (omega (arith, n)) (omega (arith, c .before .before .before .before .lesser .ensures)), simp length-set (c .before .before .loop .inv .2))
 
 returns : tie.Need-returns Inv-loop μ-loop
 returns c = path-made (c .before .before .before .before .before .args .bytes .now) _ (c .before .before .before .lesser .result) (c .before .loop .k) (c .before .loop .entries) refl (c .before .before .before .lesser .ensures) (c .before .loop .inv .1) (omega arith)

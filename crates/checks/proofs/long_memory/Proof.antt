@@ -1,16 +1,18 @@
 -- The length is a law of `replicate` at any n: at the number itself antt would run out of stack.
 use mathlib.Core.Path.{_≡_, refl, sym, ap, _∙_}
-use Prim.Native.Nat.{ℕ}
+use Prim.Native.Nat.{ℕ, _+_}
 use mathlib.Core.List.{List}
 use lib.ListN.{length, replicate, length-replicate}
 use Rattle.checks.proofs.long_memory.Statement.{statement}
 use Rattle.checks.proofs.long_memory.Tie as tie
+use Rattle.rules.specs.Records.{maxRows}
+use Rattle.rules.specs.Layout.{memorySize}
 
 zeros : (n : ℕ) (l : List ℕ) → l ≡ replicate n 0 → n ≡ length l
 zeros n l e = sym (ap length e ∙ length-replicate n 0)
 
 returns : tie.Need-returns
-returns c = zeros 1122415 _ refl
+returns c = zeros (memorySize (maxRows + 1)) _ refl
 
 pub long-memory-spec : {M : Type 1} → statement M
 long-memory-spec = tie.close (tie.spec returns)

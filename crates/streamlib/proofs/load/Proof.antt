@@ -5,12 +5,13 @@ use lib.ListN.{length, length-set}
 use borrow.Author.Needs.{needs}
 use Rattle.streamlib.proofs.load.Statement.{statement}
 use Rattle.streamlib.proofs.load.Tie as tie
+use Rattle.types.specs.Paths.{pathPlaces}
 
 abbrev Inv-loop : tie.InvT-loop
-Inv-loop pending entries₀ k₀ entries k = (k ≤ 32) × (length entries ≡ 32)
+Inv-loop pending entries₀ k₀ entries k = (k ≤ pathPlaces) × (length entries ≡ pathPlaces)
 
 abbrev μ-loop : tie.MeasureT-loop
-μ-loop pending entries₀ k₀ entries k = 32 - k
+μ-loop pending entries₀ k₀ entries k = pathPlaces - k
 
 loop-holds : tie.Need-loop-holds Inv-loop μ-loop
 loop-holds c = (omega arith, refl)

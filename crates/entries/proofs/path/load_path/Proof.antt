@@ -10,12 +10,13 @@ use Rattle.entries.proofs.Places.{rowPath, places-length, place-at}
 use Rattle.entries.proofs.Values.{path-made}
 use Rattle.entries.proofs.path.load_path.Statement.{statement}
 use Rattle.entries.proofs.path.load_path.Tie as tie
+use Rattle.types.specs.Paths.{pathPlaces}
 
 abbrev Inv-loop : tie.InvT-loop
-Inv-loop state n i places entries₀ place₀ entries place = (place ≤ 32) × (length entries₀ ≡ 32) × (entries ≡ take place (rowPath n i state .entries) ++ drop place entries₀) × (length entries ≡ 32)
+Inv-loop state n i places entries₀ place₀ entries place = (place ≤ pathPlaces) × (length entries₀ ≡ pathPlaces) × (entries ≡ take place (rowPath n i state .entries) ++ drop place entries₀) × (length entries ≡ pathPlaces)
 
 abbrev μ-loop : tie.MeasureT-loop
-μ-loop state n i places entries₀ place₀ entries place = 32 - place
+μ-loop state n i places entries₀ place₀ entries place = pathPlaces - place
 
 loop-holds : tie.Need-loop-holds Inv-loop μ-loop
 loop-holds c = (omega arith, refl, refl, refl)

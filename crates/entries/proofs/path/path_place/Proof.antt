@@ -3,9 +3,10 @@ use Prim.Native.Nat.{ℕ, _+_, _*_}
 use borrow.Author.Needs.{needs}
 use Rattle.entries.proofs.path.path_place.Statement.{statement}
 use Rattle.entries.proofs.path.path_place.Tie as tie
+use Rattle.rules.specs.Layout.{coordEntrySize, headSize, placesInRow, rowSize}
 
 returns : tie.Need-returns
-returns c = ap (λ (k : ℕ). record { at = 40 + c .before .before .args .i * 1095 + 17; bytes = k * 32 }) (c .path-len .ensures)
+returns c = ap (λ (k : ℕ). record { at = headSize + c .before .before .args .i * rowSize + placesInRow; bytes = k * coordEntrySize }) (c .path-len .ensures)
 
 pub path-place-spec : {M : Type 1} → statement M
 path-place-spec =

@@ -1,6 +1,7 @@
 use mathlib.Core.Path.{refl, _∙_}
 use native.Mathlib.Omega.{arith}
 use Rattle.rules.specs.Memory.{entryOf, pathOf}
+use Rattle.rules.specs.Layout.{lastUsedOffset}
 use Rattle.memory.proofs.Fields.{entry-number}
 use borrow.Author.Needs.{needs}
 use Rattle.memory.proofs.row.last_used.Statement.{statement}
@@ -10,7 +11,7 @@ returns : tie.Need-returns
 unfolding entryOf pathOf
 returns c =
     let s = c .before .before in
-    c .read-u64 .ensures ∙ entry-number (λ e. e .lastUsed) 1033 8 (λ c. refl) (omega arith) (s .args .state .now) (s .args .n) (s .args .i) (s .pre .0)
+    c .read-u64 .ensures ∙ entry-number (λ e. e .lastUsed) lastUsedOffset 8 (λ c. refl) (omega arith) (s .args .state .now) (s .args .n) (s .args .i) (s .pre .0)
 
 pub last-used-spec : {M : Type 1} → statement M
 last-used-spec =

@@ -1,6 +1,7 @@
 use mathlib.Core.Path.{refl, _∙_}
 use native.Mathlib.Omega.{arith}
 use Rattle.rules.specs.Memory.{entryOf, pathOf}
+use Rattle.rules.specs.Layout.{mtuOffset}
 use Rattle.memory.proofs.Fields.{entry-number}
 use borrow.Author.Needs.{needs}
 use Rattle.memory.proofs.row.mtu.Statement.{statement}
@@ -10,7 +11,7 @@ returns : tie.Need-returns
 unfolding entryOf pathOf
 returns c =
     let s = c .before .before in
-    c .read-u16 .ensures ∙ entry-number (λ e. e .mtu) 1050 2 (λ c. refl) (omega arith) (s .args .state .now) (s .args .n) (s .args .i) (s .pre .0)
+    c .read-u16 .ensures ∙ entry-number (λ e. e .mtu) mtuOffset 2 (λ c. refl) (omega arith) (s .args .state .now) (s .args .n) (s .args .i) (s .pre .0)
 
 pub mtu-spec : {M : Type 1} → statement M
 mtu-spec = tie.close (tie.spec (λ c. search needs) (λ c. search needs) (λ c. search needs) (λ c κs. search needs) returns)

@@ -5,15 +5,16 @@ use lib.ListN.{length, length-set, take}
 use lib.Seq.{sets}
 use borrow.Author.Needs.{needs}
 use Rattle.rules.specs.Memory.{cut}
+use Rattle.rules.specs.Layout.{headSize, rowSize}
 use Rattle.memory.proofs.RowLaws.{copy-turn, whole-cut}
 use Rattle.memory.proofs.rows.copy_row.Statement.{statement}
 use Rattle.memory.proofs.rows.copy_row.Tie as tie
 
 abbrev Inv-loop : tie.InvT-loop
-Inv-loop state₀ n i j from to k₀ state k = (k ≤ 1095) × (length state ≡ length state₀) × (state ≡ sets state₀ to (take k (cut from 1095 state₀))) × (from ≡ 40 + i * 1095) × (to ≡ 40 + j * 1095)
+Inv-loop state₀ n i j from to k₀ state k = (k ≤ rowSize) × (length state ≡ length state₀) × (state ≡ sets state₀ to (take k (cut from rowSize state₀))) × (from ≡ headSize + i * rowSize) × (to ≡ headSize + j * rowSize)
 
 abbrev μ-loop : tie.MeasureT-loop
-μ-loop state₀ n i j from to k₀ state k = 1095 - k
+μ-loop state₀ n i j from to k₀ state k = rowSize - k
 
 loop-holds : tie.Need-loop-holds Inv-loop μ-loop
 loop-holds c = (omega arith, refl, refl, refl, refl)
@@ -23,7 +24,7 @@ loop-again c =
     let p = c .before .before in
     let v = p .loop .inv in
     let s = p .before in
-    (omega arith, simp length-set (v .1), rw (v .2) (copy-turn (s .args .state .now) (40 + s .args .i * 1095) (40 + s .args .j * 1095) (p .loop .k) (omega arith) (omega arith) (omega arith)), refl, refl)
+    (omega arith, simp length-set (v .1), rw (v .2) (copy-turn (s .args .state .now) (headSize + s .args .i * rowSize) (headSize + s .args .j * rowSize) (p .loop .k) (omega arith) (omega arith) (omega arith)), refl, refl)
 
 same-length : tie.Need-same-length Inv-loop μ-loop
 same-length c = c .before .loop .inv .1
@@ -32,8 +33,8 @@ returns : tie.Need-returns Inv-loop μ-loop
 returns c =
     let p = c .before in
     let s = p .before in
-    let e : p .loop .k ≡ 1095 = omega arith in
-    p .loop .inv .2 ∙ ap (λ (k : ℕ). sets (s .args .state .now) (40 + s .args .j * 1095) (take k (cut (40 + s .args .i * 1095) 1095 (s .args .state .now)))) e ∙ ap (sets (s .args .state .now) (40 + s .args .j * 1095)) (whole-cut (40 + s .args .i * 1095) (s .args .state .now))
+    let e : p .loop .k ≡ rowSize = omega arith in
+    p .loop .inv .2 ∙ ap (λ (k : ℕ). sets (s .args .state .now) (headSize + s .args .j * rowSize) (take k (cut (headSize + s .args .i * rowSize) rowSize (s .args .state .now)))) e ∙ ap (sets (s .args .state .now) (headSize + s .args .j * rowSize)) (whole-cut (headSize + s .args .i * rowSize) (s .args .state .now))
 
 pub copy-row-spec : {M : Type 1} → statement M
 copy-row-spec =

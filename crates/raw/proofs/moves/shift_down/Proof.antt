@@ -7,15 +7,16 @@ use lib.ListN.{length, length-set}
 use Rattle.raw.proofs.MoveLaws.{down, down-start, down-step}
 use Rattle.raw.proofs.moves.shift_down.Statement.{statement}
 use Rattle.raw.proofs.moves.shift_down.Tie as tie
+use Rattle.rules.specs.Layout.{rowSize}
 
 abbrev Inv-loop : tie.InvT-loop
-Inv-loop s₀ at end stop i₀ s i = (at ≤ i) × ((i ≤ stop) × ((s ≡ down at i 1095 s₀) × (length s ≡ length s₀)))
+Inv-loop s₀ at end stop i₀ s i = (at ≤ i) × ((i ≤ stop) × ((s ≡ down at i rowSize s₀) × (length s ≡ length s₀)))
 
 abbrev μ-loop : tie.MeasureT-loop
 μ-loop s₀ at end stop i₀ s i = stop - i
 
 loop-holds : tie.Need-loop-holds Inv-loop μ-loop
-loop-holds c = (search needs, (search needs, (down-start _ (c .args .at) 1095, refl)))
+loop-holds c = (search needs, (search needs, (down-start _ (c .args .at) rowSize, refl)))
 
 loop-again : tie.Need-loop-again Inv-loop μ-loop
 loop-again c =
@@ -24,7 +25,7 @@ loop-again c =
       (
         omega arith,
         (
-          rw (at-loop .inv .1 .1 .0, add-one) (down-step _ _ 1095 (at-loop .i) (at-loop .inv .0) (omega arith)),
+          rw (at-loop .inv .1 .1 .0, add-one (at-loop .i)) (down-step _ _ rowSize (at-loop .i) (at-loop .inv .0) (omega arith)),
           simp length-set (at-loop .inv .1 .1 .1),
         ),
       ),
@@ -36,8 +37,8 @@ same-length c = c .before .loop .inv .1 .1 .1
 returns : tie.Need-returns Inv-loop μ-loop
 returns c =
     let at-loop = c .before .loop in
-    let e : at-loop .i ≡ c .before .before .args .end - 1095 = omega arith in
-    let f : c .before .before .args .end - 1095 + 1095 ≡ c .before .before .args .end = omega arith in
+    let e : at-loop .i ≡ c .before .before .args .end - rowSize = omega arith in
+    let f : c .before .before .args .end - rowSize + rowSize ≡ c .before .before .args .end = omega arith in
     rw (e, f) at (at-loop .inv .1 .1 .0)
 
 pub shift-down-spec : {M : Type 1} → statement M

@@ -6,15 +6,16 @@ use lib.ListN.{length, length-set}
 use Rattle.raw.proofs.MoveLaws.{up, up-start, up-turn}
 use Rattle.raw.proofs.moves.shift_up.Statement.{statement}
 use Rattle.raw.proofs.moves.shift_up.Tie as tie
+use Rattle.rules.specs.Layout.{rowSize}
 
 abbrev Inv-loop : tie.InvT-loop
-Inv-loop s₀ from to i₀ s i = (from ≤ i) × ((i ≤ to) × ((s ≡ up i to 1095 s₀) × (length s ≡ length s₀)))
+Inv-loop s₀ from to i₀ s i = (from ≤ i) × ((i ≤ to) × ((s ≡ up i to rowSize s₀) × (length s ≡ length s₀)))
 
 abbrev μ-loop : tie.MeasureT-loop
 μ-loop s₀ from to i₀ s i = i
 
 loop-holds : tie.Need-loop-holds Inv-loop μ-loop
-loop-holds c = (search needs, (search needs, (up-start _ (c .args .to) 1095, refl)))
+loop-holds c = (search needs, (search needs, (up-start _ (c .args .to) rowSize, refl)))
 
 loop-again : tie.Need-loop-again Inv-loop μ-loop
 loop-again c =
@@ -24,7 +25,7 @@ loop-again c =
       (
         omega arith,
         (
-          up-turn (start .args .s .now) (at-loop .s) (start .args .from) (start .args .to) 1095 (at-loop .i) (at-loop .inv .1 .1 .0) (c .before .loop-test .taken) (at-loop .inv .1 .0) (start .pre .1),
+          up-turn (start .args .s .now) (at-loop .s) (start .args .from) (start .args .to) rowSize (at-loop .i) (at-loop .inv .1 .1 .0) (c .before .loop-test .taken) (at-loop .inv .1 .0) (start .pre .1),
           simp length-set (at-loop .inv .1 .1 .1),
         ),
       ),

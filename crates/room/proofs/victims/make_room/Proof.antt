@@ -1,7 +1,7 @@
 use mathlib.Core.Path.{_≡_, refl, sym, ap, _∙_}
-use Prim.Native.Nat.{ℕ, _≤_, min}
+use Prim.Native.Nat.{ℕ, _≤_, min, _*_}
 use native.Mathlib.Omega.{arith}
-use Rattle.rules.specs.Records.{weightBound}
+use Rattle.rules.specs.Records.{weightBound, maxRows}
 use Rattle.rules.specs.Memory.{viewRows}
 use Rattle.rules.proofs.Addresses.{contradiction}
 use Rattle.rules.proofs.SoundTest.{sound-is}
@@ -33,7 +33,7 @@ cut-to-bound-requires : tie.Need-cut-to-bound-requires
 cut-to-bound-requires c κs = omega (arith, most c, sound-small _ _ (c .before .before .before .pre .1) .max)
 
 -- the weights that are held against B
-weights : (c : tie.After-stored-weight) → (c .before .before .before .max-entries .result ≤ 1024) × (c .stored-weight .result ≤ 262144) × (c .before .before .cut-to-bound .result ≤ weightBound (c .before .before .before .max-entries .result))
+weights : (c : tie.After-stored-weight) → (c .before .before .before .max-entries .result ≤ maxRows) × (c .stored-weight .result ≤ maxRows * 256) × (c .before .before .cut-to-bound .result ≤ weightBound (c .before .before .before .max-entries .result))
 weights c =
     let m = sound-small _ _ (c .before .before .before .before .before .before .pre .1) in
     (omega (arith, most (c .before .before .before), m .max), omega (arith, stored c, m .stored), omega (arith, c .before .before .cut-to-bound .ensures))

@@ -7,12 +7,13 @@ use native.Mathlib.Omega.{arith}
 use borrow.Author.Needs.{needs}
 use Rattle.rows.proofs.saved.store_saved.Statement.{statement}
 use Rattle.rows.proofs.saved.store_saved.Tie as tie
+use Rattle.rules.specs.Layout.{rowSize}
 
 abbrev Inv-loop : tie.InvT-loop
-Inv-loop s₀ at row i₀ s i = (i ≤ 1095) × (length row ≡ 1095) × (length s ≡ length s₀) × (s ≡ sets s₀ at (take i row))
+Inv-loop s₀ at row i₀ s i = (i ≤ rowSize) × (length row ≡ rowSize) × (length s ≡ length s₀) × (s ≡ sets s₀ at (take i row))
 
 abbrev μ-loop : tie.MeasureT-loop
-μ-loop s₀ at row i₀ s i = 1095 - i
+μ-loop s₀ at row i₀ s i = rowSize - i
 
 loop-again : tie.Need-loop-again Inv-loop μ-loop
 loop-again c =
