@@ -1,6 +1,5 @@
 pub mod Codes
 pub mod Operands
 pub mod Typing
-pub mod Replying
 pub mod Taking
 pub mod Obeying

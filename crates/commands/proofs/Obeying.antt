@@ -27,8 +27,8 @@ use Rattle.rules.specs.Layout.{coordEntrySize}
 use Rattle.commands.specs.Widths.{widthOf}
 use Rattle.commands.specs.OnMemory.{Held, Obeyed, answered, pended, obey, refusedSix, obeyByte, whole, reads, obeyWhole, held, badKind, Says}
 use Rattle.commands.proofs.Operands.{known, of-whole, number-at, first-at, asks}
-use Rattle.commands.proofs.Typing.{typed-path, typed-request, call-same, fresh-sound}
-use Rattle.commands.proofs.Replying.{number-reply}
+use Rattle.commands.proofs.Typing.{typed-path, typed-request}
+use Rattle.rules.proofs.LentSound.{call-same, fresh-sound, number-reply}
 use Rattle.commands.proofs.Taking.{takes, bad-none}
 use Rattle.commands.specs.declared.command.AfterCommand.{AfterCommand}
 use Rattle.commands.specs.After.{Answers}

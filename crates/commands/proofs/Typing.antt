@@ -4,7 +4,7 @@ use Prim.Native.Nat.{ℕ, zero, suc, _+_, _*_, _/_, _≤_}
 use native.Mathlib.Omega.{arith}
 use mathlib.Core.List.{List, [], _∷_}
 use mathlib.Core.Option.{Option, none, some}
-use mathlib.Core.Bool.{Bool, true, false, _||_}
+use mathlib.Core.Bool.{true}
 use lib.Dec.{eqb, ltb}
 use lib.ListN.{length, take, replicate, set, length-set, length-replicate}
 use lib.Seq.{length-take-le}
@@ -15,20 +15,15 @@ use Rattle.types.specs.Paths.{zeroEntry, emptyPath, appended, pathPlaces}
 use Rattle.types.specs.declared.placed.Funding.{Funding}
 use Rattle.types.specs.declared.placed.Funding.the-variants.{Upto, Uncharged}
 use Rattle.rules.specs.Cases.{maybe, Every}
-use Rattle.rules.specs.Sound.{sound}
-use Rattle.rules.specs.Memory.{cut, leNumber, coordEntryOf, capacity, view}
-use Rattle.rules.specs.Calls.{Call, Done, wasRefused}
-use Rattle.rules.specs.Refusals.{Request, Fresh, Asked, badSize, refusal, serve, gives, performRequest}
-use Rattle.rules.specs.Answers.{refusalOf}
-use Rattle.rules.specs.Lent.{Bytes, Small, AddrFits, CoordEntryFits, PathFits, WriteFits, Typed, TypedRequest, lent, call}
+use Rattle.rules.specs.Memory.{cut, leNumber, coordEntryOf}
+use Rattle.rules.specs.Calls.{Call}
+use Rattle.rules.specs.Refusals.{Request, Asked}
+use Rattle.rules.specs.Lent.{Bytes, Small, AddrFits, CoordEntryFits, PathFits, WriteFits, Typed, TypedRequest}
 use Rattle.rules.specs.Commands.{Code, Command, Element, WithPath, Plain, code, codes, keyIn, timeIn, funded, takesPath}
 use Rattle.rules.proofs.RowLists.{by-cond, by-maybe}
 use Rattle.rules.proofs.MemoryLaws.{bytes-cut, bytes-take, length-cut}
 use Rattle.rules.proofs.Sizes.{small8, copies-bytes}
-use Rattle.rules.proofs.Refused.{fresh-refusal}
-use Rattle.rules.proofs.SoundKept.{step-sound}
-use Rattle.rules.proofs.LentMemory.{lent-request, refused-leaves, capacity-same, freshened}
-use Rattle.rules.proofs.Public.{fresh-refused, unsound-one}
+use Rattle.rules.proofs.LentMemory.{lent-request}
 use Rattle.rules.specs.Layout.{coordEntrySize}
 use Rattle.commands.specs.OnMemory.{Held, Obeyed, answered, pended, obey, refusedSix, whole, reads, obeyWhole}
 use Rattle.commands.proofs.Operands.{known, of-whole}
@@ -120,53 +115,6 @@ typed-request b bs x w y e = command-fits b bs emptyPath (Plain x) w y empty-fit
 
 pub element-fits : (b : ℕ) (bs : List ℕ) (e : CoordEntry) → whole b bs ≡ true → Bytes bs → reads b bs ≡ some (Element e) → CoordEntryFits e
 element-fits b bs e w y r = command-fits b bs emptyPath (Element e) w y empty-fits r
-
--- ---- a sound memory stays sound
-
-call-sound : (l : List ℕ) (q : Call) → Bytes l → Typed q → sound (capacity l) (view l) ≡ true → sound (capacity (call l q .memory)) (view (call l q .memory)) ≡ true
-call-sound l q b g h = let o = lent-request l (Asked q) b g in rw (capacity-same l (call l q .memory) (o .size), o .state) (step-sound (capacity l) (view l) q h)
-
-done-fresh-sound : (l : List ℕ) (m ttl : ℕ) → Bytes l → Small 8 m → Small 8 ttl → wasRefused (lent l (Fresh m ttl) .answer) ≡ false → sound (capacity (lent l (Fresh m ttl) .memory)) (view (lent l (Fresh m ttl) .memory)) ≡ true
-done-fresh-sound l m ttl b hm ht h = let f = freshened l m ttl b hm ht h in rw (f .size, f .state) (f .sound)
-
-pub lent-sound : (l : List ℕ) (x : Request) → Bytes l → TypedRequest x → sound (capacity l) (view l) ≡ true → sound (capacity (lent l x .memory)) (view (lent l x .memory)) ≡ true
-lent-sound l (Fresh m ttl) b g h = go (wasRefused (lent l (Fresh m ttl) .answer)) refl
-  where
-    go : (r : Bool) → wasRefused (lent l (Fresh m ttl) .answer) ≡ r → sound (capacity (lent l (Fresh m ttl) .memory)) (view (lent l (Fresh m ttl) .memory)) ≡ true
-    go true e = rw (refused-leaves l (Fresh m ttl) e) h
-    go false e = done-fresh-sound l m ttl b (g .0) (g .1) e
-lent-sound l (Asked q) b g h = call-sound l q b g h
-
-pub call-same : (l : List ℕ) (q : Call) → Bytes l → Typed q → (f : Bool) → f ≡ sound (capacity l) (view l) → f ≡ sound (capacity (call l q .memory)) (view (call l q .memory))
-call-same l q b g true h = sym (call-sound l q b g (sym h))
-call-same l q b g false h = rw (unsound-one l q (sym h) .memory) h
-
-fresh-answer : (l : List ℕ) (m ttl : ℕ) → badSize (capacity l) m ≡ false → lent l (Fresh m ttl) .answer ≡ Done
-unfolding lent serve performRequest gives
-fresh-answer l m ttl h = let e : refusal (capacity l) (view l) (Fresh m ttl) ≡ none = fresh-refusal (capacity l) m ttl (view l) ∙ rw h in rw e
-
-or-false : (f : Bool) → f || false ≡ f
-or-false true = refl
-or-false false = refl
-
-or-true : (f : Bool) → f || true ≡ true
-or-true true = refl
-or-true false = refl
-
-pub fresh-sound : (l : List ℕ) (m ttl : ℕ) → Bytes l → Small 8 m → Small 8 ttl → (f : Bool) → f ≡ sound (capacity l) (view l) → (n : ℕ) → n ≡ refusalOf (lent l (Fresh m ttl) .answer)
-    → f || eqb n 0 ≡ sound (capacity (lent l (Fresh m ttl) .memory)) (view (lent l (Fresh m ttl) .memory))
-unfolding refusalOf wasRefused
-fresh-sound l m ttl b hm ht f h n e = go (badSize (capacity l) m) refl
-  where
-    go : (r : Bool) → badSize (capacity l) m ≡ r → f || eqb n 0 ≡ sound (capacity (lent l (Fresh m ttl) .memory)) (view (lent l (Fresh m ttl) .memory))
-    go true t =
-        let k = fresh-refused l m ttl t in
-        let z : n ≡ 5 = e ∙ ap refusalOf (k .answer) in
-        rw (z, k .memory) (or-false f ∙ h)
-    go false t =
-        let k = fresh-answer l m ttl t in
-        let z : n ≡ 0 = e ∙ ap refusalOf k in
-        rw z (or-true f ∙ sym (done-fresh-sound l m ttl b hm ht (ap wasRefused k)))
 
 -- ---- what is held after a command
 

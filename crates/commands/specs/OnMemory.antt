@@ -1,9 +1,9 @@
 -- One command on the lent memory: what Commands says of a state, said of its bytes (runs, OnStates.on-states).
-use Prim.Native.Nat.{ℕ, _/_}
+use Prim.Native.Nat.{ℕ}
 use mathlib.Core.Path.{_≡_}
 use mathlib.Core.List.{List}
-use mathlib.Core.Option.{Option, none, some}
-use mathlib.Core.Bool.{Bool, true, false, cond, _&&_, _||_}
+use mathlib.Core.Option.{Option, none}
+use mathlib.Core.Bool.{Bool, false, cond, _&&_, _||_}
 use lib.Dec.{eqb, leb, ltb}
 use lib.ListN.{length, take}
 use Rattle.types.specs.declared.coord.Path.{Path}
@@ -18,7 +18,6 @@ use Rattle.rules.specs.Calls.{Call}
 use Rattle.rules.specs.Memory.{cut, leNumber}
 use Rattle.rules.specs.Lent.{Lent, lent, call}
 use Rattle.rules.specs.Commands.{Command, Element, WithPath, Plain, codes, codeOf, decode, takesPath, reply}
-use Rattle.rules.specs.Layout.{coordEntrySize}
 
 -- the memory and the pending path
 pub record Held : Type 0 where
@@ -77,10 +76,6 @@ unfoldable pub fundingIn : List ℕ → Funding
 fundingIn o = cond (eqb (leNumber (cut 24 1 o)) 0) Uncharged (Upto (leNumber (cut 25 8 o)))
 
 -- ---- what the code answers
-
--- a lookup's reply, from the bytes of the part that it hands back
-unfoldable pub partReply : ℕ → Reply
-partReply n = cond (eqb n 0) (says 0 0 0 0 0) (says 1 (n / coordEntrySize) 0 0 0)
 
 -- a call's reply and memory
 pub record Replied (l : List ℕ) (q : Call) (r : Reply) (m : List ℕ) : Type 0 where

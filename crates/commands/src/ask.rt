@@ -1,10 +1,8 @@
 // The calls that take no path: lookups, sweeps, statistics. Their operands stand in the input from `at` on.
 use entries::addr::load_addr;
-use raw::layout::ELEMENT;
 use raw::numbers::read_u64;
 use types::reply::Reply;
 use types::reply::refused;
-use types::reply::says;
 ghost use mathlib.Core.Path.{_≡_};
 ghost use mathlib.Core.Bool.{true};
 ghost use Prim.Native.Nat.{_+_, _≤_, _<_};
@@ -14,17 +12,7 @@ ghost use Rattle.rules.specs.Sound.{sound};
 ghost use Rattle.rules.specs.Calls.{Get, GetAndTouch, Remove, Demote, ClearPathMtu, PurgeExpired, Clear, InvalidateViaNode, InvalidateOtherRoots, Stats, NextExpiry};
 ghost use Rattle.rules.specs.Memory.{capacity, view, cut, leNumber};
 ghost use Rattle.rules.specs.Commands.{keyIn, timeIn};
-ghost use Rattle.commands.specs.OnMemory.{Replied, Says, partReply, whole, obeyWhole, held};
-
-// A lookup found the key if its part has an element, of ELEMENT bytes each.
-pub fn part_reply(bytes: usize) -> Reply
-    ensures { λ r. ⌜ r ≡ partReply bytes ⌝ }
-{
-    if bytes == 0 {
-        return says(0, 0, 0, 0, 0);
-    }
-    says(1, (bytes / ELEMENT) as u64, 0, 0, 0)
-}
+ghost use Rattle.commands.specs.OnMemory.{Replied, Says, whole, obeyWhole, held};
 
 fn get(state: &[u8], input: &[u8], at: usize) -> Reply
     requires { ⌜ (sound (capacity (now state)) (view (now state)) ≡ true) × (at + 24 ≤ length (now input)) ⌝ }
@@ -33,7 +21,7 @@ fn get(state: &[u8], input: &[u8], at: usize) -> Reply
     let key = load_addr(input, at);
     let time = read_u64(input, at + 16);
     let part = lookups::lookup::get_unchecked(state, key, time);
-    part_reply(part.len())
+    replies::part::part_reply(part.len())
 }
 
 fn touch(state: &mut [u8], input: &[u8], at: usize) -> Reply

@@ -22,10 +22,10 @@ use Rattle.rules.proofs.GotPart.{got-after-touch}
 use Rattle.entries.specs.declared.path.PathPlace.{PathPlace}
 use Rattle.lookups.specs.Steps.{StandsAt, placeFound}
 use Rattle.lookups.proofs.Refusing.{one-got}
-use Rattle.commands.specs.OnMemory.{partReply}
-use Rattle.commands.proofs.Operands.{one-replied}
-use Rattle.commands.proofs.Typing.{lent-sound}
-use Rattle.commands.proofs.Replying.{got-reply}
+use Rattle.replies.specs.Part.{partReply}
+use Rattle.rules.proofs.LentSound.{lent-sound}
+use Rattle.rules.proofs.Public.{unsound-one}
+use Rattle.lookups.proofs.PartReply.{got-reply}
 use Rattle.boundary.specs.Exported.{Told, PartAt, rowTaken}
 use Rattle.coordcache.specs.Places.{placeTold}
 use Rattle.coordcache.proofs.Telling.{told}
@@ -68,7 +68,8 @@ touched-told l k k′ time p r n vs m before at h o g f s v e a b d =
 -- ---- number 1
 
 pub one-told : (l : List ℕ) (q : Call) (r : Reply) (n : ℕ) (vs : List ℕ) → sound (capacity l) (view l) ≡ false → r ≡ refuses 1 → n ≡ r .refusal → vs ≡ r .values → Told (call l q) n vs l
-one-told l q r n vs h e a b = let o = one-replied l q h in told (call l q) r n vs l (e ∙ o .says) a b (o .leaves)
+unfolding reply
+one-told l q r n vs h e a b = let u = unsound-one l q h in told (call l q) r n vs l (e ∙ sym (ap reply (u .answer))) a b (sym (u .memory))
 
 pub no-part : (l : List ℕ) (k : NodeAddr) (time at : ℕ) → sound (capacity l) (view l) ≡ false → PartAt at l (gotPart k time l)
 no-part l k time at h = subst (λ (x : List ℕ). PartAt at l x) (one-got l k time h) refl

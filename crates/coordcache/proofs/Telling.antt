@@ -18,7 +18,7 @@ use Rattle.rules.specs.Answers.{refusalOf}
 use Rattle.rules.specs.Memory.{capacity, view}
 use Rattle.rules.specs.Commands.{reply}
 use Rattle.rules.specs.Lent.{Lent, call}
-use Rattle.commands.proofs.Replying.{number-reply}
+use Rattle.rules.proofs.LentSound.{number-reply}
 use Rattle.boundary.specs.Exported.{Told, fundingFrom, funded}
 
 -- a reply is its number and its values

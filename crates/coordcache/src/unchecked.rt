@@ -154,7 +154,7 @@ pub extern "C" fn coord_cache_get_unchecked(
     let k = address(key);
     let place = lookups::lookup::get_place(state, k, time);
     *at = place.at as u64;
-    tell(commands::ask::part_reply(place.bytes), values)
+    tell(replies::part::part_reply(place.bytes), values)
 }
 
 #[no_mangle]
@@ -171,7 +171,7 @@ pub extern "C" fn coord_cache_get_and_touch_unchecked(
     let k = address(key);
     let place = lookups::lookup::touch_place(state, k, time);
     *at = place.at as u64;
-    tell(commands::ask::part_reply(place.bytes), values)
+    tell(replies::part::part_reply(place.bytes), values)
 }
 
 // Found; the bytes of the row that leaves go into `row`.

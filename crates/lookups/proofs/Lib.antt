@@ -5,3 +5,4 @@ pub mod Placing
 pub mod Clearing
 pub mod Demoting
 pub mod Removing
+pub mod PartReply

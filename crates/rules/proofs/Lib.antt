@@ -20,6 +20,7 @@ pub mod LentMemory
 pub mod Requests
 pub mod GotPart
 pub mod Public
+pub mod LentSound
 pub mod CommandRuns
 pub mod Compute
 pub mod TableP

@@ -3,7 +3,7 @@ use mathlib.Core.Path.{refl, sym, _∙_, ap}
 use Rattle.types.specs.Values.{refuses}
 use Rattle.rules.specs.Calls.{Clear}
 use Rattle.rules.specs.Refusals.{Asked, perform, performRequest, gives}
-use Rattle.commands.proofs.Replying.{number-reply}
+use Rattle.rules.proofs.LentSound.{number-reply}
 use borrow.Author.Needs.{needs}
 use Rattle.commands.proofs.ask.clear.Statement.{statement}
 use Rattle.commands.proofs.ask.clear.Tie as tie

@@ -4,7 +4,7 @@ use Rattle.types.specs.Values.{refuses}
 use Rattle.rules.specs.Calls.{ClearPathMtu}
 use Rattle.rules.specs.Refusals.{Asked, perform, performRequest, gives}
 use Rattle.commands.proofs.Operands.{key-at, replied}
-use Rattle.commands.proofs.Replying.{number-reply}
+use Rattle.rules.proofs.LentSound.{number-reply}
 use borrow.Author.Needs.{needs}
 use Rattle.commands.proofs.ask.clear_path_mtu.Statement.{statement}
 use Rattle.commands.proofs.ask.clear_path_mtu.Tie as tie

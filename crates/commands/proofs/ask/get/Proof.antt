@@ -4,9 +4,9 @@ use mathlib.Core.List.{List}
 use lib.ListN.{length}
 use native.Mathlib.Omega.{arith}
 use Rattle.rules.specs.Calls.{Get}
-use Rattle.commands.specs.OnMemory.{partReply}
+use Rattle.replies.specs.Part.{partReply}
 use Rattle.commands.proofs.Operands.{key-at, number-at, same-two, replied}
-use Rattle.commands.proofs.Replying.{got-reply}
+use Rattle.lookups.proofs.PartReply.{got-reply}
 use borrow.Author.Needs.{needs}
 use Rattle.commands.proofs.ask.get.Statement.{statement}
 use Rattle.commands.proofs.ask.get.Tie as tie

@@ -1,8 +1,8 @@
 use borrow.Author.Tests.{ne-eqb}
-use Rattle.commands.specs.OnMemory.{partReply}
+use Rattle.replies.specs.Part.{partReply}
 use borrow.Author.Needs.{needs}
-use Rattle.commands.proofs.ask.part_reply.Statement.{statement}
-use Rattle.commands.proofs.ask.part_reply.Tie as tie
+use Rattle.replies.proofs.part.part_reply.Statement.{statement}
+use Rattle.replies.proofs.part.part_reply.Tie as tie
 
 returns : tie.Need-returns
 unfolding partReply

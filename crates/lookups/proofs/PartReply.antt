@@ -1,4 +1,4 @@
--- A call's reply in the command stream.
+-- A lookup's reply is read off the part that it hands back.
 use mathlib.Core.Path.{_≡_, refl, sym, _∙_, ap, subst}
 use Prim.Native.Nat.{ℕ, _+_, _*_, _/_, _≤_, _<_}
 use native.Mathlib.Omega.{arith}
@@ -9,16 +9,15 @@ use lib.ListN.{length}
 use borrow.Author.Tests.{ne-eqb}
 use Rattle.types.specs.declared.node_addr.NodeAddr.{NodeAddr}
 use Rattle.types.specs.Paths.{elements, pathPlaces}
-use Rattle.types.specs.Values.{says, refuses}
+use Rattle.types.specs.Values.{says}
 use Rattle.rules.specs.Cases.{maybe}
 use Rattle.rules.specs.Records.{State}
 use Rattle.rules.specs.Rows.{rowAt, find}
 use Rattle.rules.specs.Entries.{expired}
 use Rattle.rules.specs.Sound.{sound}
 use Rattle.rules.specs.Lookups.{unexpiredRow, get}
-use Rattle.rules.specs.Calls.{Get, Answer, PathFound, Done, pathGiven, verifiedWrite, drawsStamps}
-use Rattle.rules.specs.Refusals.{Request, Step, gives, perform, performRequest, serve}
-use Rattle.rules.specs.Answers.{refusalOf}
+use Rattle.rules.specs.Calls.{Get, PathFound, pathGiven, verifiedWrite, drawsStamps}
+use Rattle.rules.specs.Refusals.{gives, perform, performRequest, serve}
 use Rattle.rules.specs.Memory.{capacity, view, viewRows}
 use Rattle.rules.specs.Lent.{lent, call, pathPart, foundPart, gotPart}
 use Rattle.rules.specs.Commands.{reply}
@@ -26,21 +25,11 @@ use Rattle.rules.proofs.Addresses.{contradiction}
 use Rattle.rules.proofs.RowLists.{by-maybe, by-cond, every-at, find-at}
 use Rattle.rules.proofs.MemoryLaws.{length-cut}
 use Rattle.rules.proofs.SoundTest.{RowOk}
-use Rattle.rules.proofs.Refused.{by-serve}
 use Rattle.rules.proofs.Public.{SoundMemory, sound-memory}
 use Rattle.rules.specs.Layout.{coordEntrySize, headSize, placesInRow, rowSize}
 use Rattle.refusals.proofs.Frame.{not-refused}
 use Rattle.entries.proofs.Places.{elements-length}
-use Rattle.commands.specs.OnMemory.{partReply}
-
--- ---- calls that return nothing: their number is all they say
-
-pub number-reply : (l : List ℕ) (x : Request) → (performRequest (capacity l) (view l) x .answer ≡ Done) → reply (lent l x .answer) ≡ refuses (refusalOf (lent l x .answer))
-unfolding lent gives reply refusalOf refuses says
-number-reply l x d = by-serve (capacity l) (view l) x (λ (t : Step). reply (t .answer) ≡ refuses (refusalOf (t .answer))) (λ n e. refl) (λ e. go (performRequest (capacity l) (view l) x .answer) d)
-  where
-    go : (a : Answer) → a ≡ Done → reply a ≡ refuses (refusalOf a)
-    go a e = rw e
+use Rattle.replies.specs.Part.{partReply}
 
 -- ---- get: found, and the length, from the part that it hands back
 
