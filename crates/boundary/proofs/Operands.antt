@@ -17,7 +17,7 @@ use Rattle.rules.specs.Sound.{sound}
 use Rattle.rules.specs.Memory.{coordEntriesOf, cut, capacity, view, viewRows}
 use Rattle.rules.proofs.Public.{SoundMemory}
 use Rattle.rules.specs.Layout.{coordEntrySize, headSize, rowSize}
-use Rattle.entries.proofs.Places.{entries-length}
+use Rattle.entries.proofs.PathElements.{entries-length}
 use Rattle.boundary.specs.Exported.{pathFrom, rowHeld, rowTaken}
 
 -- ---- a path

@@ -1,7 +1,7 @@
 // Operands as they come from another language, and replies as they go there.
 use raw::layout::ELEMENT;
 use raw::layout::ROW;
-use search::answers::Search;
+use search::keys::Search;
 use types::coord::CoordEntry;
 use types::coord::PLACES;
 use types::coord::Path;
@@ -94,7 +94,7 @@ pub fn keep_row(state: &[u8], key: NodeAddr, row: &mut [u8; ROW])
     let at = search::keys::search(state, n, key);
     match at {
         Search::At(i) => {
-            *row = filing::file::save_row(state, n, i);
+            *row = rows::saved::save_row(state, n, i);
         }
         Search::Absent(_) => {}
     }

@@ -46,7 +46,7 @@ pub fn address(last: u8) -> NodeAddr {
 
 fn get(memory: &[u8], key: u8) -> Said {
     let mut number: u8 = 9;
-    let part = lookups::lookup::get(memory, address(key), TIME, &mut number);
+    let part = lookups::get::get(memory, address(key), TIME, &mut number);
     Said {
         refusal: number as u64,
         value: part.len() as u64,
@@ -55,7 +55,7 @@ fn get(memory: &[u8], key: u8) -> Said {
 
 fn get_and_touch(memory: &mut [u8], key: u8) -> Said {
     let mut number: u8 = 9;
-    let part = lookups::lookup::get_and_touch(memory, address(key), TIME, &mut number);
+    let part = lookups::touch::get_and_touch(memory, address(key), TIME, &mut number);
     Said {
         refusal: number as u64,
         value: part.len() as u64,
@@ -63,7 +63,7 @@ fn get_and_touch(memory: &mut [u8], key: u8) -> Said {
 }
 
 fn touch(memory: &mut [u8], key: u8) -> Said {
-    match lookups::lookup::touch(memory, address(key), TIME) {
+    match lookups::touch::touch(memory, address(key), TIME) {
         TouchAnswer::Refused(n) => refused(n),
         TouchAnswer::Found(len) => done(len),
         TouchAnswer::Absent => done(0),
@@ -71,7 +71,7 @@ fn touch(memory: &mut [u8], key: u8) -> Said {
 }
 
 fn remove(memory: &mut [u8], key: u8) -> Said {
-    let answer = lookups::keyed::remove(memory, address(key));
+    let answer = lookups::remove::remove(memory, address(key));
     let expires = answer.entry.expires_at;
     let removal = answer.removal;
     match removal {
@@ -82,7 +82,7 @@ fn remove(memory: &mut [u8], key: u8) -> Said {
 }
 
 fn demote(memory: &mut [u8], key: u8) -> Said {
-    match lookups::keyed::demote(memory, address(key)) {
+    match lookups::demote::demote(memory, address(key)) {
         DemoteAnswer::Refused(n) => refused(n),
         DemoteAnswer::Held(b) => done(b as u64),
     }
@@ -133,7 +133,7 @@ pub fn ask(memory: &mut [u8], call: u64) -> Said {
         8 => remove(memory, 4),
         9 => demote(memory, 1),
         10 => demote(memory, 2),
-        11 => refused(lookups::keyed::clear_path_mtu(memory, address(1))),
+        11 => refused(lookups::path_mtu::clear_path_mtu(memory, address(1))),
         12 => swept(sweeps::purge_expired(memory, TIME)),
         13 => refused(sweeps::clear(memory)),
         14 => swept(sweeps::invalidate_via_node(memory, address(9))),

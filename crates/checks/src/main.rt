@@ -6,9 +6,9 @@ mod states;
 
 use asking::CALLS;
 use asking::FRESH_2;
+use memory::bounds::MAX_ROWS;
 use raw::layout::HEAD;
 use raw::layout::ROW;
-use state::head::MAX_ROWS;
 use states::BAD_STATES;
 ghost use mathlib.Core.Path.{_≡_};
 ghost use Prim.Native.Nat.{_≤_, _+_};

@@ -20,7 +20,7 @@ fn get(state: &[u8], input: &[u8], at: usize) -> Reply
 {
     let key = load_addr(input, at);
     let time = read_u64(input, at + 16);
-    let part = lookups::lookup::get_unchecked(state, key, time);
+    let part = lookups::get::get_unchecked(state, key, time);
     replies::part::part_reply(part.len())
 }
 
@@ -30,7 +30,7 @@ fn touch(state: &mut [u8], input: &[u8], at: usize) -> Reply
 {
     let key = load_addr(input, at);
     let time = read_u64(input, at + 16);
-    replies::answer::touch_reply(lookups::lookup::touch_unchecked(state, key, time))
+    replies::answer::touch_reply(lookups::touch::touch_unchecked(state, key, time))
 }
 
 fn remove(state: &mut [u8], input: &[u8], at: usize) -> Reply
@@ -38,7 +38,7 @@ fn remove(state: &mut [u8], input: &[u8], at: usize) -> Reply
     ensures { λ r. ⌜ Replied (now (state .entry)) (Remove (keyIn (cut at 16 (now (input .entry))))) r (now (state .exit)) ⌝ }
 {
     let key = load_addr(input, at);
-    let answer = lookups::keyed::remove_unchecked(state, key);
+    let answer = lookups::remove::remove_unchecked(state, key);
     let removal = answer.removal;
     replies::answer::remove_reply(removal)
 }
@@ -48,7 +48,7 @@ fn demote(state: &mut [u8], input: &[u8], at: usize) -> Reply
     ensures { λ r. ⌜ Replied (now (state .entry)) (Demote (keyIn (cut at 16 (now (input .entry))))) r (now (state .exit)) ⌝ }
 {
     let key = load_addr(input, at);
-    replies::answer::demote_reply(lookups::keyed::demote_unchecked(state, key))
+    replies::answer::demote_reply(lookups::demote::demote_unchecked(state, key))
 }
 
 fn clear_path_mtu(state: &mut [u8], input: &[u8], at: usize) -> Reply
@@ -56,7 +56,7 @@ fn clear_path_mtu(state: &mut [u8], input: &[u8], at: usize) -> Reply
     ensures { λ r. ⌜ Replied (now (state .entry)) (ClearPathMtu (keyIn (cut at 16 (now (input .entry))))) r (now (state .exit)) ⌝ }
 {
     let key = load_addr(input, at);
-    refused(lookups::keyed::clear_path_mtu_unchecked(state, key))
+    refused(lookups::path_mtu::clear_path_mtu_unchecked(state, key))
 }
 
 fn purge_expired(state: &mut [u8], input: &[u8], at: usize) -> Reply

@@ -21,7 +21,7 @@ use Rattle.rules.proofs.MemoryLaws.{length-cut}
 use Rattle.rules.proofs.GotPart.{got-after-touch}
 use Rattle.entries.specs.declared.path.PathPlace.{PathPlace}
 use Rattle.lookups.specs.Steps.{StandsAt, placeFound}
-use Rattle.lookups.proofs.Refusing.{one-got}
+use Rattle.lookups.proofs.UnsoundLookups.{one-got}
 use Rattle.replies.specs.Part.{partReply}
 use Rattle.rules.proofs.LentSound.{lent-sound}
 use Rattle.rules.proofs.Public.{unsound-one}

@@ -201,7 +201,7 @@ pub extern "C" fn coord_cache_demote(state: &mut [u8], key: &[u8; 16], values: &
     ensures { λ r. ⌜ Told (call (now (state .entry)) (Demote (addressFrom (now (key .entry))))) r (now (values .exit)) (now (state .exit)) ⌝ }
 {
     let k = address(key);
-    let answer = lookups::keyed::demote(state, k);
+    let answer = lookups::demote::demote(state, k);
     tell(replies::answer::demote_reply(answer), values)
 }
 
@@ -214,7 +214,7 @@ pub extern "C" fn coord_cache_clear_path_mtu(
     ensures { λ r. ⌜ Told (call (now (state .entry)) (ClearPathMtu (addressFrom (now (key .entry))))) r (now (values .exit)) (now (state .exit)) ⌝ }
 {
     let k = address(key);
-    let answer = lookups::keyed::clear_path_mtu(state, k);
+    let answer = lookups::path_mtu::clear_path_mtu(state, k);
     tell(refused(answer), values)
 }
 

@@ -152,7 +152,7 @@ pub extern "C" fn coord_cache_get_unchecked(
     ensures { λ r. ⌜ Told (call (now (state .entry)) (Get (addressFrom (now (key .entry))) time)) r (now (values .exit)) (now (state .exit)) × PartAt (now (at .exit)) (now (state .exit)) (gotPart (addressFrom (now (key .entry))) time (now (state .entry))) × (now (at .exit) ≡ placeTold r (now (at .entry)) (addressFrom (now (key .entry))) time (now (state .exit))) ⌝ }
 {
     let k = address(key);
-    let place = lookups::lookup::get_place(state, k, time);
+    let place = lookups::get::get_place(state, k, time);
     *at = place.at as u64;
     tell(replies::part::part_reply(place.bytes), values)
 }
@@ -169,7 +169,7 @@ pub extern "C" fn coord_cache_get_and_touch_unchecked(
     ensures { λ r. ⌜ Told (call (now (state .entry)) (GetAndTouch (addressFrom (now (key .entry))) time)) r (now (values .exit)) (now (state .exit)) × PartAt (now (at .exit)) (now (state .exit)) (gotPart (addressFrom (now (key .entry))) time (now (state .exit))) × (now (at .exit) ≡ placeTold r (now (at .entry)) (addressFrom (now (key .entry))) time (now (state .exit))) ⌝ }
 {
     let k = address(key);
-    let place = lookups::lookup::touch_place(state, k, time);
+    let place = lookups::touch::touch_place(state, k, time);
     *at = place.at as u64;
     tell(replies::part::part_reply(place.bytes), values)
 }
@@ -187,7 +187,7 @@ pub extern "C" fn coord_cache_remove_unchecked(
 {
     let k = address(key);
     keep_row(state, k, row);
-    let answer = lookups::keyed::remove_unchecked(state, k);
+    let answer = lookups::remove::remove_unchecked(state, k);
     let removal = answer.removal;
     tell(replies::answer::remove_reply(removal), values)
 }
@@ -203,7 +203,7 @@ pub extern "C" fn coord_cache_demote_unchecked(
     ensures { λ r. ⌜ Told (call (now (state .entry)) (Demote (addressFrom (now (key .entry))))) r (now (values .exit)) (now (state .exit)) ⌝ }
 {
     let k = address(key);
-    let answer = lookups::keyed::demote_unchecked(state, k);
+    let answer = lookups::demote::demote_unchecked(state, k);
     tell(replies::answer::demote_reply(answer), values)
 }
 
@@ -217,7 +217,7 @@ pub extern "C" fn coord_cache_clear_path_mtu_unchecked(
     ensures { λ r. ⌜ Told (call (now (state .entry)) (ClearPathMtu (addressFrom (now (key .entry))))) r (now (values .exit)) (now (state .exit)) ⌝ }
 {
     let k = address(key);
-    let answer = lookups::keyed::clear_path_mtu_unchecked(state, k);
+    let answer = lookups::path_mtu::clear_path_mtu_unchecked(state, k);
     tell(refused(answer), values)
 }
 

@@ -1,15 +1,12 @@
--- Bytes of a cut: compared with an address, copied, and read as a path element.
+-- Bytes of a cut: compared with an address, and read as a path element.
 use mathlib.Core.Path.{_≡_, refl, sym, ap, _∙_}
 use mathlib.Core.Bool.{Bool, true, false, _&&_}
-use mathlib.Core.List.{List, [], _∷_, _++_, append-nil}
-use Prim.Native.Nat.{ℕ, zero, suc, _+_, _≤_, _<_}
-use native.Mathlib.Nat.{le-of-suc-le-suc, not-suc-le-zero}
-use native.Mathlib.Numerals.{add-one}
+use mathlib.Core.List.{List}
+use Prim.Native.Nat.{ℕ, _+_, _≤_, _<_}
 use native.Mathlib.Omega.{arith}
 use lib.Dec.{eqb}
 use borrow.Author.Tests.{eqb-true, eqb-false}
-use lib.ListN.{length, take, drop, getD, set, drop-of-length-le}
-use lib.Seq.{getD-drop, getD-take, take-all}
+use lib.ListN.{length, drop, getD}
 use Rattle.types.specs.declared.node_addr.NodeAddr.{NodeAddr}
 use Rattle.types.specs.declared.coord.CoordEntry.{CoordEntry}
 use Rattle.types.specs.Addresses.{sameAddr, sameBytes}
@@ -20,9 +17,7 @@ use Rattle.rules.proofs.Addresses.{same-eq, same-true, same-false, same-ne}
 use Rattle.rules.proofs.MemoryLaws.{length-cut}
 use Rattle.rules.specs.Layout.{coordEntrySize}
 use Rattle.raw.proofs.StoreLaws.{cut-cut}
-
-pub cut-byte : (at w i : ℕ) (l : List ℕ) → i < w → getD l (at + i) 0 ≡ getD (cut at w l) i 0
-cut-byte at w i l h = sym (getD-drop at l i 0) ∙ sym (getD-take w (drop at l) i 0 h)
+use Rattle.raw.proofs.CopyLaws.{cut-byte}
 
 -- ---- sixteen bytes against an address: a turn of the loop, and its end
 
@@ -55,23 +50,6 @@ same-sym a b = go (sameAddr a b) refl
     go : (t : Bool) → sameAddr a b ≡ t → sameAddr a b ≡ sameAddr b a
     go true e = e ∙ sym (same-eq b a (sym (same-true a b e)))
     go false e = e ∙ sym (same-ne b a (λ q. same-false a b e (sym q)))
-
--- ---- a copy, element by element
-
-store {ℓ} : {A : Type ℓ} (src dst : List A) (i : ℕ) (d : A) → i < length src → i < length dst → set (take i src ++ drop i dst) i (getD src i d) ≡ take (suc i) src ++ drop (suc i) dst
-store [] dst i d h k = absurd (not-suc-le-zero h)
-store (x ∷ xs) [] i d h k = absurd (not-suc-le-zero k)
-store (x ∷ xs) (y ∷ ys) zero d h k = refl
-store {A = A} (x ∷ xs) (y ∷ ys) (suc i) d h k = ap (λ (l : List A). x ∷ l) (store xs ys i d (le-of-suc-le-suc h) (le-of-suc-le-suc k))
-
--- a turn takes the copy of i elements to the copy of one more
-pub stored {ℓ} : {A : Type ℓ} (src dst now : List A) (i : ℕ) (v d : A) → now ≡ take i src ++ drop i dst → v ≡ getD src i d → i < length src → i < length dst
-    → set now i v ≡ take (i + 1) src ++ drop (i + 1) dst
-stored src dst now i v d e q h k = rw (e, q, add-one) (store src dst i d h k)
-
--- the copy of all elements
-pub copied {ℓ} : {A : Type ℓ} (src dst now : List A) (i : ℕ) → now ≡ take i src ++ drop i dst → length src ≤ i → length dst ≤ i → now ≡ src
-copied src dst now i e h k = rw (e, take-all i src h, drop-of-length-le dst k) (append-nil src)
 
 -- ---- a path element
 

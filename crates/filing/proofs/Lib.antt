@@ -1,5 +1,5 @@
-pub mod Filing
-pub mod Refiling
-pub mod FilingOver
-pub mod Replaced
-pub mod Seeking
+pub mod FiledRows
+pub mod RefiledRows
+pub mod FiledOverVictim
+pub mod FiledInRoom
+pub mod RoomSought

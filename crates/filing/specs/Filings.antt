@@ -1,4 +1,4 @@
--- An entry by value, as an entry of the state; a path that can be written; a row that may leave for another.
+-- A path that can be written; a row that may leave for another.
 use Prim.Native.Nat.{ℕ, _+_, _*_, _≤_, _<_}
 use mathlib.Core.Path.{_≡_}
 use mathlib.Core.Bool.{true}
@@ -7,17 +7,12 @@ use mathlib.Core.Option.{none}
 use lib.ListN.{length}
 use Rattle.types.specs.declared.coord.Path.{Path}
 use Rattle.types.specs.declared.node_addr.NodeAddr.{NodeAddr}
-use Rattle.types.specs.Paths.{asWritten, pathPlaces}
-use Rattle.rules.specs.Records.{Entry, maxRows, weightLimit}
+use Rattle.types.specs.Paths.{pathPlaces}
+use Rattle.rules.specs.Records.{maxRows, weightLimit}
 use Rattle.rules.specs.Rows.{find, inMain, weighRows, withoutRow}
 use Rattle.rules.specs.Sound.{ascends}
 use Rattle.rules.specs.Memory.{viewRows}
 use Rattle.rules.specs.Layout.{headSize, rowSize}
-use Rattle.filing.specs.declared.entry.NewEntry.{NewEntry}
-
--- every field; the path as a row holds it
-unfoldable pub entryFrom : NewEntry → Entry
-entryFrom e = record { path = asWritten (e .path); createdAt = e .«created_at»; lastUsed = e .«last_used»; expiresAt = e .«expires_at»; mtuMark = e .«mtu_mark»; mtu = e .mtu; source = e .source; verifiedUntil = e .«verified_until» }
 
 -- a path that can be written: 1 to 32 elements
 pub record Writable (p : Path) : Type 0 where

@@ -1,2 +1,2 @@
 pub mod Filings
-pub mod Replacing
+pub mod InRoom

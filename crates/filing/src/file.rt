@@ -1,16 +1,15 @@
 // A row filed in the order of keys.
-use crate::entry::NewEntry;
+use entries::new_entry::NewEntry;
+use memory::codes::BY_USE;
+use memory::codes::PROBATION;
 use memory::head;
-use raw::layout::HEAD;
 use raw::layout::ROW;
 use rows::exchange::exchange_row;
 use rows::insert::insert_row;
 use rows::row::NewRow;
 use rows::saved::insert_saved;
-use search::answers::Search;
+use search::keys::Search;
 use search::keys::search;
-use stamps::row::BY_USE;
-use stamps::row::PROBATION;
 use stamps::row::draw_stamp;
 use types::node_addr::NodeAddr;
 ghost use mathlib.Core.Path.{_≡_};
@@ -24,11 +23,12 @@ ghost use Rattle.rules.specs.Records.{byUse, probation, maxRows, weightLimit};
 ghost use Rattle.rules.specs.Rows.{find, withoutRow};
 ghost use Rattle.rules.specs.Sound.{sound, ascends};
 ghost use Rattle.rules.specs.Room.{fileNew, takeOut};
-ghost use Rattle.rules.specs.Memory.{cut, rowOf, capacity, viewRows};
+ghost use Rattle.rules.specs.Memory.{rowOf, capacity, viewRows};
 ghost use Rattle.rules.specs.Layout.{headSize, rowSize};
-ghost use Rattle.search.specs.declared.answers.Search.the-variants.{Absent};
+ghost use Rattle.search.specs.declared.keys.Search.the-variants.{Absent};
 ghost use Rattle.search.specs.ByKey.{searched};
-ghost use Rattle.filing.specs.Filings.{entryFrom, Over};
+ghost use Rattle.filing.specs.Filings.{Over};
+ghost use Rattle.entries.specs.NewEntries.{entryFrom};
 
 // The row that a key without one becomes.
 fn index_for(state: &[u8], n: usize, key: NodeAddr) -> usize
@@ -104,7 +104,7 @@ pub fn file_new(state: &mut [u8], n: usize, key: NodeAddr, e: NewEntry, weight: 
 }
 
 // Row i leaves, and a new row is filed under the stamp (last_used, seq + 1). `stored` is the weight that is stored without row i.
-pub fn file_over(
+pub fn file_over_victim(
     state: &mut [u8],
     n: usize,
     i: usize,
@@ -145,23 +145,8 @@ pub fn file_over(
     );
 }
 
-// Row i's bytes, to go back with.
-pub fn save_row(state: &[u8], n: usize, i: usize) -> [u8; ROW]
-    requires { ⌜ (i < n) × (headSize + n * rowSize ≤ length (now state)) ⌝ }
-    ensures { λ r. ⌜ r ≡ cut (headSize + i * rowSize) rowSize (now (state .entry)) ⌝ }
-{
-    let at = HEAD + i * ROW;
-    let mut row = [0u8; ROW];
-    let mut k = 0;
-    while k < ROW {
-        row[k] = state[at + k];
-        k += 1;
-    }
-    row
-}
-
 // A saved row goes back as it was, but as ByUse and under the stamp (last_used, seq + 1).
-pub fn file_again(state: &mut [u8], n: usize, key: NodeAddr, row: [u8; ROW])
+pub fn file_unchanged(state: &mut [u8], n: usize, key: NodeAddr, row: [u8; ROW])
     requires { ⌜ (sound (capacity (now state)) (viewRows n (now state)) ≡ true) × (n < capacity (now state)) × (find key (viewRows n (now state) .rows) ≡ none) × (viewRows n (now state) .seq < 18446744073709551615) × (rowOf row .key ≡ key) ⌝ }
     ensures { λ _. ⌜ viewRows (n + 1) (now (state .exit)) ≡ fileNew key (rowOf row .entry) (rowOf row .weight) byUse (viewRows n (now (state .entry))) ⌝ }
 {

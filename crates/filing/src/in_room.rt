@@ -1,8 +1,8 @@
 // A row filed once room was sought: in the place of the victim that was left for it, or in a free row.
-use crate::entry::NewEntry;
 use crate::file::file_new;
-use crate::file::file_over;
-use stamps::answers::Lowest;
+use crate::file::file_over_victim;
+use entries::new_entry::NewEntry;
+use stamps::lowest::Lowest;
 use types::node_addr::NodeAddr;
 ghost use mathlib.Core.Path.{_≡_};
 ghost use Prim.Native.Nat.{_≤_};
@@ -11,8 +11,8 @@ ghost use Rattle.types.specs.Paths.{pathPlaces};
 ghost use Rattle.rules.specs.Room.{fileNew};
 ghost use Rattle.rules.specs.Memory.{viewRows};
 ghost use Rattle.room.specs.Rooms.{withoutVictim};
-ghost use Rattle.filing.specs.Filings.{entryFrom};
-ghost use Rattle.filing.specs.Replacing.{Takes};
+ghost use Rattle.entries.specs.NewEntries.{entryFrom};
+ghost use Rattle.filing.specs.InRoom.{Takes};
 
 // `stored` is the weight that is stored without the victim.
 pub fn file_in_room(
@@ -30,6 +30,6 @@ pub fn file_in_room(
 {
     match victim {
         Lowest::Nothing => file_new(state, n, key, e, weight, place),
-        Lowest::At(i) => file_over(state, n, i, stored, key, e, weight, place),
+        Lowest::At(i) => file_over_victim(state, n, i, stored, key, e, weight, place),
     }
 }

@@ -15,7 +15,7 @@ ghost use Rattle.rules.specs.Memory.{viewRows};
 ghost use Rattle.rules.specs.Layout.{headSize, rowSize};
 
 // Row i's entry is updated.
-fn update_at(state: &mut [u8], n: usize, i: usize, path: Path, time: u64, ttl: u64)
+fn update(state: &mut [u8], n: usize, i: usize, path: Path, time: u64, ttl: u64)
     requires { ⌜ (i < n) × (headSize + n * rowSize ≤ length (now state)) × (path .len ≤ pathPlaces) ⌝ }
     ensures { λ _. ⌜ viewRows n (now (state .exit)) ≡ rewrite (update path time ttl) i (viewRows n (now (state .entry))) ⌝ }
 {
@@ -47,6 +47,6 @@ pub fn update_in_place(
     requires { ⌜ (i < n) × (headSize + n * rowSize ≤ length (now state)) × (viewRows n (now state) .seq < 18446744073709551615) × (path .len ≤ pathPlaces) ⌝ }
     ensures { λ _. ⌜ viewRows n (now (state .exit)) ≡ refile (update path time ttl (rowAt i (viewRows n (now (state .entry)) .rows) .entry)) weight i (viewRows n (now (state .entry))) ⌝ }
 {
-    update_at(state, n, i, path, time, ttl);
+    update(state, n, i, path, time, ttl);
     refile(state, n, i, weight);
 }

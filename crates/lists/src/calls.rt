@@ -109,12 +109,12 @@ fn looked(number: u8, bytes: usize) -> Reply {
 
 fn get(memory: &[u8], key: u64, time: u64) -> Reply {
     let mut number: u8 = 9;
-    let part = lookups::lookup::get(memory, address(key), time, &mut number);
+    let part = lookups::get::get(memory, address(key), time, &mut number);
     looked(number, part.len())
 }
 
 fn touch(memory: &mut [u8], key: u64, time: u64) -> Reply {
-    match lookups::lookup::touch(memory, address(key), time) {
+    match lookups::touch::touch(memory, address(key), time) {
         TouchAnswer::Refused(n) => refused(n),
         TouchAnswer::Found(len) => says(1, len, 0, 0, 0),
         TouchAnswer::Absent => says(0, 0, 0, 0, 0),
@@ -122,7 +122,7 @@ fn touch(memory: &mut [u8], key: u64, time: u64) -> Reply {
 }
 
 fn demote(memory: &mut [u8], key: u64) -> Reply {
-    match lookups::keyed::demote(memory, address(key)) {
+    match lookups::demote::demote(memory, address(key)) {
         DemoteAnswer::Refused(n) => refused(n),
         DemoteAnswer::Held(b) => says(b as u64, 0, 0, 0, 0),
     }

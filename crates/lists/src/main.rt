@@ -4,10 +4,10 @@ mod calls;
 mod lines;
 mod scan;
 
+use memory::bounds::MAX_ROWS;
 use raw::layout::HEAD;
 use raw::layout::ROW;
 use scan::Scan;
-use state::head::MAX_ROWS;
 use types::reply::Reply;
 ghost use mathlib.Core.Path.{_≡_};
 ghost use lib.ListN.{length};

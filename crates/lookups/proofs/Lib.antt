@@ -1,8 +1,8 @@
-pub mod Refusing
-pub mod Touching
-pub mod Looking
-pub mod Placing
-pub mod Clearing
-pub mod Demoting
-pub mod Removing
+pub mod UnsoundLookups
+pub mod TouchedRows
+pub mod FoundRows
+pub mod PathPlaces
+pub mod ClearedMtu
+pub mod DemotedRows
+pub mod RemovedRows
 pub mod PartReply

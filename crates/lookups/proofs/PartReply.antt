@@ -27,8 +27,8 @@ use Rattle.rules.proofs.MemoryLaws.{length-cut}
 use Rattle.rules.proofs.SoundTest.{RowOk}
 use Rattle.rules.proofs.Public.{SoundMemory, sound-memory}
 use Rattle.rules.specs.Layout.{coordEntrySize, headSize, placesInRow, rowSize}
-use Rattle.refusals.proofs.Frame.{not-refused}
-use Rattle.entries.proofs.Places.{elements-length}
+use Rattle.refusals.proofs.SoundCalls.{not-refused}
+use Rattle.entries.proofs.PathElements.{elements-length}
 use Rattle.replies.specs.Part.{partReply}
 
 -- ---- get: found, and the length, from the part that it hands back

@@ -1,3 +1,6 @@
 // The calls that name one key and need no room: get, touch, get_and_touch, remove, demote, clear_path_mtu.
-pub mod keyed;
-pub mod lookup;
+pub mod demote;
+pub mod get;
+pub mod path_mtu;
+pub mod remove;
+pub mod touch;

@@ -2,6 +2,6 @@ pub mod Fields
 pub mod RowBlocks
 pub mod RowLaws
 pub mod KeepLaws
-pub mod Owned
-pub mod Totals
-pub mod Changes
+pub mod OwnedValues
+pub mod RowSums
+pub mod RowChanges

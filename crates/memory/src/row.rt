@@ -1,4 +1,6 @@
 // The fields of row i of n. The offsets are those of docs/PACKING.md, counted from the row's first byte.
+use crate::codes::HINT;
+use crate::codes::NO_MTU;
 use raw::layout;
 use raw::layout::HEAD;
 use raw::layout::ROW;
@@ -119,7 +121,7 @@ pub fn mark_hint(state: &mut [u8], n: usize, i: usize)
     requires { ⌜ (i < n) × (headSize + n * rowSize ≤ length (now state)) ⌝ }
     ensures { λ _. ⌜ viewRows n (now (state .exit)) ≡ rewrite markHint i (viewRows n (now (state .entry))) ⌝ }
 {
-    set_source(state, n, i, 1, 0);
+    set_source(state, n, i, HINT, 0);
 }
 
 // The entry's MTU, and the mark that it has one.
@@ -136,7 +138,7 @@ pub fn drop_mtu(state: &mut [u8], n: usize, i: usize)
     requires { ⌜ (i < n) × (headSize + n * rowSize ≤ length (now state)) ⌝ }
     ensures { λ _. ⌜ viewRows n (now (state .exit)) ≡ rewrite dropMtu i (viewRows n (now (state .entry))) ⌝ }
 {
-    set_mtu(state, n, i, 0, 0);
+    set_mtu(state, n, i, NO_MTU, 0);
 }
 
 // The row's place and stamp.

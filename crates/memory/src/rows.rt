@@ -1,4 +1,5 @@
 // Whole rows: taken out, kept together, zeroed.
+use crate::codes::PROBATION;
 use crate::head;
 use crate::row;
 use raw::layout::HEAD;
@@ -38,7 +39,7 @@ fn weight_without(state: &[u8], n: usize, i: usize) -> u64
     ensures { λ r. ⌜ r ≡ weighRows inMain (withoutRow i (viewRows n (now (state .entry)) .rows)) ⌝ }
 {
     let stored = head::stored_weight(state);
-    if row::place(state, n, i) < 2 {
+    if row::place(state, n, i) < PROBATION {
         stored - raw::numbers::wide(row::weight(state, n, i))
     } else {
         stored

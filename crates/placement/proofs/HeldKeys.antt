@@ -35,16 +35,17 @@ use Rattle.rules.proofs.Others.{takeOut-gone, takeOut-seq, takeOut-max, takeOut
 use Rattle.rules.specs.Layout.{headSize, rowSize}
 use Rattle.memory.proofs.RowLaws.{view-length}
 use Rattle.memory.proofs.Fields.{row-at}
-use Rattle.stamps.specs.declared.answers.Lowest.the-variants.{Nothing}
-use Rattle.room.specs.declared.answers.Room.{Room as RoomAnswer}
+use Rattle.stamps.specs.declared.lowest.Lowest.the-variants.{Nothing}
+use Rattle.room.specs.declared.victims.Room.{Room as RoomAnswer}
 use Rattle.room.specs.Rooms.{roomOf, withoutVictim, Without}
-use Rattle.room.proofs.Leaving.{without-none}
-use Rattle.room.proofs.Files.{shown, laid-out, free-in-probation, reached-without, filed}
-use Rattle.filing.specs.declared.entry.NewEntry.{NewEntry}
-use Rattle.filing.specs.Filings.{entryFrom, Writable}
+use Rattle.room.proofs.LeftVictims.{without-none}
+use Rattle.room.proofs.RoomToFile.{shown, laid-out, free-in-probation, reached-without, filed}
+use Rattle.entries.specs.declared.new_entry.NewEntry.{NewEntry}
+use Rattle.filing.specs.Filings.{Writable}
+use Rattle.entries.specs.NewEntries.{entryFrom}
 use Rattle.placement.specs.Placements.{Placing, Holds, rejectedAs, promotedAs}
-use Rattle.filing.specs.Replacing.{Takes}
-use Rattle.filing.proofs.Seeking.{Sought, free-main, free-state, still-without, takes}
+use Rattle.filing.specs.InRoom.{Takes}
+use Rattle.filing.proofs.RoomSought.{Sought, free-main, free-state, still-without, takes}
 use Rattle.placement.proofs.NewKeys.{filed-as, left-as-is}
 
 -- ---- a row that is there

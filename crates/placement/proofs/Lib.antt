@@ -1,4 +1,4 @@
 pub mod NewKeys
 pub mod HeldKeys
-pub mod Placed
-pub mod Four
+pub mod PlacedHints
+pub mod HintCalls

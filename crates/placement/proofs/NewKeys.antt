@@ -25,19 +25,20 @@ use Rattle.rules.proofs.Moves.{probation-evict}
 use Rattle.rules.specs.Layout.{headSize, rowSize}
 use Rattle.memory.proofs.RowLaws.{view-length}
 use Rattle.stamps.specs.Walked.{walkFrom}
-use Rattle.room.proofs.Sums.{probation-visits}
-use Rattle.filing.specs.declared.entry.NewEntry.{NewEntry}
-use Rattle.filing.specs.Filings.{entryFrom, Writable}
-use Rattle.stamps.specs.declared.answers.Lowest.{Lowest}
-use Rattle.stamps.specs.declared.answers.Lowest.the-variants.{Nothing}
-use Rattle.room.specs.declared.answers.Room.{Room as RoomAnswer}
-use Rattle.room.specs.declared.answers.ProbationRoom.{ProbationRoom}
+use Rattle.room.proofs.ClosedForm.{probation-visits}
+use Rattle.entries.specs.declared.new_entry.NewEntry.{NewEntry}
+use Rattle.filing.specs.Filings.{Writable}
+use Rattle.entries.specs.NewEntries.{entryFrom}
+use Rattle.stamps.specs.declared.lowest.Lowest.{Lowest}
+use Rattle.stamps.specs.declared.lowest.Lowest.the-variants.{Nothing}
+use Rattle.room.specs.declared.victims.Room.{Room as RoomAnswer}
+use Rattle.room.specs.declared.probation.ProbationRoom.{ProbationRoom}
 use Rattle.room.specs.Rooms.{roomOf, withoutVictim, Leaves, Without, StampsLeft}
-use Rattle.room.proofs.Leaving.{without-none}
-use Rattle.filing.specs.Replacing.{Takes}
-use Rattle.filing.proofs.Seeking.{victim-seq, over-victim}
+use Rattle.room.proofs.LeftVictims.{without-none}
+use Rattle.filing.specs.InRoom.{Takes}
+use Rattle.filing.proofs.RoomSought.{victim-seq, over-victim}
 use Rattle.placement.specs.Placements.{Placing, noRoom, insertedAs, rejectedAs}
-use Rattle.room.proofs.Files.{shown, laid-out, few, free-in-probation, reached-without, without-gone}
+use Rattle.room.proofs.RoomToFile.{shown, laid-out, few, free-in-probation, reached-without, without-gone}
 
 -- ---- a row filed, as the rules name it
 

@@ -1,19 +1,19 @@
 // A held key: 3. verified, 4. in probation, 5. in main.
 use crate::new_key::reject;
 use crate::new_key::row_weight;
+use entries::new_entry::updated_entry;
 use entries::path::path_is;
-use filing::entry::updated_entry;
-use filing::file::file_again;
-use filing::file::save_row;
+use entries::times::is_verified;
+use filing::file::file_unchanged;
 use filing::in_room::file_in_room;
 use filing::refile::update_in_place;
+use memory::codes::BY_USE;
+use memory::codes::PROBATION;
 use memory::row;
 use memory::rows::remove_row;
 use raw::numbers::wide;
 use room::victims::make_room;
-use stamps::row::BY_USE;
-use stamps::row::PROBATION;
-use stamps::row::is_verified;
+use rows::saved::save_row;
 use types::coord::Path;
 use types::node_addr::NodeAddr;
 use types::placed::Funding;
@@ -194,7 +194,7 @@ fn grow(
             examined: room.examined,
         };
     }
-    file_again(state, room.rows, key, saved);
+    file_unchanged(state, room.rows, key, saved);
     reject(false, room.examined)
 }
 

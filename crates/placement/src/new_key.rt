@@ -1,11 +1,11 @@
 // 2. A new key.
-use filing::entry::new_entry;
+use entries::new_entry::new_entry;
 use filing::in_room::file_in_room;
+use memory::codes::BY_USE;
+use memory::codes::PROBATION;
 use room::probation::make_probation_room;
 use room::victims::make_room;
-use stamps::answers::Lowest;
-use stamps::row::BY_USE;
-use stamps::row::PROBATION;
+use stamps::lowest::Lowest;
 use types::coord::Path;
 use types::node_addr::NodeAddr;
 use types::placed::Funding;
@@ -26,7 +26,7 @@ ghost use Rattle.rules.specs.Placement.{placeResult, newInProbation, newWithout
 ghost use Rattle.rules.specs.Memory.{viewRows};
 ghost use Rattle.room.specs.Rooms.{Without, StampsLeft, withoutVictim};
 ghost use Rattle.filing.specs.Filings.{Writable};
-ghost use Rattle.filing.specs.Replacing.{Takes};
+ghost use Rattle.filing.specs.InRoom.{Takes};
 ghost use Rattle.placement.specs.Placements.{Placing, noRoom, insertedAs, rejectedAs};
 
 // What a path weighs, as a row holds it.

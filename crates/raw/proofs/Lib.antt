@@ -1,3 +1,4 @@
 pub mod MoveLaws
 pub mod StoreLaws
 pub mod NumberLaws
+pub mod CopyLaws

@@ -1,4 +1,4 @@
-pub mod Frame
-pub mod Asking
-pub mod Refusing
-pub mod Writing
+pub mod SoundCalls
+pub mod ReadCalls
+pub mod RefusalsSaid
+pub mod WriteRefusals

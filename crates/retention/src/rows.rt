@@ -1,4 +1,5 @@
 // One sweep: the rows that match leave, and the others are kept together in their order.
+use memory::codes;
 use types::node_addr::NodeAddr;
 ghost use mathlib.Core.Path.{_≡_};
 ghost use mathlib.Core.Bool.{cond, false};
@@ -21,9 +22,6 @@ pub const OTHER_ROOT: u8 = 2;
 
 pub const ASIDE: u8 = 3;
 
-// The place of a row that was set aside.
-const ASIDE_PLACE: u8 = 3;
-
 // Whether row i matches.
 fn row_matches(state: &[u8], n: usize, i: usize, kind: u8, time: u64, addr: NodeAddr) -> bool
     requires { ⌜ (i < n) × (headSize + n * rowSize ≤ length (now state)) × PathFit (rowAt i (viewRows n (now state) .rows)) ⌝ }
@@ -38,7 +36,7 @@ fn row_matches(state: &[u8], n: usize, i: usize, kind: u8, time: u64, addr: Node
     if kind == OTHER_ROOT {
         return !entries::path::root_is(state, n, i, addr);
     }
-    memory::row::place(state, n, i) == ASIDE_PLACE
+    memory::row::place(state, n, i) == codes::ASIDE
 }
 
 // Row i goes down to place j.
@@ -90,7 +88,7 @@ fn weight_in_main(state: &[u8], n: usize, i: usize) -> u64
     requires { ⌜ (i < n) × (headSize + n * rowSize ≤ length (now state)) ⌝ }
     ensures { λ r. ⌜ (r ≡ cond (inMain (rowAt i (viewRows n (now (state .entry)) .rows))) (rowAt i (viewRows n (now (state .entry)) .rows) .weight) 0) × (r < 256) ⌝ }
 {
-    if memory::row::place(state, n, i) < 2 {
+    if memory::row::place(state, n, i) < codes::PROBATION {
         raw::numbers::wide(memory::row::weight(state, n, i))
     } else {
         0
@@ -174,7 +172,7 @@ fn any_matches(state: &[u8], n: usize, kind: u8, time: u64, addr: NodeAddr) -> b
 }
 
 // One sweep over n rows; how many stay.
-pub fn sweep_rows(state: &mut [u8], n: usize, kind: u8, time: u64, addr: NodeAddr) -> usize
+pub fn retain_rows(state: &mut [u8], n: usize, kind: u8, time: u64, addr: NodeAddr) -> usize
     requires { ⌜ (n ≤ maxRows) × (headSize + n * rowSize ≤ length (now state)) × PathsFit (viewRows n (now state) .rows) ⌝ }
     ensures { λ r. ⌜ (r ≤ n) × (r ≡ length (keptRows kind time addr (viewRows n (now (state .entry)) .rows))) × (viewRows r (now (state .exit)) ≡ withOnlyRows (keptRows kind time addr (viewRows n (now (state .entry)) .rows)) (viewRows n (now (state .entry)))) ⌝ }
 {
@@ -185,12 +183,12 @@ pub fn sweep_rows(state: &mut [u8], n: usize, kind: u8, time: u64, addr: NodeAdd
 }
 
 // The same on a state that counts its rows and stores their weight: where no row matches, nothing is written.
-pub fn sweep_counted(state: &mut [u8], n: usize, kind: u8, time: u64, addr: NodeAddr) -> usize
+pub fn retain_entries(state: &mut [u8], n: usize, kind: u8, time: u64, addr: NodeAddr) -> usize
     requires { ⌜ (n ≤ maxRows) × (headSize + n * rowSize ≤ length (now state)) × PathsFit (viewRows n (now state) .rows) × (viewRows n (now state) .rowCount ≡ n) × (viewRows n (now state) .storedWeight ≡ mainWeight (viewRows n (now state))) ⌝ }
     ensures { λ r. ⌜ (r ≤ n) × (r ≡ length (keptRows kind time addr (viewRows n (now (state .entry)) .rows))) × (viewRows r (now (state .exit)) ≡ withOnlyRows (keptRows kind time addr (viewRows n (now (state .entry)) .rows)) (viewRows n (now (state .entry)))) ⌝ }
 {
     if any_matches(state, n, kind, time, addr) {
-        return sweep_rows(state, n, kind, time, addr);
+        return retain_rows(state, n, kind, time, addr);
     }
     n
 }

@@ -1,8 +1,8 @@
-pub mod Sums
-pub mod Places
-pub mod Later
-pub mod Choosing
-pub mod Leaving
-pub mod Evicting
-pub mod Settling
-pub mod Files
+pub mod ClosedForm
+pub mod RowsAside
+pub mod WalkCounts
+pub mod ChosenVictims
+pub mod LeftVictims
+pub mod ProbationVictims
+pub mod RoomSettled
+pub mod RoomToFile

@@ -11,11 +11,11 @@ use Rattle.rules.specs.Rows.{rowAt, atPlace, inMain, find, withoutRow, total, w
 use Rattle.rules.specs.Sound.{sound, ascends}
 use Rattle.rules.specs.Room.{Chosen, Room, probationVisits, takeOut}
 use Rattle.rules.specs.Memory.{capacity, viewRows}
-use Rattle.stamps.specs.declared.answers.Lowest.{Lowest}
-use Rattle.stamps.specs.declared.answers.Lowest.the-variants.{At, Nothing}
+use Rattle.stamps.specs.declared.lowest.Lowest.{Lowest}
+use Rattle.stamps.specs.declared.lowest.Lowest.the-variants.{At, Nothing}
 use Rattle.stamps.specs.Walked.{walkFrom}
 use Rattle.room.specs.declared.victims.Chosen.{Chosen as ChosenAnswer}
-use Rattle.room.specs.declared.answers.Room.{Room as RoomAnswer}
+use Rattle.room.specs.declared.victims.Room.{Room as RoomAnswer}
 
 unfoldable pub chosenOf : ChosenAnswer → State → Chosen
 chosenOf c s = record { made = c .made; walk = walkFrom s (c .examined) }

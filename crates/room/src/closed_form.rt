@@ -1,6 +1,7 @@
 // Rows counted and weighed, and the bounds.
-use stamps::row::PROBATION;
-use stamps::row::is_verified;
+use entries::times::is_verified;
+use memory::codes::PROBATION;
+use types::coord::ADDRS_PER_ENTRY;
 ghost use mathlib.Core.Path.{_≡_};
 ghost use mathlib.Core.Bool.{_&&_, true};
 ghost use Prim.Native.Nat.{_+_, _*_, _≤_, _<_, min};
@@ -13,11 +14,8 @@ ghost use Rattle.rules.specs.Room.{verifiedInMain, roomCanBeMade};
 ghost use Rattle.rules.specs.Memory.{capacity, viewRows};
 ghost use Rattle.rules.specs.Layout.{headSize, rowSize};
 
-// What B allows for each entry: B = 16 × max_entries.
-const ADDRS_PER_ENTRY: u64 = 16;
-
 // The rows of main.
-pub fn count_main(state: &[u8], n: usize) -> u64
+pub fn main_len(state: &[u8], n: usize) -> u64
     requires { ⌜ headSize + n * rowSize ≤ length (now state) ⌝ }
     ensures { λ r. ⌜ r ≡ mainCount (viewRows n (now (state .entry))) ⌝ }
 {

@@ -1,11 +1,10 @@
 // Room in probation.
-use crate::answers::ProbationRoom;
-use stamps::answers::Lowest;
+use memory::bounds::probation_bound;
+use memory::codes::PROBATION;
+use stamps::lowest::Lowest;
 use stamps::lowest::lowest_stamp;
-use stamps::row::PROBATION;
 use stamps::row::is_stale;
 use stamps::row::restamp;
-use state::head::probation_bound;
 ghost use mathlib.Core.Path.{_≡_};
 ghost use mathlib.Core.Bool.{true};
 ghost use Prim.Native.Nat.{_+_, _*_, _≤_, _<_};
@@ -17,6 +16,13 @@ ghost use Rattle.rules.specs.Memory.{capacity, viewRows};
 ghost use Rattle.rules.specs.Layout.{headSize, rowSize};
 ghost use Rattle.stamps.specs.Walked.{walkFrom};
 ghost use Rattle.room.specs.Rooms.{withoutVictim, Leaves};
+
+// Room in probation: the victim, left where it is, the weight that is stored without it, and the keys taken up.
+pub struct ProbationRoom {
+    pub victim: Lowest,
+    pub stored: u64,
+    pub examined: u64,
+}
 
 // Where probation rows ≥ Q the lowest stamp is taken up, and restamped if stale. The first that is not is the victim, and the only one,
 // since a sound state has at most Q; it is left for the row that takes its place.

@@ -1,12 +1,12 @@
 // Room in main. Victims are set aside: one alone is left for the row that takes its place, several leave together, and without room
 // all go back.
-use crate::answers::Room;
 use crate::closed_form::cut_to_bound;
 use crate::closed_form::has_room;
-use stamps::answers::Lowest;
-use stamps::answers::LowestOfMain;
+use memory::codes::ASIDE;
+use memory::codes::BY_USE;
+use stamps::lowest::Lowest;
+use stamps::lowest::LowestOfMain;
 use stamps::lowest::lowest_of_main;
-use stamps::row::BY_USE;
 use stamps::walk::next_victim;
 use types::node_addr::NodeAddr;
 ghost use mathlib.Core.Path.{_≡_};
@@ -20,13 +20,10 @@ ghost use Rattle.rules.specs.Sound.{sound};
 ghost use Rattle.rules.specs.Room.{mainVisits, hasRoom, atNewPlace, putBack, chooseVictims, makeRoom};
 ghost use Rattle.rules.specs.Memory.{capacity, viewRows};
 ghost use Rattle.rules.specs.Layout.{headSize, rowSize};
-ghost use Rattle.stamps.specs.declared.answers.Lowest.the-variants.{Nothing};
+ghost use Rattle.stamps.specs.declared.lowest.Lowest.the-variants.{Nothing};
 ghost use Rattle.stamps.specs.Walked.{walkFrom, MainIs};
 ghost use Rattle.retention.specs.Sweep.{PathsFit};
 ghost use Rattle.room.specs.Rooms.{chosenOf, roomOf, SetAside, Leaves};
-
-// Where a victim waits; no state at rest has this place.
-const ASIDE: u8 = 3;
 
 // Whether enough victims were chosen; the main rows that are left and their weight; the row that was set aside last; the keys taken up.
 struct Chosen {
@@ -35,6 +32,17 @@ struct Chosen {
     stored: u64,
     last: usize,
     examined: u64,
+}
+
+// Whether room was made in main, the rows there are, and the keys taken up. Where one victim is enough, it is left where it
+// is, counted among the rows, for the row that takes its place; `stored` is then the weight that is stored without it, and without
+// a victim means nothing.
+pub struct Room {
+    pub made: bool,
+    pub rows: usize,
+    pub victim: Lowest,
+    pub stored: u64,
+    pub examined: u64,
 }
 
 // Row i at another place, under the stamp that it has.
@@ -121,7 +129,7 @@ fn drop_aside(state: &mut [u8], n: usize) -> usize
     ensures { λ r. ⌜ (r ≤ n) × (viewRows r (now (state .exit)) ≡ withOnlyRows (keepRows (λ x. not (atPlace aside x)) (viewRows n (now (state .entry)) .rows)) (viewRows n (now (state .entry)))) ⌝ }
 {
     let none = NodeAddr([0u8; 16]);
-    retention::rows::sweep_rows(state, n, retention::rows::ASIDE, 0, none)
+    retention::rows::retain_rows(state, n, retention::rows::ASIDE, 0, none)
 }
 
 // There is room: no victim is sought.

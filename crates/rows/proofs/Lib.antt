@@ -1,4 +1,4 @@
-pub mod Runs
+pub mod StoreRuns
 pub mod PathLaws
 pub mod RowImage
 pub mod InsertLaws

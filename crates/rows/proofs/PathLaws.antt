@@ -22,7 +22,7 @@ use Rattle.rules.specs.Layout.{coordEntrySize, createdAtOffset, entryOffset, en
 use Rattle.raw.proofs.StoreLaws.{cut-else}
 use Rattle.memory.proofs.Fields.{entry-store}
 use Rattle.rows.specs.Insertions.{pathBytes, withPath}
-use Rattle.rows.proofs.Runs.{behind, three}
+use Rattle.rows.proofs.StoreRuns.{behind, three}
 
 -- ---- the bytes of elements
 

@@ -9,6 +9,8 @@ ghost use lib.Seq.{sets};
 ghost use Rattle.rules.specs.Memory.{rowOf, viewRows};
 ghost use Rattle.rules.specs.Layout.{headSize, rowSize};
 ghost use Rattle.rows.specs.Insertions.{inserted};
+ghost use Prim.Native.Nat.{_+_, _*_, _≤_, _<_};
+ghost use Rattle.rules.specs.Memory.{cut, rowOf, viewRows};
 
 fn store_saved(s: &mut [u8], at: usize, row: [u8; ROW])
     requires { ⌜ at + rowSize ≤ length (now s) ⌝ }
@@ -31,4 +33,19 @@ pub fn insert_saved(state: &mut [u8], n: usize, i: usize, row: [u8; ROW])
     store_saved(state, HEAD + i * ROW, row);
     let m = n + 1;
     head::set_row_count(state, m, m as u64);
+}
+
+// Row i's bytes, to go back with.
+pub fn save_row(state: &[u8], n: usize, i: usize) -> [u8; ROW]
+    requires { ⌜ (i < n) × (headSize + n * rowSize ≤ length (now state)) ⌝ }
+    ensures { λ r. ⌜ r ≡ cut (headSize + i * rowSize) rowSize (now (state .entry)) ⌝ }
+{
+    let at = HEAD + i * ROW;
+    let mut row = [0u8; ROW];
+    let mut k = 0;
+    while k < ROW {
+        row[k] = state[at + k];
+        k += 1;
+    }
+    row
 }

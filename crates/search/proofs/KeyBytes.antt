@@ -16,7 +16,7 @@ use Rattle.raw.proofs.StoreLaws.{cut-cut}
 use Rattle.memory.proofs.Fields.{row-at}
 use Rattle.search.specs.BigEndian.{NumberOf}
 use Rattle.search.specs.ByKey.{orderOf}
-use Rattle.search.specs.declared.answers.Order.the-variants.{Less, Equal, Greater}
+use Rattle.search.specs.declared.keys.Order.the-variants.{Less, Equal, Greater}
 use Rattle.search.proofs.OrderLaws.{before-less, same-equal, behind-greater}
 use Rattle.search.proofs.BigEndianLaws.{held-halves, given-halves, first-less, second-less, both-same}
 

@@ -1,5 +1,5 @@
 pub mod OrderLaws
 pub mod BigEndianLaws
 pub mod KeyBytes
-pub mod Halves
+pub mod RisingRows
 pub mod SearchLaws

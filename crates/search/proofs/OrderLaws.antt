@@ -5,7 +5,7 @@ use Rattle.types.specs.declared.node_addr.NodeAddr.{NodeAddr}
 use Rattle.types.specs.Addresses.{sameAddr, addrBefore}
 use Rattle.rules.proofs.Addresses.{before-irrefl, before-total, before-trans, contradiction, same-false, same-ne, same-true}
 use Rattle.search.specs.ByKey.{orderOf}
-use Rattle.search.specs.declared.answers.Order.the-variants.{Less, Equal, Greater}
+use Rattle.search.specs.declared.keys.Order.the-variants.{Less, Equal, Greater}
 
 pub before-not-behind : (a b : NodeAddr) → addrBefore a b ≡ true → addrBefore b a ≡ false
 before-not-behind a b h = go (addrBefore b a) refl

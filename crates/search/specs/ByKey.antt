@@ -7,10 +7,10 @@ use Rattle.types.specs.Addresses.{sameAddr, addrBefore}
 use Rattle.rules.specs.Cases.{maybe}
 use Rattle.rules.specs.Records.{Row}
 use Rattle.rules.specs.Rows.{find, countRows}
-use Rattle.search.specs.declared.answers.Order.{Order}
-use Rattle.search.specs.declared.answers.Order.the-variants.{Less, Equal, Greater}
-use Rattle.search.specs.declared.answers.Search.{Search}
-use Rattle.search.specs.declared.answers.Search.the-variants.{At, Absent}
+use Rattle.search.specs.declared.keys.Order.{Order}
+use Rattle.search.specs.declared.keys.Order.the-variants.{Less, Equal, Greater}
+use Rattle.search.specs.declared.keys.Search.{Search}
+use Rattle.search.specs.declared.keys.Search.the-variants.{At, Absent}
 
 -- how a stands to b
 unfoldable pub orderOf : NodeAddr → NodeAddr → Order

@@ -1,6 +1,4 @@
 // Keys of the held rows, which ascend. A key is the first sixteen bytes of its row.
-use crate::answers::Order;
-use crate::answers::Search;
 use raw::layout::HEAD;
 use raw::layout::ROW;
 use raw::numbers::wide;
@@ -15,6 +13,18 @@ ghost use Rattle.rules.specs.Memory.{cut, viewRows};
 ghost use Rattle.rules.specs.Layout.{addressSize, headSize, rowSize};
 ghost use Rattle.search.specs.BigEndian.{NumberOf};
 ghost use Rattle.search.specs.ByKey.{orderOf, searched};
+
+pub enum Order {
+    Less,
+    Equal,
+    Greater,
+}
+
+// The row of a key, or the row that one of that key would become.
+pub enum Search {
+    At(usize),
+    Absent(usize),
+}
 
 // Eight bytes as a number, the first highest. Summed by fours, it compiles to one load and a reversal of its bytes.
 fn be_u64(s: &[u8], at: usize) -> u64

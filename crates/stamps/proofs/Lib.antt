@@ -1,4 +1,4 @@
-pub mod Stamping
-pub mod Searching
-pub mod Counting
-pub mod Walking
+pub mod StampedRows
+pub mod LowestLaws
+pub mod RowTotals
+pub mod WalkLaws

@@ -8,12 +8,12 @@ use mathlib.Core.Path.{_≡_}
 use Rattle.rules.specs.Records.{Row, State, byUse, parked}
 use Rattle.rules.specs.Rows.{rowAt, atPlace, inMain, lowestStamp, countRows}
 use Rattle.rules.specs.Room.{Walk, Sought}
-use Rattle.stamps.specs.declared.answers.Lowest.{Lowest}
-use Rattle.stamps.specs.declared.answers.Lowest.the-variants.{At, Nothing}
+use Rattle.stamps.specs.declared.lowest.Lowest.{Lowest}
+use Rattle.stamps.specs.declared.lowest.Lowest.the-variants.{At, Nothing}
 use Rattle.stamps.specs.declared.lowest.Best.{Best}
-use Rattle.stamps.specs.declared.answers.LowestStamp.{LowestStamp}
-use Rattle.stamps.specs.declared.answers.LowestOfMain.{LowestOfMain}
-use Rattle.stamps.specs.declared.answers.Victim.{Victim}
+use Rattle.stamps.specs.declared.lowest.LowestStamp.{LowestStamp}
+use Rattle.stamps.specs.declared.lowest.LowestOfMain.{LowestOfMain}
+use Rattle.stamps.specs.declared.walk.Victim.{Victim}
 
 unfoldable pub lowestOf : Lowest → Option ℕ
 lowestOf (At i) = some i

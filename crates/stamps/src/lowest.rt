@@ -1,10 +1,7 @@
 // The lowest stamp of a place, or of each place of main, and how many rows are there.
-use crate::answers::Lowest;
-use crate::answers::LowestOfMain;
-use crate::answers::LowestStamp;
-use crate::row::BY_USE;
-use crate::row::PARKED;
-use crate::row::PROBATION;
+use memory::codes::BY_USE;
+use memory::codes::PARKED;
+use memory::codes::PROBATION;
 ghost use mathlib.Core.Path.{_≡_};
 ghost use Prim.Native.Nat.{_+_, _*_, _≤_, _<_};
 ghost use lib.ListN.{length};
@@ -17,6 +14,24 @@ struct Best {
     row: usize,
     first: u64,
     seq: u64,
+}
+
+pub enum Lowest {
+    At(usize),
+    Nothing,
+}
+
+// The row with the lowest stamp of a place, and how many rows are at that place.
+pub struct LowestStamp {
+    pub row: Lowest,
+    pub count: u64,
+}
+
+// The rows of main with the lowest stamps, of those parked and of those in ByUse, and how many rows main has.
+pub struct LowestOfMain {
+    pub parked: Lowest,
+    pub by_use: Lowest,
+    pub count: u64,
 }
 
 fn no_row(n: usize) -> Best

@@ -1,4 +1,7 @@
 // The stamp of one row.
+use memory::codes::BY_USE;
+use memory::codes::PARKED;
+use memory::codes::PROBATION;
 ghost use mathlib.Core.Path.{_≡_};
 ghost use mathlib.Core.Bool.{cond};
 ghost use Prim.Native.Nat.{_+_, _*_, _≤_, _<_};
@@ -6,21 +9,10 @@ ghost use lib.Dec.{ltb};
 ghost use lib.ListN.{length};
 ghost use Rattle.rules.specs.Records.{probation, byUse};
 ghost use Rattle.rules.specs.Rows.{rowAt};
-ghost use Rattle.rules.specs.Entries.{verified};
 ghost use Rattle.rules.specs.Room.{stale, stamp, restamp, park};
 ghost use Rattle.rules.specs.Memory.{viewRows};
 ghost use Rattle.rules.specs.Layout.{headSize, rowSize};
 ghost use Rattle.memory.specs.Edits.{stampedAs};
-
-// Places.
-pub const BY_USE: u8 = 0;
-
-pub const PARKED: u8 = 1;
-
-pub const PROBATION: u8 = 2;
-
-// A source.
-const VERIFIED: u8 = 0;
 
 // first ≠ last_used
 pub fn is_stale(state: &[u8], n: usize, i: usize) -> bool
@@ -28,15 +20,6 @@ pub fn is_stale(state: &[u8], n: usize, i: usize) -> bool
     ensures { λ r. ⌜ r ≡ stale (rowAt i (viewRows n (now (state .entry)) .rows)) ⌝ }
 {
     memory::row::stamp_first(state, n, i) != memory::row::last_used(state, n, i)
-}
-
-// Source Verified, and now ≤ verified_until.
-pub fn is_verified(state: &[u8], n: usize, i: usize, time: u64) -> bool
-    requires { ⌜ (i < n) × (headSize + n * rowSize ≤ length (now state)) ⌝ }
-    ensures { λ r. ⌜ r ≡ verified time (rowAt i (viewRows n (now (state .entry)) .rows) .entry) ⌝ }
-{
-    (memory::row::source(state, n, i) == VERIFIED)
-        & (time <= memory::row::verified_until(state, n, i))
 }
 
 // Row i gets a place and a new stamp.

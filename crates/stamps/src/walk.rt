@@ -1,14 +1,13 @@
 // Seeking a victim.
-use crate::answers::Lowest;
-use crate::answers::LowestOfMain;
-use crate::answers::Victim;
+use crate::lowest::Lowest;
+use crate::lowest::LowestOfMain;
 use crate::lowest::lowest_of_main;
 use crate::lowest::lowest_stamp;
-use crate::row::BY_USE;
 use crate::row::is_stale;
-use crate::row::is_verified;
 use crate::row::park;
 use crate::row::restamp;
+use entries::times::is_verified;
+use memory::codes::BY_USE;
 ghost use mathlib.Core.Path.{_≡_};
 ghost use Prim.Native.Nat.{_+_, _*_, _≤_, _<_};
 ghost use lib.ListN.{length};
@@ -23,6 +22,12 @@ ghost use Rattle.stamps.specs.Walked.{lowestOf, walkFrom, soughtOf, Main
 struct Returned {
     rows: u64,
     next: Lowest,
+}
+
+// The victim that a walk yields, and the keys that it took up.
+pub struct Victim {
+    pub found: Lowest,
+    pub examined: u64,
 }
 
 // Parked rows with until < now return to ByUse, lowest stamp first. `lowest` is of the rows as they are; the pass that finds none lapsed

@@ -1,4 +1,4 @@
 pub mod KeyLaws
 pub mod PassLaws
-pub mod Facts
-pub mod Sizes
+pub mod CheckLaws
+pub mod FreshSizes

@@ -1,8 +1,8 @@
 // Whether a lent memory is a sound state: the head first, then the rows in one pass.
 
 use crate::head::head_is_sound;
-use crate::head::probation_bound;
 use crate::pass::rows_are_sound;
+use memory::bounds::probation_bound;
 ghost use mathlib.Core.Path.{_≡_};
 ghost use Rattle.rules.specs.Sound.{sound};
 ghost use Rattle.rules.specs.Memory.{capacity, view};

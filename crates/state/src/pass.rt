@@ -1,6 +1,7 @@
 // The pass over the rows.
 use crate::key::key_rises;
 use crate::row::row_is_sound;
+use memory::codes::PROBATION;
 ghost use mathlib.Core.Path.{_≡_};
 ghost use Prim.Native.Nat.{_+_, _*_, _^_, _≤_, _<_};
 ghost use lib.ListN.{length};
@@ -20,7 +21,7 @@ pub fn counted(t: Totals, place: u8, weight: u8) -> Totals
     requires { ⌜ (t .main < 2 ^ 32) × ((t .probation < 2 ^ 32) × (t .weight < 2 ^ 32)) ⌝ }
     ensures { λ r. ⌜ r ≡ tallied t place weight ⌝ }
 {
-    if place < 2 {
+    if place < PROBATION {
         return Totals {
             main: t.main + 1,
             probation: t.probation,

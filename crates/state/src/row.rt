@@ -1,4 +1,8 @@
 // What is asked of a row by itself.
+use memory::codes::HINT;
+use memory::codes::PROBATION;
+use memory::codes::SOME_MTU;
+use types::coord::ADDRS_PER_ENTRY;
 use types::coord::PLACES;
 ghost use mathlib.Core.Path.{_≡_};
 ghost use Prim.Native.Nat.{_+_, _*_, _≤_, _<_, max};
@@ -14,10 +18,13 @@ const LONGEST: u8 = PLACES as u8;
 
 const WEIGHT_LIMIT: u8 = LONGEST;
 
+// A path weighs no less.
+const LEAST: u8 = ADDRS_PER_ENTRY as u8;
+
 pub fn path_weight(len: u8) -> u8
     ensures { λ r. ⌜ r ≡ max addrsPerEntry len ⌝ }
 {
-    if len < 16 { 16 } else { len }
+    if len < LEAST { LEAST } else { len }
 }
 
 // One expression with no branch, in the order of the rules; seq is the head's.
@@ -34,7 +41,8 @@ pub fn row_is_sound(state: &[u8], n: usize, i: usize, seq: u64) -> bool
     let until = memory::row::verified_until(state, n, i);
     let first = memory::row::stamp_first(state, n, i);
     let least = path_weight(len);
-    let legal = (place <= 2) & ((source <= 1) & ((mark <= 1) & ((1 <= len) & (len <= LONGEST))));
+    let legal = (place <= PROBATION)
+        & ((source <= HINT) & ((mark <= SOME_MTU) & ((1 <= len) & (len <= LONGEST))));
     let weighed = (least <= weight) & (weight <= WEIGHT_LIMIT);
     let sourced = ((source == 0) | (until == 0))
         & (((place != 2) | (source != 0)) & ((place != 1) | ((source == 0) & (first == until))));

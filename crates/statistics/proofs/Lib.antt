@@ -1,2 +1,2 @@
 pub mod Means
-pub mod Asking
+pub mod StatisticsCalls

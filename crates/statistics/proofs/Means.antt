@@ -14,7 +14,7 @@ use Rattle.rules.specs.Cases.{maybe}
 use Rattle.rules.specs.Statistics.{totalAge, mean, nextExpiry}
 use mathlib.Core.Option.{Option, none, some}
 use Rattle.memory.proofs.RowLaws.{view-length}
-use Rattle.memory.proofs.Totals.{total-next, total-end}
+use Rattle.memory.proofs.RowSums.{total-next, total-end}
 
 -- ---- the exact mean: high and low halves, summed apart
 

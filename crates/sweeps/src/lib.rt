@@ -5,7 +5,6 @@ ghost use mathlib.Core.Path.{_≡_};
 ghost use mathlib.Core.Bool.{true};
 ghost use Prim.Native.Nat.{_-_};
 ghost use Rattle.rules.specs.Sound.{sound};
-ghost use Rattle.rules.specs.Lookups.{sweep};
 ghost use Rattle.rules.specs.Calls.{Clear, PurgeExpired, InvalidateViaNode, InvalidateOtherRoots};
 ghost use Rattle.rules.specs.Answers.{refusalOf, sweepSaid};
 ghost use Rattle.rules.specs.Memory.{capacity, view};
@@ -26,7 +25,7 @@ pub fn purge_expired_unchecked(state: &mut [u8], time: u64) -> SweepAnswer
 {
     let n = memory::head::row_count(state) as usize;
     let none = NodeAddr([0u8; 16]);
-    let kept = retention::rows::sweep_counted(state, n, retention::rows::EXPIRED, time, none);
+    let kept = retention::rows::retain_entries(state, n, retention::rows::EXPIRED, time, none);
     SweepAnswer::Removed((n - kept) as u64)
 }
 
@@ -35,7 +34,7 @@ pub fn invalidate_via_node_unchecked(state: &mut [u8], addr: NodeAddr) -> SweepA
     ensures { λ r. ⌜ (sweepSaid r ≡ call (now (state .entry)) (InvalidateViaNode addr) .answer) × (now (state .exit) ≡ call (now (state .entry)) (InvalidateViaNode addr) .memory) ⌝ }
 {
     let n = memory::head::row_count(state) as usize;
-    let kept = retention::rows::sweep_counted(state, n, retention::rows::VIA_NODE, 0, addr);
+    let kept = retention::rows::retain_entries(state, n, retention::rows::VIA_NODE, 0, addr);
     SweepAnswer::Removed((n - kept) as u64)
 }
 
@@ -44,7 +43,7 @@ pub fn invalidate_other_roots_unchecked(state: &mut [u8], addr: NodeAddr) -> Swe
     ensures { λ r. ⌜ (sweepSaid r ≡ call (now (state .entry)) (InvalidateOtherRoots addr) .answer) × (now (state .exit) ≡ call (now (state .entry)) (InvalidateOtherRoots addr) .memory) ⌝ }
 {
     let n = memory::head::row_count(state) as usize;
-    let kept = retention::rows::sweep_counted(state, n, retention::rows::OTHER_ROOT, 0, addr);
+    let kept = retention::rows::retain_entries(state, n, retention::rows::OTHER_ROOT, 0, addr);
     SweepAnswer::Removed((n - kept) as u64)
 }
 

@@ -15,6 +15,9 @@ pub struct CoordEntry {
 // How many places a path has.
 pub const PLACES: usize = 32;
 
+// What B allows for each entry, and the least that a path weighs.
+pub const ADDRS_PER_ENTRY: u64 = 16;
+
 // Places and a length: element 0 is the node, the last one up to the length is the root.
 pub struct Path {
     pub entries: [CoordEntry; PLACES],
@@ -68,7 +71,11 @@ impl Path {
         ensures { λ r. ⌜ r ≡ pathWeight self ⌝ }
     {
         let n = self.len as u64;
-        if n < 16 { 16 } else { n }
+        if n < ADDRS_PER_ENTRY {
+            ADDRS_PER_ENTRY
+        } else {
+            n
+        }
     }
 
     // The element goes behind the last one.

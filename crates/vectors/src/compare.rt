@@ -1,9 +1,9 @@
 // What a stream left, against what was recorded.
 use crate::text;
+use memory::bounds::MAX_ROWS;
 use raw::layout;
 use raw::layout::HEAD;
 use raw::layout::ROW;
-use state::head::MAX_ROWS;
 
 // A row's key and path length stand in front of its places, and its other fields behind them.
 const FRONT: usize = layout::PLACES_AT;

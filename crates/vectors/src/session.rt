@@ -14,7 +14,7 @@ pub const ROW: u8 = 4;
 
 pub const REST: u8 = 5;
 
-const MOST: usize = state::head::MAX_ROWS as usize;
+const MOST: usize = memory::bounds::MAX_ROWS as usize;
 
 pub struct Session {
     // The byte that the line before began with, comments aside.

@@ -27,14 +27,14 @@ use Rattle.rules.proofs.Addresses.{before-irrefl, before-trans, contradiction}
 use Rattle.rules.proofs.RowLists.{Rising, cores, of-cores, every-at, change-at, length-change, total-insert, total-without, total-without-le, total-some, find-at}
 use Rattle.rules.proofs.SoundTest.{Sound, sound-is}
 use Rattle.rules.specs.Layout.{rowSize}
-use Rattle.stamps.proofs.Counting.{count-few}
+use Rattle.stamps.proofs.RowTotals.{count-few}
 use Rattle.memory.specs.Edits.{withStoredWeight}
-use Rattle.memory.proofs.Changes.{change-twice}
+use Rattle.memory.proofs.RowChanges.{change-twice}
 use Rattle.memory.proofs.RowLaws.{view-length, length-without}
-use Rattle.search.specs.declared.answers.Search.the-variants.{At}
+use Rattle.search.specs.declared.keys.Search.the-variants.{At}
 use Rattle.search.specs.ByKey.{searched}
 use Rattle.search.proofs.SearchLaws.{at-found}
-use Rattle.room.proofs.Sums.{sound-small}
+use Rattle.room.proofs.ClosedForm.{sound-small}
 use Rattle.verification.specs.Mtu.{mtuOf, givenMtu}
 
 -- ---- row i out, and a row of its key in again

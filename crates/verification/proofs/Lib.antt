@@ -1,6 +1,6 @@
 pub mod NoPlace
 pub mod Marks
 pub mod InPlace
-pub mod Inserting
-pub mod Kept
-pub mod Calling
+pub mod VerifiedRows
+pub mod RowKept
+pub mod VerifiedCalls

@@ -20,13 +20,13 @@ use Rattle.rules.proofs.SoundTest.{ascends-test}
 use Rattle.rules.specs.Layout.{headSize, rowSize}
 use Rattle.memory.proofs.Fields.{same-head}
 use Rattle.memory.proofs.RowLaws.{view-length}
-use Rattle.search.specs.declared.answers.Search.{Search}
-use Rattle.search.specs.declared.answers.Search.the-variants.{At, Absent}
+use Rattle.search.specs.declared.keys.Search.{Search}
+use Rattle.search.specs.declared.keys.Search.the-variants.{At, Absent}
 use Rattle.search.specs.ByKey.{searched}
 use Rattle.search.proofs.SearchLaws.{at-inside}
-use Rattle.refusals.proofs.Frame.{found, missing}
-use Rattle.room.proofs.Sums.{closed-without-key}
-use Rattle.room.proofs.Files.{shown, laid-out}
+use Rattle.refusals.proofs.SoundCalls.{found, missing}
+use Rattle.room.proofs.ClosedForm.{closed-without-key}
+use Rattle.room.proofs.RoomToFile.{shown, laid-out}
 
 -- ---- the key's row
 

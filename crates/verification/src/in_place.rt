@@ -1,12 +1,15 @@
 // A verified insert of a key whose row is in main, with room there once the row is out: the row is written again where it stands.
+use entries::times::VERIFIED_TTL_MS;
 use entries::times::add_times;
 use filing::refile::update_in_place;
+use memory::codes::PROBATION;
+use memory::codes::SOME_MTU;
+use memory::codes::VERIFIED;
 use memory::head;
 use memory::row;
-use room::closed_form::count_main;
 use room::closed_form::cut_to_bound;
 use room::closed_form::has_room;
-use stamps::row::PROBATION;
+use room::closed_form::main_len;
 use types::coord::Path;
 use types::entry::PathMtu;
 ghost use mathlib.Core.Path.{_≡_};
@@ -25,18 +28,9 @@ ghost use Rattle.rules.specs.Room.{hasRoom, takeOut, fileNew};
 ghost use Rattle.rules.specs.Placement.{verifiedEntry};
 ghost use Rattle.rules.specs.Memory.{capacity, viewRows};
 ghost use Rattle.rules.specs.Layout.{headSize, rowSize};
-ghost use Rattle.search.specs.declared.answers.Search.the-variants.{At};
+ghost use Rattle.search.specs.declared.keys.Search.the-variants.{At};
 ghost use Rattle.search.specs.ByKey.{searched};
 ghost use Rattle.verification.specs.Mtu.{mtuOf, givenMtu};
-
-// A source.
-const VERIFIED: u8 = 0;
-
-// An MTU mark.
-const SOME_MTU: u8 = 1;
-
-// How long a verified entry outranks a hint, in milliseconds.
-const VERIFIED_TTL_MS: u64 = 300000;
 
 // Row i's entry becomes Verified.
 fn mark_verified(state: &mut [u8], n: usize, i: usize, time: u64)
@@ -77,7 +71,7 @@ fn other_main_rows(state: &[u8], n: usize, max: u64) -> u64
     if rows <= max {
         return rows - 1;
     }
-    count_main(state, n) - 1
+    main_len(state, n) - 1
 }
 
 // Whether row i is in main, and main has room for w once row i is out.

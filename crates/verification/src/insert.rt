@@ -1,17 +1,17 @@
 // A verified insert, done.
 use crate::in_place::has_room_without;
 use crate::in_place::verify_in_place;
-use filing::entry::NewEntry;
-use filing::entry::new_entry;
-use filing::entry::updated_entry;
-use filing::entry::verified_entry;
-use filing::entry::with_mtu;
+use entries::new_entry::NewEntry;
+use entries::new_entry::new_entry;
+use entries::new_entry::updated_entry;
+use entries::new_entry::verified_entry;
+use entries::new_entry::with_mtu;
 use filing::in_room::file_in_room;
+use memory::codes::BY_USE;
 use memory::rows::remove_row;
 use room::victims::make_room;
-use search::answers::Search;
+use search::keys::Search;
 use search::keys::search;
-use stamps::row::BY_USE;
 use types::coord::Path;
 use types::entry::PathMtu;
 use types::node_addr::NodeAddr;
@@ -29,7 +29,8 @@ ghost use Rattle.rules.specs.Refusals.{lastSeq, noPlaceFor};
 ghost use Rattle.rules.specs.Memory.{capacity, viewRows};
 ghost use Rattle.rules.specs.Layout.{headSize, rowSize};
 ghost use Rattle.search.specs.ByKey.{searched};
-ghost use Rattle.filing.specs.Filings.{entryFrom, Writable};
+ghost use Rattle.filing.specs.Filings.{Writable};
+ghost use Rattle.entries.specs.NewEntries.{entryFrom};
 ghost use Rattle.verification.specs.Mtu.{mtuOf};
 ghost use Rattle.verification.specs.Searches.{Within};
 

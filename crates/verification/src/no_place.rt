@@ -1,11 +1,11 @@
 // Number 4: whether main has a place for a verified insert. It is known before anything is written.
+use memory::bounds::probation_bound;
+use memory::codes::PROBATION;
 use memory::head;
-use room::closed_form::count_main;
+use room::closed_form::main_len;
 use room::closed_form::room_can_be_made;
-use search::answers::Search;
+use search::keys::Search;
 use search::keys::search;
-use stamps::row::PROBATION;
-use state::head::probation_bound;
 use types::coord::Path;
 use types::node_addr::NodeAddr;
 ghost use mathlib.Core.Path.{_≡_};
@@ -49,7 +49,7 @@ pub fn no_place_for(state: &[u8], n: usize, key: NodeAddr, path: Path, time: u64
     if rows < bound {
         return false;
     }
-    if count_main(state, n) < bound {
+    if main_len(state, n) < bound {
         return false;
     }
     !room_can_be_made(state, n, path.weight(), time)

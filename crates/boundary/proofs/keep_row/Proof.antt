@@ -1,7 +1,7 @@
 use Rattle.rules.specs.Memory.{viewRows}
 use Rattle.rules.proofs.Public.{sound-memory}
 use mathlib.Core.Path.{_∙_}
-use Rattle.refusals.proofs.Frame.{head-there, searchable, found-inside, found, missing}
+use Rattle.refusals.proofs.SoundCalls.{head-there, searchable, found-inside, found, missing}
 use Rattle.boundary.proofs.Operands.{row-taken, row-left}
 use borrow.Author.Needs.{needs}
 use Rattle.boundary.proofs.keep_row.Statement.{statement}

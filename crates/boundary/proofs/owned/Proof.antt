@@ -1,5 +1,5 @@
 use mathlib.Core.Path.{refl}
-use Rattle.memory.proofs.Owned.{owned-addr}
+use Rattle.memory.proofs.OwnedValues.{owned-addr}
 use Rattle.boundary.proofs.owned.Statement.{statement}
 use Rattle.boundary.proofs.owned.Tie as tie
 

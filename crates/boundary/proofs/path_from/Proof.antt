@@ -7,8 +7,8 @@ use borrow.Author.Needs.{needs}
 use lib.ListN.{length, take, drop, replicate, length-set}
 use Rattle.types.specs.Paths.{zeroEntry, pathPlaces}
 use Rattle.rules.specs.Memory.{coordEntriesOf}
-use Rattle.entries.proofs.Bytes.{stored}
-use Rattle.entries.proofs.Places.{entries-length, entries-at}
+use Rattle.raw.proofs.CopyLaws.{stored}
+use Rattle.entries.proofs.PathElements.{entries-length, entries-at}
 use Rattle.boundary.proofs.Operands.{path-made}
 use Rattle.boundary.proofs.path_from.Statement.{statement}
 use Rattle.boundary.proofs.path_from.Tie as tie

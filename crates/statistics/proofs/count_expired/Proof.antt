@@ -8,7 +8,7 @@ use Rattle.rules.specs.Rows.{total}
 use Rattle.rules.specs.Entries.{expired}
 use Rattle.rules.specs.Memory.{viewRows}
 use Rattle.memory.proofs.RowLaws.{view-length}
-use Rattle.memory.proofs.Totals.{total-end, one-at-most, count-turn}
+use Rattle.memory.proofs.RowSums.{total-end, one-at-most, count-turn}
 use Rattle.statistics.proofs.count_expired.Statement.{statement}
 use Rattle.statistics.proofs.count_expired.Tie as tie
 

@@ -3,7 +3,7 @@ use borrow.Author.Tests.{not-true, not-false}
 use Rattle.rules.specs.Calls.{NextExpiry}
 use Rattle.rules.specs.Answers.{expirySaid}
 use borrow.Author.Needs.{needs}
-use Rattle.refusals.proofs.Refusing.{one-said}
+use Rattle.refusals.proofs.RefusalsSaid.{one-said}
 use Rattle.statistics.proofs.next_expiry.Statement.{statement}
 use Rattle.statistics.proofs.next_expiry.Tie as tie
 

@@ -1,7 +1,7 @@
 use Rattle.rules.proofs.MemoryLaws.{all-bytes}
 use Rattle.rules.proofs.Public.{sound-memory}
-use Rattle.refusals.proofs.Frame.{head-there}
-use Rattle.statistics.proofs.Asking.{expiry-done}
+use Rattle.refusals.proofs.SoundCalls.{head-there}
+use Rattle.statistics.proofs.StatisticsCalls.{expiry-done}
 use Rattle.statistics.proofs.next_expiry_unchecked.Statement.{statement}
 use Rattle.statistics.proofs.next_expiry_unchecked.Tie as tie
 

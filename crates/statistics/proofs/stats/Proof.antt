@@ -3,7 +3,7 @@ use borrow.Author.Tests.{not-true, not-false}
 use Rattle.rules.specs.Calls.{Stats}
 use Rattle.rules.specs.Answers.{statsSaid}
 use borrow.Author.Needs.{needs}
-use Rattle.refusals.proofs.Refusing.{one-said}
+use Rattle.refusals.proofs.RefusalsSaid.{one-said}
 use Rattle.statistics.proofs.stats.Statement.{statement}
 use Rattle.statistics.proofs.stats.Tie as tie
 

@@ -2,7 +2,7 @@ use mathlib.Core.Path.{sym, _∙_}
 use borrow.Author.Tests.{not-true, not-false}
 use Rattle.rules.specs.Calls.{Clear}
 use borrow.Author.Needs.{needs}
-use Rattle.refusals.proofs.Refusing.{one-numbered}
+use Rattle.refusals.proofs.RefusalsSaid.{one-numbered}
 use Rattle.sweeps.proofs.clear.Statement.{statement}
 use Rattle.sweeps.proofs.clear.Tie as tie
 

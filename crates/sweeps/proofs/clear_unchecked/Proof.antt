@@ -2,8 +2,8 @@ use native.Mathlib.Omega.{arith}
 use Rattle.rules.proofs.MemoryLaws.{all-bytes}
 use Rattle.rules.proofs.Public.{sound-memory}
 use borrow.Author.Needs.{needs}
-use Rattle.refusals.proofs.Frame.{head-there}
-use Rattle.sweeps.proofs.Calls.{cleared}
+use Rattle.refusals.proofs.SoundCalls.{head-there}
+use Rattle.sweeps.proofs.SweepCalls.{cleared}
 use Rattle.sweeps.proofs.clear_unchecked.Statement.{statement}
 use Rattle.sweeps.proofs.clear_unchecked.Tie as tie
 

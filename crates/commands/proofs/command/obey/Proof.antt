@@ -3,7 +3,7 @@ use native.Mathlib.Omega.{arith}
 use lib.ListN.{drop}
 use Rattle.rules.specs.Commands.{code, codes, codeOf}
 use Rattle.rules.proofs.MemoryLaws.{all-bytes}
-use Rattle.memory.proofs.Owned.{owned-path}
+use Rattle.memory.proofs.OwnedValues.{owned-path}
 use Rattle.commands.specs.Widths.{widthOf}
 use Rattle.commands.specs.OnMemory.{held}
 use Rattle.commands.proofs.Operands.{there}

@@ -7,7 +7,7 @@ use lib.ListN.{length, take, drop, length-set}
 use borrow.Author.Needs.{needs}
 use Rattle.rules.specs.Memory.{cut}
 use Rattle.rules.proofs.MemoryLaws.{length-cut}
-use Rattle.entries.proofs.Bytes.{cut-byte, stored, copied}
+use Rattle.raw.proofs.CopyLaws.{cut-byte, stored, copied}
 use Rattle.entries.proofs.addr.load_addr.Statement.{statement}
 use Rattle.entries.proofs.addr.load_addr.Tie as tie
 

@@ -1,6 +1,6 @@
 use Rattle.rules.specs.Rows.{rowAt}
 use Rattle.rules.specs.Memory.{viewRows}
-use Rattle.entries.proofs.Values.{entry-made}
+use Rattle.entries.proofs.EntryValues.{entry-made}
 use borrow.Author.Needs.{needs}
 use Rattle.entries.proofs.entry.load_entry.Statement.{statement}
 use Rattle.entries.proofs.entry.load_entry.Tie as tie

@@ -1,7 +1,7 @@
 use borrow.Author.Needs.{needs}
 use Rattle.rules.specs.Rows.{rowAt}
 use Rattle.rules.specs.Memory.{viewRows}
-use Rattle.entries.proofs.Values.{mtu-known, mtu-unknown}
+use Rattle.entries.proofs.EntryValues.{mtu-known, mtu-unknown}
 use Rattle.entries.proofs.entry.path_mtu.Statement.{statement}
 use Rattle.entries.proofs.entry.path_mtu.Tie as tie
 

@@ -1,5 +1,5 @@
 use native.Mathlib.Omega.{arith}
-use Rattle.entries.proofs.Places.{elements-count}
+use Rattle.entries.proofs.PathElements.{elements-count}
 use borrow.Author.Needs.{needs}
 use Rattle.entries.proofs.path.held_elements.Statement.{statement}
 use Rattle.entries.proofs.path.held_elements.Tie as tie

@@ -5,9 +5,9 @@ use Prim.Native.Nat.{_-_, _≤_}
 use native.Mathlib.Omega.{arith}
 use lib.ListN.{length, take, drop, length-set}
 use borrow.Author.Needs.{needs}
-use Rattle.entries.proofs.Bytes.{stored, copied}
-use Rattle.entries.proofs.Places.{rowPath, places-length, place-at}
-use Rattle.entries.proofs.Values.{path-made}
+use Rattle.raw.proofs.CopyLaws.{stored, copied}
+use Rattle.entries.proofs.PathElements.{rowPath, places-length, place-at}
+use Rattle.entries.proofs.EntryValues.{path-made}
 use Rattle.entries.proofs.path.load_path.Statement.{statement}
 use Rattle.entries.proofs.path.load_path.Tie as tie
 use Rattle.types.specs.Paths.{pathPlaces}

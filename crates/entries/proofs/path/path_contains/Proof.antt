@@ -6,7 +6,7 @@ use lib.ListN.{drop}
 use borrow.Author.Needs.{needs}
 use Rattle.types.specs.Paths.{elements, among, contains}
 use Rattle.types.proofs.PathLaws.{among-end}
-use Rattle.entries.proofs.Places.{rowPath, elements-length, search-hit, search-miss}
+use Rattle.entries.proofs.PathElements.{rowPath, elements-length, search-hit, search-miss}
 use Rattle.entries.proofs.path.path_contains.Statement.{statement}
 use Rattle.entries.proofs.path.path_contains.Tie as tie
 

@@ -8,7 +8,7 @@ use mathlib.Core.Bool.{_&&_}
 use Rattle.types.specs.declared.coord.CoordEntry.{CoordEntry}
 use Rattle.types.specs.Paths.{elements, sameEntry, sameEntries, samePath}
 use Rattle.types.proofs.PathLaws.{entries-end, lengths-differ}
-use Rattle.entries.proofs.Places.{rowPath, path-turn}
+use Rattle.entries.proofs.PathElements.{rowPath, path-turn}
 use Rattle.entries.proofs.path.path_is.Statement.{statement}
 use Rattle.entries.proofs.path.path_is.Tie as tie
 

@@ -1,6 +1,6 @@
 use mathlib.Core.Path.{_∙_}
 use Rattle.entries.proofs.Bytes.{same-sym}
-use Rattle.entries.proofs.Places.{root-place}
+use Rattle.entries.proofs.PathElements.{root-place}
 use borrow.Author.Needs.{needs}
 use Rattle.entries.proofs.path.root_is.Statement.{statement}
 use Rattle.entries.proofs.path.root_is.Tie as tie

@@ -6,8 +6,8 @@ use native.Mathlib.Omega.{arith}
 use Rattle.rules.specs.Memory.{capacity, viewRows}
 use Rattle.memory.proofs.Fields.{same-head}
 use Rattle.rows.specs.Insertions.{rowFrom}
-use Rattle.filing.specs.Filings.{entryFrom}
-use Rattle.filing.proofs.Filing.{one-more-fits, rows-rise, rows-weigh, stored-light, place-inside, same-seq, filed}
+use Rattle.entries.specs.NewEntries.{entryFrom}
+use Rattle.filing.proofs.FiledRows.{one-more-fits, rows-rise, rows-weigh, stored-light, place-inside, same-seq, filed}
 use borrow.Author.Needs.{needs}
 use Rattle.filing.proofs.file.file_new.Statement.{statement}
 use Rattle.filing.proofs.file.file_new.Tie as tie

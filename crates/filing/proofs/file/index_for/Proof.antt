@@ -1,5 +1,5 @@
 use mathlib.Core.Path.{sym, _∙_}
-use Rattle.filing.proofs.Filing.{only-absent}
+use Rattle.filing.proofs.FiledRows.{only-absent}
 use borrow.Author.Needs.{needs}
 use Rattle.filing.proofs.file.index_for.Statement.{statement}
 use Rattle.filing.proofs.file.index_for.Tie as tie

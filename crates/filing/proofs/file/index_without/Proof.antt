@@ -1,7 +1,7 @@
 use native.Mathlib.Omega.{arith}
 use Rattle.rules.specs.Memory.{viewRows}
 use Rattle.memory.proofs.RowLaws.{view-length}
-use Rattle.filing.proofs.FilingOver.{absent-behind, absent-before}
+use Rattle.filing.proofs.FiledOverVictim.{absent-behind, absent-before}
 use borrow.Author.Needs.{needs}
 use Rattle.filing.proofs.file.index_without.Statement.{statement}
 use Rattle.filing.proofs.file.index_without.Tie as tie

@@ -1,5 +1,5 @@
-use Rattle.filing.specs.Filings.{entryFrom}
-use Rattle.filing.proofs.Replaced.{free-asks, over-asks, filed-free, filed-over}
+use Rattle.entries.specs.NewEntries.{entryFrom}
+use Rattle.filing.proofs.FiledInRoom.{free-asks, over-asks, filed-free, filed-over}
 use borrow.Author.Needs.{needs}
 use Rattle.filing.proofs.in_room.file_in_room.Statement.{statement}
 use Rattle.filing.proofs.in_room.file_in_room.Tie as tie
@@ -9,8 +9,8 @@ file-new-requires c κs =
     let s = c .before .before .before .before in
     free-asks (s .args .key) (s .args .victim) (s .args .stored) (s .args .n) (s .args .state .now) _ (s .pre .0) (s .pre .1) (c .before .enum-told .given .1)
 
-file-over-requires : tie.Need-file-over-requires
-file-over-requires c κs =
+file-over-victim-requires : tie.Need-file-over-victim-requires
+file-over-victim-requires c κs =
     let s = c .before .before .before .before .before in
     over-asks (s .args .key) (s .args .victim) (s .args .stored) (s .args .n) (s .args .state .now) _ (s .pre .0) (s .pre .1) _ (c .before .before .victim .given .1)
 
@@ -22,7 +22,7 @@ returns c =
 returns-2 : tie.Need-returns-2
 returns-2 c =
     let s = c .before .before .before .before .before .before .before .before .args in
-    filed-over (s .key) (s .victim) (entryFrom (s .e)) (s .weight) (s .place) (s .n) (s .state .now) _ _ (c .before .before .before .before .before .victim .given .1) (c .before .before .file-over .ensures)
+    filed-over (s .key) (s .victim) (entryFrom (s .e)) (s .weight) (s .place) (s .n) (s .state .now) _ _ (c .before .before .before .before .before .victim .given .1) (c .before .before .file-over-victim .ensures)
 
 pub file-in-room-spec : {M : Type 1} → statement M
 file-in-room-spec =
@@ -31,7 +31,7 @@ file-in-room-spec =
     (λ c. search needs)
     file-new-requires
     (λ c. search needs)
-    file-over-requires
+    file-over-victim-requires
     (λ c. search needs)
     returns
     (λ c. search needs)

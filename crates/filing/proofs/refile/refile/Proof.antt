@@ -1,6 +1,6 @@
 use native.Mathlib.Omega.{arith}
 use Rattle.rules.specs.Memory.{viewRows}
-use Rattle.filing.proofs.Refiling.{weighed-seq, weighed-refiled}
+use Rattle.filing.proofs.RefiledRows.{weighed-seq, weighed-refiled}
 use borrow.Author.Needs.{needs}
 use Rattle.filing.proofs.refile.refile.Statement.{statement}
 use Rattle.filing.proofs.refile.refile.Tie as tie

@@ -1,8 +1,8 @@
 use mathlib.Core.Path.{_∙_}
 use Rattle.rules.specs.Calls.{InsertFunded}
 use Rattle.rules.specs.Memory.{view}
-use Rattle.refusals.proofs.Frame.{head-there}
-use Rattle.placement.proofs.Four.{inserts-funded, shown-ttl}
+use Rattle.refusals.proofs.SoundCalls.{head-there}
+use Rattle.placement.proofs.HintCalls.{inserts-funded, shown-ttl}
 use borrow.Author.Needs.{needs}
 use Rattle.placement.proofs.calls.insert_funded_unchecked.Statement.{statement}
 use Rattle.placement.proofs.calls.insert_funded_unchecked.Tie as tie

@@ -1,8 +1,8 @@
 use mathlib.Core.Path.{_∙_}
 use Rattle.rules.specs.Calls.{Insert}
 use Rattle.rules.specs.Memory.{view}
-use Rattle.refusals.proofs.Frame.{head-there}
-use Rattle.placement.proofs.Four.{inserts, shown-ttl}
+use Rattle.refusals.proofs.SoundCalls.{head-there}
+use Rattle.placement.proofs.HintCalls.{inserts, shown-ttl}
 use borrow.Author.Needs.{needs}
 use Rattle.placement.proofs.calls.insert_unchecked.Statement.{statement}
 use Rattle.placement.proofs.calls.insert_unchecked.Tie as tie

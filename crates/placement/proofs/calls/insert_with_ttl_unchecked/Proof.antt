@@ -1,6 +1,6 @@
 use Rattle.rules.specs.Calls.{InsertWithTtl}
 use Rattle.rules.specs.Memory.{view}
-use Rattle.placement.proofs.Four.{inserts-with-ttl}
+use Rattle.placement.proofs.HintCalls.{inserts-with-ttl}
 use borrow.Author.Needs.{needs}
 use Rattle.placement.proofs.calls.insert_with_ttl_unchecked.Statement.{statement}
 use Rattle.placement.proofs.calls.insert_with_ttl_unchecked.Tie as tie

@@ -1,4 +1,4 @@
-use Rattle.filing.proofs.Seeking.{room-asks, sought}
+use Rattle.filing.proofs.RoomSought.{room-asks, sought}
 use Rattle.placement.proofs.HeldKeys.{row-there, out-asks, out-without, out-seq, grow-asks, back-asks, grown-is, goes-back}
 use borrow.Author.Needs.{needs}
 use Rattle.placement.proofs.held_key.grow.Statement.{statement}
@@ -35,8 +35,8 @@ returns c =
     let w = c .before .before .before .before .before .before .before .before .before .before .wide .result in
     grown-is (a .key) (a .n) (a .i) (a .state .now) (x .last .0) (c .before .before .before .before .before .before .before .before .before .before .before .before .before .before .before .before .before .before .before .before .pre .0) (x .kept .0) (x .ensures) (o .last .0) (a .time) w (o .result) (sought (x .last .0) (o .last .0) _ (a .time) w (o .result) (o .kept .0) (o .ensures)) (a .path) (a .ttl) (a .weight) (a .added) (a .stated) (a .outcome) (c .before .before .before .before .before .before .before .before .before .before .before .before .before .before .before .before .before .updated-entry .result) _ (c .before .before .before .before .before .before .before .before .before .before .wide .ensures .0) (c .before .before .before .before .before .before .before .before .before .before .before .before .before .before .before .before .before .before .before .before .pre .4) (c .before .before .before .before .before .before .before .before .before .before .before .before .before .before .before .before .before .before .before .before .pre .5) (c .before .before .before .before .before .before .before .before .before .before .before .before .before .before .before .before .before .updated-entry .ensures .0) (c .before .before .before .before .if1 .taken) (c .before .before .file-in-room .ensures)
 
-file-again-requires : tie.Need-file-again-requires
-file-again-requires c κs =
+file-unchanged-requires : tie.Need-file-unchanged-requires
+file-unchanged-requires c κs =
     let a = c .before .before .before .before .before .before .before .before .before .before .before .before .before .before .before .before .before .args in
     let x = c .before .before .before .before .before .before .before .before .before .before .remove-row in
     let o = c .before .before .before .before .before .make-room in
@@ -48,7 +48,7 @@ returns-2 c =
     let x = c .before .before .before .before .before .before .before .before .before .before .before .before .before .before .remove-row in
     let o = c .before .before .before .before .before .before .before .before .before .make-room in
     let w = c .before .before .before .before .before .before .before .before .before .before .before .wide .result in
-    goes-back (a .key) (a .n) (a .i) (a .state .now) (x .last .0) (c .before .before .before .before .before .before .before .before .before .before .before .before .before .before .before .before .before .before .before .before .before .pre .0) (x .kept .0) (x .ensures) (o .last .0) (a .time) w (o .result) (sought (x .last .0) (o .last .0) _ (a .time) w (o .result) (o .kept .0) (o .ensures)) (a .path) (a .ttl) (a .weight) (a .stated) (c .before .before .before .before .before .before .before .before .before .before .before .before .before .before .before .before .save-row .result) _ (c .reject .result) (c .before .before .before .before .before .before .before .before .before .before .before .wide .ensures .0) (c .before .before .before .before .before .before .before .before .before .before .before .before .before .before .before .before .save-row .ensures) (c .before .before .before .before .before .if1 .left) (c .before .before .before .file-again .ensures) (c .reject .ensures)
+    goes-back (a .key) (a .n) (a .i) (a .state .now) (x .last .0) (c .before .before .before .before .before .before .before .before .before .before .before .before .before .before .before .before .before .before .before .before .before .pre .0) (x .kept .0) (x .ensures) (o .last .0) (a .time) w (o .result) (sought (x .last .0) (o .last .0) _ (a .time) w (o .result) (o .kept .0) (o .ensures)) (a .path) (a .ttl) (a .weight) (a .stated) (c .before .before .before .before .before .before .before .before .before .before .before .before .before .before .before .before .save-row .result) _ (c .reject .result) (c .before .before .before .before .before .before .before .before .before .before .before .wide .ensures .0) (c .before .before .before .before .before .before .before .before .before .before .before .before .before .before .before .before .save-row .ensures) (c .before .before .before .before .before .if1 .left) (c .before .before .before .file-unchanged .ensures) (c .reject .ensures)
 
 pub grow-spec : {M : Type 1} → statement M
 grow-spec =
@@ -63,7 +63,7 @@ grow-spec =
     file-in-room-requires
     (λ c. search needs)
     returns
-    file-again-requires
+    file-unchanged-requires
     (λ c κs. search needs)
     (λ c. search needs)
     returns-2)

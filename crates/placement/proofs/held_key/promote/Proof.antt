@@ -1,4 +1,4 @@
-use Rattle.filing.proofs.Seeking.{room-asks, sought}
+use Rattle.filing.proofs.RoomSought.{room-asks, sought}
 use Rattle.placement.proofs.HeldKeys.{row-there, out-asks, out-without, out-seq, promote-asks, promoted-is}
 use borrow.Author.Needs.{needs}
 use Rattle.placement.proofs.held_key.promote.Statement.{statement}

@@ -1,8 +1,8 @@
 use mathlib.Core.Path.{_∙_}
 use Rattle.rules.specs.Answers.{hintSaid}
 use Rattle.rules.proofs.MemoryLaws.{all-bytes}
-use Rattle.refusals.proofs.Frame.{head-there}
-use Rattle.placement.proofs.Placed.{hint-refused, hint-asks, hint-placed, held-asks, new-asks, held-placed, new-placed, stood-held, stood-new}
+use Rattle.refusals.proofs.SoundCalls.{head-there}
+use Rattle.placement.proofs.PlacedHints.{hint-refused, hint-asks, hint-placed, held-asks, new-asks, held-placed, new-placed, stood-held, stood-new}
 use borrow.Author.Needs.{needs}
 use Rattle.placement.proofs.hint.place_hint.Statement.{statement}
 use Rattle.placement.proofs.hint.place_hint.Tie as tie

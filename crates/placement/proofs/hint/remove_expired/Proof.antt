@@ -1,5 +1,5 @@
 use Rattle.placement.proofs.HeldKeys.{row-there, out-asks}
-use Rattle.placement.proofs.Placed.{search-asks, holds-found, held-here, new-expired, new-missing}
+use Rattle.placement.proofs.PlacedHints.{search-asks, holds-found, held-here, new-expired, new-missing}
 use native.Mathlib.Omega.{arith}
 use borrow.Author.Needs.{needs}
 use Rattle.placement.proofs.hint.remove_expired.Statement.{statement}

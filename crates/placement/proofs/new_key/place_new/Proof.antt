@@ -2,7 +2,7 @@ use mathlib.Core.Path.{sym, ap, _∙_}
 use native.Mathlib.Omega.{arith}
 use borrow.Author.Tests.{not-true, not-false}
 use Rattle.types.specs.Values.{covers}
-use Rattle.filing.proofs.Seeking.{stamps-left, room-asks, sought, takes, made-in-main, still-without, examined-few, stamps-after}
+use Rattle.filing.proofs.RoomSought.{stamps-left, room-asks, sought, takes, made-in-main, still-without, examined-few, stamps-after}
 use Rattle.placement.proofs.NewKeys.{uncovered, covered-made, covered-not-made}
 use borrow.Author.Needs.{needs}
 use Rattle.placement.proofs.new_key.place_new.Statement.{statement}

@@ -1,7 +1,7 @@
 use mathlib.Core.Path.{refl, _∙_}
 use Rattle.rules.specs.Refusals.{badPath}
-use Rattle.refusals.proofs.Frame.{shown-seq}
-use Rattle.refusals.proofs.Writing.{bad-two, spent-three, none-zero}
+use Rattle.refusals.proofs.SoundCalls.{shown-seq}
+use Rattle.refusals.proofs.WriteRefusals.{bad-two, spent-three, none-zero}
 use borrow.Author.Needs.{needs}
 use Rattle.refusals.proofs.write.write_refusal.Statement.{statement}
 use Rattle.refusals.proofs.write.write_refusal.Tie as tie

@@ -2,7 +2,7 @@ use mathlib.Core.Path.{refl, subst}
 use mathlib.Core.Bool.{true}
 use mathlib.Core.List.{List}
 use Rattle.rules.proofs.Addresses.{contradiction}
-use Rattle.retention.proofs.Sweeping.{of-kind}
+use Rattle.retention.proofs.KeptRows.{of-kind}
 use borrow.Author.Needs.{needs}
 use Rattle.retention.proofs.rows.any_matches.Statement.{statement}
 use Rattle.retention.proofs.rows.any_matches.Tie as tie

@@ -1,5 +1,5 @@
 use borrow.Author.Needs.{needs}
-use Rattle.retention.proofs.Sweeping.{down, down-stays}
+use Rattle.retention.proofs.KeptRows.{down, down-stays}
 use Rattle.retention.proofs.rows.keep_row.Statement.{statement}
 use Rattle.retention.proofs.rows.keep_row.Tie as tie
 

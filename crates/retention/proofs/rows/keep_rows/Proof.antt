@@ -3,7 +3,7 @@ use Prim.Native.Nat.{_-_, _≤_}
 use native.Mathlib.Omega.{arith}
 use lib.ListN.{length}
 use borrow.Author.Needs.{needs}
-use Rattle.retention.proofs.Sweeping.{Kept, kept-start, kept-turn, kept-end, row-fits}
+use Rattle.retention.proofs.KeptRows.{Kept, kept-start, kept-turn, kept-end, row-fits}
 use Rattle.retention.proofs.rows.keep_rows.Statement.{statement}
 use Rattle.retention.proofs.rows.keep_rows.Tie as tie
 

@@ -1,6 +1,6 @@
 use mathlib.Core.Path.{sym, _∙_}
 use borrow.Author.Needs.{needs}
-use Rattle.retention.proofs.Sweeping.{passed-out, passed-kept}
+use Rattle.retention.proofs.KeptRows.{passed-out, passed-kept}
 use Rattle.retention.proofs.rows.pass_row.Statement.{statement}
 use Rattle.retention.proofs.rows.pass_row.Tie as tie
 

@@ -1,7 +1,7 @@
 use Rattle.rules.specs.Rows.{rowAt}
 use Rattle.rules.specs.Memory.{viewRows}
 use borrow.Author.Needs.{needs}
-use Rattle.retention.proofs.Sweeping.{test-expired, test-via, test-root, test-aside}
+use Rattle.retention.proofs.KeptRows.{test-expired, test-via, test-root, test-aside}
 use Rattle.retention.proofs.rows.row_matches.Statement.{statement}
 use Rattle.retention.proofs.rows.row_matches.Tie as tie
 

@@ -2,7 +2,7 @@ use mathlib.Core.Path.{_∙_}
 use Rattle.rules.specs.Rows.{rowAt}
 use Rattle.rules.specs.Memory.{viewRows}
 use borrow.Author.Needs.{needs}
-use Rattle.retention.proofs.Sweeping.{weighs, weighs-nothing}
+use Rattle.retention.proofs.KeptRows.{weighs, weighs-nothing}
 use Rattle.retention.proofs.rows.weight_in_main.Statement.{statement}
 use Rattle.retention.proofs.rows.weight_in_main.Tie as tie
 

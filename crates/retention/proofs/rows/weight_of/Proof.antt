@@ -7,7 +7,7 @@ use borrow.Author.Needs.{needs}
 use Rattle.rules.specs.Rows.{total, inMain}
 use Rattle.rules.specs.Memory.{viewRows}
 use Rattle.memory.proofs.RowLaws.{view-length}
-use Rattle.memory.proofs.Totals.{total-next, total-end}
+use Rattle.memory.proofs.RowSums.{total-next, total-end}
 use Rattle.retention.proofs.rows.weight_of.Statement.{statement}
 use Rattle.retention.proofs.rows.weight_of.Tie as tie
 

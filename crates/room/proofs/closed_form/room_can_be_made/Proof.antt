@@ -5,7 +5,7 @@ use borrow.Author.Needs.{needs}
 use Rattle.rules.specs.Memory.{viewRows}
 use Rattle.memory.proofs.Fields.{same-head}
 use Rattle.memory.proofs.RowLaws.{view-length}
-use Rattle.room.proofs.Sums.{Weighed, weighed-start, weighed-in, weighed-past, weighed-end, sound-small}
+use Rattle.room.proofs.ClosedForm.{Weighed, weighed-start, weighed-in, weighed-past, weighed-end, sound-small}
 use Rattle.room.proofs.closed_form.room_can_be_made.Statement.{statement}
 use Rattle.room.proofs.closed_form.room_can_be_made.Tie as tie
 

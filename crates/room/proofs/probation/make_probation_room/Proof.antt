@@ -10,10 +10,10 @@ use Rattle.rules.specs.Memory.{capacity, viewRows}
 use Rattle.memory.proofs.Fields.{same-head}
 use Rattle.memory.proofs.RowLaws.{view-length}
 use Rattle.stamps.specs.Walked.{lowestOf, walkFrom}
-use Rattle.stamps.proofs.Walking.{found-at, found-none}
+use Rattle.stamps.proofs.WalkLaws.{found-at, found-none}
 use Rattle.room.specs.Rooms.{LeftAt}
-use Rattle.room.proofs.Leaving.{at-none, at-one, without-at, without-none}
-use Rattle.room.proofs.Evicting.{Evicting, Taken, evict-start, evict-ends, room-free, taken}
+use Rattle.room.proofs.LeftVictims.{at-none, at-one, without-at, without-none}
+use Rattle.room.proofs.ProbationVictims.{Evicting, Taken, evict-start, evict-ends, room-free, taken}
 use Rattle.room.proofs.probation.make_probation_room.Statement.{statement}
 use Rattle.room.proofs.probation.make_probation_room.Tie as tie
 

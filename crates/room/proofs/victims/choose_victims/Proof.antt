@@ -13,9 +13,9 @@ use Rattle.memory.proofs.Fields.{same-head}
 use Rattle.memory.proofs.RowLaws.{view-length}
 use Rattle.stamps.specs.Walked.{walkFrom, MainIs}
 use Rattle.room.specs.Rooms.{LastAside, chosenOf}
-use Rattle.room.proofs.Sums.{sound-small}
-use Rattle.room.proofs.Places.{last-start, last-turn}
-use Rattle.room.proofs.Choosing.{Choosing, Came, choosing-start, choosing-seq, room-test, chosen-enough, came}
+use Rattle.room.proofs.ClosedForm.{sound-small}
+use Rattle.room.proofs.RowsAside.{last-start, last-turn}
+use Rattle.room.proofs.ChosenVictims.{Choosing, Came, choosing-start, choosing-seq, room-test, chosen-enough, came}
 use Rattle.room.proofs.victims.choose_victims.Statement.{statement}
 use Rattle.room.proofs.victims.choose_victims.Tie as tie
 

@@ -8,10 +8,10 @@ use Rattle.rules.proofs.SoundTest.{sound-is}
 use Rattle.memory.proofs.Fields.{same-head}
 use Rattle.memory.proofs.RowLaws.{view-length}
 use Rattle.room.specs.Rooms.{LeftAt}
-use Rattle.room.proofs.Sums.{sound-small}
-use Rattle.room.proofs.Files.{few}
-use Rattle.room.proofs.Leaving.{at-none, at-one}
-use Rattle.room.proofs.Settling.{Waiting, waiting, full, there, rows-there, room-there, room-made, room-failed, out-is, waits-alone, left-aside, sought-at, sought-none}
+use Rattle.room.proofs.ClosedForm.{sound-small}
+use Rattle.room.proofs.RoomToFile.{few}
+use Rattle.room.proofs.LeftVictims.{at-none, at-one}
+use Rattle.room.proofs.RoomSettled.{Waiting, waiting, full, there, rows-there, room-there, room-made, room-failed, out-is, waits-alone, left-aside, sought-at, sought-none}
 use borrow.Author.Needs.{needs}
 use Rattle.room.proofs.victims.make_room.Statement.{statement}
 use Rattle.room.proofs.victims.make_room.Tie as tie

@@ -5,7 +5,7 @@ use borrow.Author.Needs.{needs}
 use lib.ListN.{length}
 use Rattle.rules.specs.Memory.{viewRows}
 use Rattle.memory.proofs.RowLaws.{view-length}
-use Rattle.room.proofs.Places.{Backed, backed-start, backed-turn, backed-end}
+use Rattle.room.proofs.RowsAside.{Backed, backed-start, backed-turn, backed-end}
 use Rattle.room.proofs.victims.put_back.Statement.{statement}
 use Rattle.room.proofs.victims.put_back.Tie as tie
 

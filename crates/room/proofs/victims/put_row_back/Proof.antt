@@ -1,6 +1,6 @@
 use mathlib.Core.Path.{sym, _∙_}
 use Rattle.rules.specs.Memory.{viewRows}
-use Rattle.room.proofs.Places.{back-here, back-not-here}
+use Rattle.room.proofs.RowsAside.{back-here, back-not-here}
 use borrow.Author.Needs.{needs}
 use Rattle.room.proofs.victims.put_row_back.Statement.{statement}
 use Rattle.room.proofs.victims.put_row_back.Tie as tie

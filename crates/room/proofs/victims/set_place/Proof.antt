@@ -1,5 +1,5 @@
 use Rattle.rules.specs.Memory.{viewRows}
-use Rattle.room.proofs.Places.{placed}
+use Rattle.room.proofs.RowsAside.{placed}
 use borrow.Author.Needs.{needs}
 use Rattle.room.proofs.victims.set_place.Statement.{statement}
 use Rattle.room.proofs.victims.set_place.Tie as tie

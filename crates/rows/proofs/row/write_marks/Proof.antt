@@ -2,7 +2,7 @@ use native.Mathlib.Omega.{arith}
 use Rattle.rules.specs.Memory.{leBytes}
 use Rattle.rules.proofs.ViewLaws.{length-le}
 use Rattle.rules.proofs.Sizes.{small1, small8}
-use Rattle.rows.proofs.Runs.{four}
+use Rattle.rows.proofs.StoreRuns.{four}
 use borrow.Author.Needs.{needs}
 use Rattle.rows.proofs.row.write_marks.Statement.{statement}
 use Rattle.rows.proofs.row.write_marks.Tie as tie

@@ -2,7 +2,7 @@ use native.Mathlib.Omega.{arith}
 use Rattle.rules.specs.Memory.{leBytes}
 use Rattle.rules.proofs.ViewLaws.{length-le}
 use Rattle.rules.proofs.Sizes.{small8}
-use Rattle.rows.proofs.Runs.{three}
+use Rattle.rows.proofs.StoreRuns.{three}
 use borrow.Author.Needs.{needs}
 use Rattle.rows.proofs.row.write_times.Statement.{statement}
 use Rattle.rows.proofs.row.write_times.Tie as tie

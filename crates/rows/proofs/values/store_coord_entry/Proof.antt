@@ -2,8 +2,8 @@ use mathlib.Core.List.{append-nil}
 use native.Mathlib.Omega.{arith}
 use Rattle.rules.specs.Memory.{leBytes, coordEntriesBytes}
 use Rattle.rules.proofs.ViewLaws.{length-le}
-use Rattle.memory.proofs.Owned.{owned-entry}
-use Rattle.rows.proofs.Runs.{three}
+use Rattle.memory.proofs.OwnedValues.{owned-entry}
+use Rattle.rows.proofs.StoreRuns.{three}
 use borrow.Author.Needs.{needs}
 use Rattle.rows.proofs.values.store_coord_entry.Statement.{statement}
 use Rattle.rows.proofs.values.store_coord_entry.Tie as tie

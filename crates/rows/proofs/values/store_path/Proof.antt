@@ -5,7 +5,7 @@ use lib.ListN.{length, take}
 use lib.Seq.{sets}
 use borrow.Author.Needs.{needs}
 use Rattle.rules.specs.Memory.{coordEntriesBytes}
-use Rattle.memory.proofs.Owned.{owned-path}
+use Rattle.memory.proofs.OwnedValues.{owned-path}
 use Rattle.rows.proofs.PathLaws.{entries-turn, path-stored}
 use Rattle.rows.proofs.values.store_path.Statement.{statement}
 use Rattle.rows.proofs.values.store_path.Tie as tie

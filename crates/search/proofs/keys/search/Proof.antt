@@ -5,7 +5,7 @@ use native.Mathlib.Omega.{arith}
 use borrow.Author.Needs.{needs}
 use Rattle.rules.specs.Memory.{viewRows}
 use Rattle.search.proofs.KeyBytes.{rows-length}
-use Rattle.search.proofs.Halves.{Halved, halved-start, halved-less, halved-equal, halved-greater, halved-end}
+use Rattle.search.proofs.RisingRows.{Halved, halved-start, halved-less, halved-equal, halved-greater, halved-end}
 use Rattle.search.proofs.keys.search.Statement.{statement}
 use Rattle.search.proofs.keys.search.Tie as tie
 

@@ -7,8 +7,8 @@ use Rattle.rules.specs.Records.{byUse, parked}
 use Rattle.rules.specs.Rows.{inMain}
 use Rattle.rules.specs.Memory.{viewRows}
 use Rattle.memory.proofs.RowLaws.{view-length}
-use Rattle.stamps.proofs.Counting.{Counted, counted-start, counted-fits, counted-turn, counted-end}
-use Rattle.stamps.proofs.Searching.{Down, down-start, down-row, down-end}
+use Rattle.stamps.proofs.RowTotals.{Counted, counted-start, counted-fits, counted-turn, counted-end}
+use Rattle.stamps.proofs.LowestLaws.{Down, down-start, down-row, down-end}
 use Rattle.stamps.proofs.lowest.lowest_of_main.Statement.{statement}
 use Rattle.stamps.proofs.lowest.lowest_of_main.Tie as tie
 

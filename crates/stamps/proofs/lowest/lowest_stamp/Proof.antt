@@ -6,8 +6,8 @@ use borrow.Author.Needs.{needs}
 use Rattle.rules.specs.Rows.{atPlace}
 use Rattle.rules.specs.Memory.{viewRows}
 use Rattle.memory.proofs.RowLaws.{view-length}
-use Rattle.stamps.proofs.Counting.{Counted, counted-start, counted-fits, counted-turn, counted-end}
-use Rattle.stamps.proofs.Searching.{Down, down-start, down-row, down-end}
+use Rattle.stamps.proofs.RowTotals.{Counted, counted-start, counted-fits, counted-turn, counted-end}
+use Rattle.stamps.proofs.LowestLaws.{Down, down-start, down-row, down-end}
 use Rattle.stamps.proofs.lowest.lowest_stamp.Statement.{statement}
 use Rattle.stamps.proofs.lowest.lowest_stamp.Tie as tie
 

@@ -1,5 +1,5 @@
 use Rattle.rules.specs.Memory.{viewRows}
-use Rattle.stamps.proofs.Stamping.{drawn}
+use Rattle.stamps.proofs.StampedRows.{drawn}
 use borrow.Author.Needs.{needs}
 use Rattle.stamps.proofs.row.draw_stamp.Statement.{statement}
 use Rattle.stamps.proofs.row.draw_stamp.Tie as tie

@@ -1,5 +1,5 @@
 use Rattle.rules.specs.Memory.{viewRows}
-use Rattle.stamps.proofs.Stamping.{parked-anew}
+use Rattle.stamps.proofs.StampedRows.{parked-anew}
 use borrow.Author.Needs.{needs}
 use Rattle.stamps.proofs.row.park.Statement.{statement}
 use Rattle.stamps.proofs.row.park.Tie as tie

@@ -3,7 +3,7 @@ use Prim.Native.Nat.{ℕ}
 use mathlib.Core.Bool.{cond}
 use lib.Dec.{ltb}
 use Rattle.rules.specs.Memory.{viewRows}
-use Rattle.stamps.proofs.Stamping.{restamped}
+use Rattle.stamps.proofs.StampedRows.{restamped}
 use borrow.Author.Needs.{needs}
 use Rattle.stamps.proofs.row.restamp.Statement.{statement}
 use Rattle.stamps.proofs.row.restamp.Tie as tie

@@ -12,7 +12,7 @@ use Rattle.rules.proofs.RowLists.{lowest-at}
 use Rattle.rules.proofs.Loops.{seeking}
 use Rattle.memory.proofs.RowLaws.{view-length}
 use Rattle.stamps.specs.Walked.{lowestOf, walkFrom}
-use Rattle.stamps.proofs.Walking.{Turn, Going, Paced, found-at, found-none, stale-turn, park-turn, going-start, going-on, paced-on, some-left, none-yielded, yielded}
+use Rattle.stamps.proofs.WalkLaws.{Turn, Going, Paced, found-at, found-none, stale-turn, park-turn, going-start, going-on, paced-on, some-left, none-yielded, yielded}
 use Rattle.stamps.proofs.walk.next_victim.Statement.{statement}
 use Rattle.stamps.proofs.walk.next_victim.Tie as tie
 

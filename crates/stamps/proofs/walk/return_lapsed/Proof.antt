@@ -12,7 +12,7 @@ use Rattle.rules.specs.Memory.{viewRows}
 use Rattle.rules.proofs.Loops.{waking}
 use Rattle.memory.proofs.RowLaws.{view-length}
 use Rattle.stamps.specs.Walked.{lowestOf, walkFrom}
-use Rattle.stamps.proofs.Walking.{Turn, Going, found-at, found-none, lapsed-turn, going-start, going-on, lapsed-ends, lapsed-rests}
+use Rattle.stamps.proofs.WalkLaws.{Turn, Going, found-at, found-none, lapsed-turn, going-start, going-on, lapsed-ends, lapsed-rests}
 use Rattle.stamps.proofs.walk.return_lapsed.Statement.{statement}
 use Rattle.stamps.proofs.walk.return_lapsed.Tie as tie
 

@@ -5,7 +5,7 @@ use Rattle.rules.specs.Answers.{refusalOf}
 use Rattle.rules.proofs.MemoryLaws.{all-bytes}
 use Rattle.rules.proofs.Public.{fresh-refused, fresh-is-done}
 use borrow.Author.Needs.{needs}
-use Rattle.state.proofs.Sizes.{rows-there, size-said}
+use Rattle.state.proofs.FreshSizes.{rows-there, size-said}
 use Rattle.state.proofs.fresh.fresh.Statement.{statement}
 use Rattle.state.proofs.fresh.fresh.Tie as tie
 

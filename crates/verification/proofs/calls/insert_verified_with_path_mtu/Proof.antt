@@ -2,7 +2,7 @@ use mathlib.Core.Path.{sym, _∙_}
 use borrow.Author.Tests.{not-true, not-false}
 use Rattle.rules.specs.Calls.{InsertVerifiedWithPathMtu}
 use Rattle.rules.specs.Answers.{verifiedSaid}
-use Rattle.refusals.proofs.Refusing.{one-said}
+use Rattle.refusals.proofs.RefusalsSaid.{one-said}
 use borrow.Author.Needs.{needs}
 use Rattle.verification.proofs.calls.insert_verified_with_path_mtu.Statement.{statement}
 use Rattle.verification.proofs.calls.insert_verified_with_path_mtu.Tie as tie

@@ -1,7 +1,7 @@
 use Rattle.rules.specs.Answers.{verifiedSaid}
 use Rattle.rules.proofs.MemoryLaws.{all-bytes}
-use Rattle.refusals.proofs.Frame.{head-there}
-use Rattle.verification.proofs.Calling.{rows-sound, refused-early, refused-by-four, insert-asked, insert-done}
+use Rattle.refusals.proofs.SoundCalls.{head-there}
+use Rattle.verification.proofs.VerifiedCalls.{rows-sound, refused-early, refused-by-four, insert-asked, insert-done}
 use borrow.Author.Needs.{needs}
 use Rattle.verification.proofs.calls.verify.Statement.{statement}
 use Rattle.verification.proofs.calls.verify.Tie as tie

@@ -5,8 +5,8 @@ use Rattle.rules.specs.Records.{weightBound}
 use Rattle.rules.specs.Memory.{viewRows}
 use Rattle.memory.proofs.Fields.{same-head}
 use Rattle.memory.proofs.RowLaws.{view-length}
-use Rattle.room.proofs.Sums.{sound-small}
-use Rattle.room.proofs.Files.{laid-out}
+use Rattle.room.proofs.ClosedForm.{sound-small}
+use Rattle.room.proofs.RoomToFile.{laid-out}
 use Rattle.verification.proofs.InPlace.{stored-few, main-some, room-out, no-main, in-main}
 use Rattle.verification.proofs.in_place.has_room_without.Statement.{statement}
 use Rattle.verification.proofs.in_place.has_room_without.Tie as tie

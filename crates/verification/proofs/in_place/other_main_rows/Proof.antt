@@ -17,7 +17,7 @@ returns c =
     few-rows (s .args .n) (s .args .max) (s .args .state .now) (s .pre .1) (c .if1 .taken) .1
 
 returns-2 : tie.Need-returns-2
-returns-2 c = ap (λ (x : ℕ). ltb (x - 1) (c .before .before .before .args .max)) (c .count-main .ensures)
+returns-2 c = ap (λ (x : ℕ). ltb (x - 1) (c .before .before .before .args .max)) (c .main-len .ensures)
 
 pub other-main-rows-spec : {M : Type 1} → statement M
 other-main-rows-spec =

@@ -3,7 +3,7 @@ use native.Mathlib.Omega.{arith}
 use Rattle.rules.specs.Memory.{capacity, viewRows}
 use Rattle.memory.proofs.Fields.{same-head}
 use Rattle.memory.proofs.RowLaws.{view-length}
-use Rattle.room.proofs.Files.{shown, laid-out}
+use Rattle.room.proofs.RoomToFile.{shown, laid-out}
 use Rattle.verification.proofs.InPlace.{weight-out}
 use borrow.Author.Needs.{needs}
 use Rattle.verification.proofs.in_place.stored_without.Statement.{statement}

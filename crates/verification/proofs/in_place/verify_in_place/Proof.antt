@@ -3,7 +3,7 @@ use mathlib.Core.Path.{_∙_}
 use native.Mathlib.Omega.{arith}
 use Rattle.rules.specs.Memory.{capacity, viewRows}
 use Rattle.memory.proofs.Fields.{same-head}
-use Rattle.room.proofs.Files.{shown, laid-out}
+use Rattle.room.proofs.RoomToFile.{shown, laid-out}
 use Rattle.verification.proofs.InPlace.{stored-few, verified-back}
 use borrow.Author.Needs.{needs}
 use Rattle.verification.proofs.in_place.verify_in_place.Statement.{statement}

@@ -4,11 +4,11 @@ use Rattle.types.specs.declared.coord.Path.{Path}
 use Rattle.rules.specs.Placement.{withoutKey}
 use Rattle.rules.specs.Memory.{viewRows}
 use Rattle.rules.proofs.Others.{weight-ok}
-use Rattle.room.proofs.Files.{laid-out, Reached}
-use Rattle.filing.specs.Filings.{entryFrom}
-use Rattle.filing.proofs.Seeking.{Sought, sought}
+use Rattle.room.proofs.RoomToFile.{laid-out, Reached}
+use Rattle.entries.specs.NewEntries.{entryFrom}
+use Rattle.filing.proofs.RoomSought.{Sought, sought}
 use Rattle.verification.specs.Mtu.{mtuOf}
-use Rattle.verification.proofs.Inserting.{found-within, room-asked, row-asked, insert-said, insert-left}
+use Rattle.verification.proofs.VerifiedRows.{found-within, room-asked, row-asked, insert-said, insert-left}
 use borrow.Author.Needs.{needs}
 use Rattle.verification.proofs.insert.file_anew.Statement.{statement}
 use Rattle.verification.proofs.insert.file_anew.Tie as tie

@@ -1,13 +1,13 @@
 use mathlib.Core.Path.{_≡_, sym, _∙_}
 use native.Mathlib.Omega.{arith}
-use Rattle.search.specs.declared.answers.Search.the-variants.{At}
+use Rattle.search.specs.declared.keys.Search.the-variants.{At}
 use Rattle.search.specs.ByKey.{searched}
 use Rattle.rules.specs.Memory.{capacity, viewRows}
 use Rattle.rules.proofs.Others.{weight-ok}
-use Rattle.room.proofs.Files.{shown}
+use Rattle.room.proofs.RoomToFile.{shown}
 use Rattle.verification.specs.Mtu.{mtuOf}
 use Rattle.verification.proofs.NoPlace.{rows-searchable, row-inside}
-use Rattle.verification.proofs.Kept.{room-told, kept-said, kept-left}
+use Rattle.verification.proofs.RowKept.{room-told, kept-said, kept-left}
 use borrow.Author.Needs.{needs}
 use Rattle.verification.proofs.insert.file_verified.Statement.{statement}
 use Rattle.verification.proofs.insert.file_verified.Tie as tie

@@ -1,8 +1,8 @@
 use mathlib.Core.Path.{_∙_}
 use Rattle.rules.specs.Memory.{viewRows}
 use Rattle.memory.proofs.Fields.{same-head}
-use Rattle.filing.specs.Filings.{entryFrom}
-use Rattle.verification.proofs.Inserting.{within, entry-held, entry-new}
+use Rattle.entries.specs.NewEntries.{entryFrom}
+use Rattle.verification.proofs.VerifiedRows.{within, entry-held, entry-new}
 use borrow.Author.Needs.{needs}
 use Rattle.verification.proofs.insert.plain_entry.Statement.{statement}
 use Rattle.verification.proofs.insert.plain_entry.Tie as tie

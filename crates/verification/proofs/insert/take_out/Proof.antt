@@ -1,7 +1,7 @@
 use native.Mathlib.Omega.{arith}
 use Rattle.rules.specs.Memory.{viewRows}
-use Rattle.room.proofs.Files.{shown, laid-out}
-use Rattle.verification.proofs.Inserting.{within, out-held, out-absent}
+use Rattle.room.proofs.RoomToFile.{shown, laid-out}
+use Rattle.verification.proofs.VerifiedRows.{within, out-held, out-absent}
 use borrow.Author.Needs.{needs}
 use Rattle.verification.proofs.insert.take_out.Statement.{statement}
 use Rattle.verification.proofs.insert.take_out.Tie as tie

@@ -1,7 +1,7 @@
 use mathlib.Core.Path.{_∙_}
 use Rattle.rules.specs.Memory.{viewRows}
-use Rattle.filing.specs.Filings.{entryFrom}
-use Rattle.verification.proofs.Inserting.{entry-plain, entry-with-mtu}
+use Rattle.entries.specs.NewEntries.{entryFrom}
+use Rattle.verification.proofs.VerifiedRows.{entry-plain, entry-with-mtu}
 use borrow.Author.Needs.{needs}
 use Rattle.verification.proofs.insert.verified_entry_of.Statement.{statement}
 use Rattle.verification.proofs.insert.verified_entry_of.Tie as tie

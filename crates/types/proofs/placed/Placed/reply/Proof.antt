@@ -1,6 +1,6 @@
 use borrow.Author.Needs.{needs}
 use Rattle.types.specs.Values.{placedReply}
-use Rattle.types.proofs.Laws.{as-bit}
+use Rattle.types.proofs.CodeLaws.{as-bit}
 use Rattle.types.proofs.placed.Placed.reply.Statement.{statement}
 use Rattle.types.proofs.placed.Placed.reply.Tie as tie
 

@@ -1,0 +1,17 @@
+use mathlib.Core.Path.{ap, _∙_}
+use Rattle.rules.specs.Lent.{gotPart}
+use Rattle.lookups.proofs.FoundRows.{part-from}
+use borrow.Author.Needs.{needs}
+use Rattle.lookups.proofs.touch.get_and_touch_unchecked.Statement.{statement}
+use Rattle.lookups.proofs.touch.get_and_touch_unchecked.Tie as tie
+
+returns : tie.Need-returns
+returns c =
+    let s = c .before .before .before .before .before .before .before .before .args in
+    let r = c .before .before .before .before .before .touch-place .result in
+    part-from (r .at) (r .bytes) _ _ (c .before .before .before .before .before .touch-place .ensures .0 .part) ∙ ap (gotPart (s .key) (s .time)) (c .before .before .before .before .before .touch-place .ensures .1)
+
+pub get-and-touch-unchecked-spec : {M : Type 1} → statement M
+get-and-touch-unchecked-spec =
+    tie.close
+    (tie.spec (λ c κs. search needs) (λ c. search needs) (λ c. search needs) (λ c. search needs) (λ c. search needs) returns)

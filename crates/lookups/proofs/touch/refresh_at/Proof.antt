@@ -1,0 +1,24 @@
+use mathlib.Core.Path.{ap, _∙_}
+use Prim.Native.Nat.{ℕ}
+use Rattle.rules.specs.Entries.{addTimes}
+use Rattle.rules.specs.Lookups.{rewrite}
+use Rattle.rules.specs.Memory.{viewRows}
+use Rattle.memory.specs.Edits.{withTimes}
+use Rattle.memory.proofs.Fields.{same-head}
+use borrow.Author.Needs.{needs}
+use Rattle.lookups.proofs.TouchedRows.{refreshed}
+use Rattle.lookups.proofs.touch.refresh_at.Statement.{statement}
+use Rattle.lookups.proofs.touch.refresh_at.Tie as tie
+
+returns : tie.Need-returns
+returns c =
+    let s = c .before .before .before .before .before .before .before .before .args in
+    let v = viewRows (s .n) (s .state .now) in
+    c .before .before .set-times .ensures
+    ∙ ap (λ (x : ℕ). rewrite (withTimes (s .time) x) (s .i) v) (c .before .before .before .before .add-times .ensures ∙ ap (addTimes (s .time)) (c .before .before .before .before .before .default-ttl .ensures ∙ same-head 0 (s .n) (s .state .now) .defaultTtl))
+    ∙ refreshed (s .i) (s .time) (v .defaultTtl) v
+
+pub refresh-at-spec : {M : Type 1} → statement M
+refresh-at-spec =
+    tie.close
+    (tie.spec (λ c κs. search needs) (λ c κs. search needs) (λ c κs. search needs) (λ c. search needs) returns)

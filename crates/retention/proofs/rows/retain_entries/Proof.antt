@@ -1,0 +1,14 @@
+use Rattle.retention.proofs.KeptRows.{unswept}
+use borrow.Author.Needs.{needs}
+use Rattle.retention.proofs.rows.retain_entries.Statement.{statement}
+use Rattle.retention.proofs.rows.retain_entries.Tie as tie
+
+returns-2 : tie.Need-returns-2
+returns-2 c =
+    let s = c .before .before .before .before in
+    unswept (s .args .kind) (s .args .time) (s .args .addr) (s .args .n) (s .args .state .now) (s .pre .3) (s .pre .4) (c .before .any-matches .ensures (c .if1 .left))
+
+pub retain-entries-spec : {M : Type 1} → statement M
+retain-entries-spec =
+    tie.close
+    (tie.spec (λ c κs. search needs) (λ c κs. search needs) (λ c. search needs) (λ c. search needs) (λ c. search needs) returns-2)
