@@ -1,3 +1,4 @@
+-- The body runs with call at most 21, so call stays at most 22 and 22 - call falls.
 use Prim.Native.Nat.{_-_, _≤_}
 use borrow.Author.Needs.{needs}
 use Rattle.checks.proofs.answers.Statement.{statement}

@@ -1,3 +1,4 @@
+-- number never passes 32, the count of bad states, and each turn brings it one nearer.
 use Prim.Native.Nat.{_-_, _≤_}
 use borrow.Author.Needs.{needs}
 use Rattle.checks.proofs.bad_states.Statement.{statement}

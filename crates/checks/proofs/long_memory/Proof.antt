@@ -1,4 +1,4 @@
--- The length is a law of `replicate` at any n: at the number itself antt would run out of stack.
+-- A list of n zeros has length n for every n, here the size of 1,025 rows.
 use mathlib.Core.Path.{_≡_, refl, sym, ap, _∙_}
 use Prim.Native.Nat.{ℕ, _+_}
 use mathlib.Core.List.{List}

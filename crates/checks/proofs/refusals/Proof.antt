@@ -1,3 +1,4 @@
+-- Each call adds at most 1, so the count is at most the calls made, which are 21 at the end.
 use mathlib.Core.Path.{_≡_}
 use Prim.Native.Nat.{_-_, _≤_}
 use lib.ListN.{length}

@@ -1,3 +1,4 @@
+-- The two tests make the length at most that of each slice, so taking it gives that many bytes.
 use mathlib.Core.Path.{sym}
 use native.Mathlib.Omega.{arith}
 use lib.Seq.{length-take-le}

@@ -1,3 +1,4 @@
+-- The count is at most 22 for each length passed, and lengths stop at 3326, so no sum overflows.
 use mathlib.Core.Path.{_≡_}
 use Prim.Native.Nat.{_*_, _-_, _≤_}
 use lib.ListN as ListN

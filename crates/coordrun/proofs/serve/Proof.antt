@@ -1,3 +1,4 @@
+-- turns is the measure, since nothing bounds the input, and a turn keeps the lengths of the three buffers.
 use mathlib.Core.Path.{_≡_, refl}
 use lib.ListN.{length}
 use borrow.Author.Needs.{needs}

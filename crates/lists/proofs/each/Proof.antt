@@ -1,3 +1,4 @@
+-- A call keeps the memory's length, and key is below last in the body, so its increment fits.
 use mathlib.Core.Path.{_≡_}
 use Prim.Native.Nat.{_-_}
 use lib.ListN.{length}

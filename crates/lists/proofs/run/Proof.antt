@@ -1,3 +1,4 @@
+-- feed keeps the memory's length, and i at most the text's length makes text[i] in range under the test.
 use mathlib.Core.Path.{_≡_}
 use Prim.Native.Nat.{_-_, _≤_}
 use lib.ListN.{length}

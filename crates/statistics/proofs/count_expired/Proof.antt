@@ -1,3 +1,4 @@
+-- The count plus the expired rows from i on is the whole number, and the count is at most i.
 use mathlib.Core.Path.{_≡_}
 use mathlib.Core.Bool.{cond}
 use Prim.Native.Nat.{_+_, _-_, _≤_}

@@ -1,3 +1,4 @@
+-- The two sums of halves are the exact total, and n is at most 1,024, so neither they nor the rest pass 64 bits.
 use mathlib.Core.Path.{_≡_}
 use Prim.Native.Nat.{_-_}
 use native.Mathlib.Omega.{arith}

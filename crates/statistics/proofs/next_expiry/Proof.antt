@@ -1,3 +1,4 @@
+-- Where is_sound is false the answer is Refused(1); where it is true it is what next_expiry_unchecked requires.
 use mathlib.Core.Path.{sym, _∙_}
 use borrow.Author.Tests.{not-true, not-false}
 use Rattle.rules.specs.Calls.{NextExpiry}

@@ -1,3 +1,4 @@
+-- soonest is the smallest expiry of the rows from i on, which are never none, as i starts at the last row.
 use mathlib.Core.Path.{_≡_, sym, ap, _∙_}
 use mathlib.Core.Option.{some}
 use Prim.Native.Nat.{ℕ, _+_, _-_, _<_, min}

@@ -1,3 +1,4 @@
+-- The rows that a sound head counts are those of the view, and a call that only reads is answered by them.
 use Rattle.rules.proofs.MemoryLaws.{all-bytes}
 use Rattle.rules.proofs.Public.{sound-memory}
 use Rattle.refusals.proofs.SoundCalls.{head-there}

@@ -1,3 +1,4 @@
+-- An unsound memory is refused by 1 and left; for a sound one stats_unchecked has the same contract.
 use mathlib.Core.Path.{sym, _∙_}
 use borrow.Author.Tests.{not-true, not-false}
 use Rattle.rules.specs.Calls.{Stats}

@@ -1,3 +1,4 @@
+-- The view has n rows and the head's max_entries, and the other two fields are what the two loops return.
 use mathlib.Core.Path.{_∙_}
 use Rattle.rules.specs.Statistics.{stats}
 use Rattle.rules.specs.Lookups.{matching}

@@ -1,3 +1,4 @@
+-- A sound head counts at most 1,024 rows, all in the memory, and the call neither draws stamps nor takes a path.
 use Rattle.rules.proofs.MemoryLaws.{all-bytes}
 use Rattle.rules.proofs.Public.{sound-memory}
 use Rattle.refusals.proofs.SoundCalls.{head-there}

@@ -1,3 +1,4 @@
+-- k is below 32 in the body, so element k ends within the pending bytes; setting an entry keeps 32 places.
 use mathlib.Core.Path.{_≡_, refl}
 use Prim.Native.Nat.{_-_, _≤_}
 use native.Mathlib.Omega.{arith}

@@ -1,3 +1,4 @@
+-- The number 1 and the same memory are the rule for an unsound state; any other state goes to clear_unchecked.
 use mathlib.Core.Path.{sym, _∙_}
 use borrow.Author.Tests.{not-true, not-false}
 use Rattle.rules.specs.Calls.{Clear}

@@ -1,3 +1,4 @@
+-- No rows weigh 0, so the counted rows shrunk to none with weight 0 are the cleared state.
 use native.Mathlib.Omega.{arith}
 use Rattle.rules.proofs.MemoryLaws.{all-bytes}
 use Rattle.rules.proofs.Public.{sound-memory}

@@ -1,3 +1,4 @@
+-- The rules refuse an unsound memory by 1 before any root is read; a sound one is left to the unchecked call.
 use mathlib.Core.Path.{sym, _∙_}
 use borrow.Author.Tests.{not-true, not-false}
 use Rattle.rules.specs.Calls.{InvalidateOtherRoots}

@@ -1,3 +1,4 @@
+-- Kind OTHER_ROOT keeps the rows whose root is the address, as the rule does, and n - kept counts the others.
 use mathlib.Core.Bool.{not}
 use Rattle.types.specs.Addresses.{sameAddr}
 use Rattle.types.specs.Paths.{rootOf}

@@ -1,3 +1,4 @@
+-- By one-said, Refused(1) and the untouched memory are the call's result where is_sound fails; else the unchecked contract is the same.
 use mathlib.Core.Path.{sym, _∙_}
 use borrow.Author.Tests.{not-true, not-false}
 use Rattle.rules.specs.Calls.{InvalidateViaNode}

@@ -1,3 +1,4 @@
+-- Sound rows have paths of 1 to 32 elements, so the sweep may read them; its VIA_NODE test is the rule's contains.
 use Rattle.types.specs.Paths.{contains}
 use Rattle.rules.specs.Calls.{InvalidateViaNode}
 use Rattle.rules.specs.Memory.{viewRows}

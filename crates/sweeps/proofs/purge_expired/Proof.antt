@@ -1,3 +1,4 @@
+-- The check's answer is `sound` of the view: false gives refusal 1 at any time, true the precondition of the purge.
 use mathlib.Core.Path.{sym, _∙_}
 use borrow.Author.Tests.{not-true, not-false}
 use Rattle.rules.specs.Calls.{PurgeExpired}

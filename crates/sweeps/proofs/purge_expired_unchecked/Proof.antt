@@ -1,3 +1,4 @@
+-- Kind EXPIRED does not read the address, so the rows kept are those not expired, and n - kept is how many were.
 use Rattle.rules.specs.Entries.{expired}
 use Rattle.rules.specs.Calls.{PurgeExpired}
 use Rattle.rules.specs.Memory.{viewRows}

@@ -1,3 +1,4 @@
+-- line_end is past at and within the text, so each line is a slice of it and the text left shrinks.
 use mathlib.Core.Path.{_≡_}
 use Prim.Native.Nat.{_-_}
 use lib.ListN.{length}

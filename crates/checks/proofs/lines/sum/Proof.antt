@@ -1,3 +1,4 @@
+-- The remainder keeps the sum below 2^32, so 31 times it plus a byte and 1 fits in 64 bits.
 use Prim.Native.Nat.{_-_, _≤_, _<_}
 use lib.ListN.{length}
 use borrow.Author.Needs.{needs}

@@ -1,3 +1,4 @@
+-- The whole comparison is `same` and that of the bytes from i on; a turn moves the test of one byte into `same`.
 use mathlib.Core.Path.{_≡_, refl, sym, _∙_, ap}
 use mathlib.Core.Bool.{_&&_}
 use Prim.Native.Nat.{_-_, _≤_}

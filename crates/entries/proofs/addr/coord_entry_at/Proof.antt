@@ -1,3 +1,4 @@
+-- The fields read are those of the element in the cut, and addresses are the same in either order (`element-same`).
 use Rattle.entries.proofs.Bytes.{element-same}
 use borrow.Author.Needs.{needs}
 use Rattle.entries.proofs.addr.coord_entry_at.Statement.{statement}

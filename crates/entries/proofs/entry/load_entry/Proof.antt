@@ -1,3 +1,4 @@
+-- Each field is the entry's by the contract of its reader, and equal fields make equal records (`entry-made`).
 use Rattle.rules.specs.Rows.{rowAt}
 use Rattle.rules.specs.Memory.{viewRows}
 use Rattle.entries.proofs.EntryValues.{entry-made}

@@ -1,3 +1,4 @@
+-- A mark of 1 is the test by which `entryValue` has an MTU; at any other mark it has none.
 use borrow.Author.Needs.{needs}
 use Rattle.rules.specs.Rows.{rowAt}
 use Rattle.rules.specs.Memory.{viewRows}

@@ -1,3 +1,4 @@
+-- The record is newEntry field by field, with add_times giving expires_at.
 use Rattle.rules.specs.Entries.{newEntry}
 use Rattle.entries.specs.NewEntries.{entryFrom}
 use mathlib.Core.Path.{refl}

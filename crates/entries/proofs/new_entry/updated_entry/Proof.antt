@@ -1,3 +1,4 @@
+-- entryFrom of the result is update once created_at, MTU and mark are read from row i and expires is known as addTimes.
 use Rattle.rules.specs.Entries.{update}
 use Rattle.entries.specs.NewEntries.{entryFrom}
 use mathlib.Core.Path.{refl}

@@ -1,3 +1,4 @@
+-- markVerified sets the same two fields, source and verified_until, and add_times gives the second.
 use Rattle.rules.specs.Entries.{markVerified}
 use Rattle.entries.specs.NewEntries.{entryFrom}
 use mathlib.Core.Path.{refl}

@@ -1,3 +1,4 @@
+-- Mark and MTU are set and the other fields are those of e, so both equations hold by computation.
 use Rattle.rules.specs.Entries.{setMtu}
 use Rattle.entries.specs.NewEntries.{entryFrom}
 use mathlib.Core.Path.{refl}

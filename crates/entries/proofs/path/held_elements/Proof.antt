@@ -1,3 +1,4 @@
+-- A row's path has 32 places, so the elements that can be taken are the smaller of the length and 32 (`elements-count`).
 use native.Mathlib.Omega.{arith}
 use Rattle.entries.proofs.PathElements.{elements-count}
 use borrow.Author.Needs.{needs}

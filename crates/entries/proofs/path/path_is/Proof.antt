@@ -1,3 +1,4 @@
+-- Paths with different counts differ; with equal counts the answer is that for the elements from k on, by `path-turn`.
 use mathlib.Core.Path.{_≡_, refl, sym, _∙_, ap}
 use Prim.Native.Nat.{_-_, _≤_}
 use native.Mathlib.Omega.{arith}

@@ -1,3 +1,4 @@
+-- The offsets are the definition's, and the length read is the one in the view, so the number of bytes is the same.
 use mathlib.Core.Path.{ap}
 use Prim.Native.Nat.{ℕ, _+_, _*_}
 use borrow.Author.Needs.{needs}

@@ -1,3 +1,4 @@
+-- With a length from 1 to 32 the root stands in place len − 1 (`root-place`), and sameness of addresses is symmetric.
 use mathlib.Core.Path.{_∙_}
 use Rattle.entries.proofs.Bytes.{same-sym}
 use Rattle.entries.proofs.PathElements.{root-place}

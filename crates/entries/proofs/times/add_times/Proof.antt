@@ -1,3 +1,4 @@
+-- Where b is over what is left up to 2^64 − 1, so is the sum, and the minimum is that number; else the sum fits.
 use native.Mathlib.Omega.{arith}
 use Rattle.rules.specs.Entries.{addTimes}
 use borrow.Author.Needs.{needs}

@@ -1,3 +1,4 @@
+-- `expired` is the same comparison once the number read is replaced by the entry's expiresAt.
 use Rattle.rules.specs.Entries.{expired}
 use borrow.Author.Needs.{needs}
 use Rattle.entries.proofs.times.is_expired.Statement.{statement}

@@ -1,3 +1,4 @@
+-- The source and verified_until are those of the row's entry, and the conjunction is the definition of verified.
 use Rattle.rules.specs.Entries.{verified}
 use borrow.Author.Needs.{needs}
 use Rattle.entries.proofs.times.is_verified.Statement.{statement}

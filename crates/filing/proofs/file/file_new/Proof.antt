@@ -1,3 +1,4 @@
+-- The search's index is where insertInOrder puts the row, and stored_weight, the sum over main rows, grows by the weight of a main row.
 use mathlib.Core.Bool.{cond}
 use lib.Dec.{ltb}
 use mathlib.Core.Path.{refl, ap, _∙_}

@@ -1,3 +1,4 @@
+-- Exchanging row i for the new one is takeOut, then fileNew: the row count stays n, and the zero row that takeOut adds is the one fileNew drops.
 use mathlib.Core.Path.{refl, ap, _∙_}
 use Prim.Native.Nat.{ℕ, _+_}
 use native.Mathlib.Omega.{arith}

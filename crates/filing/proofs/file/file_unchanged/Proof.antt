@@ -1,3 +1,4 @@
+-- Stamping row i after its insertion is inserting it stamped, so the steps are fileNew with the saved entry and weight (filed-again).
 use mathlib.Core.Path.{ap, _∙_}
 use Prim.Native.Nat.{ℕ, _+_}
 use native.Mathlib.Omega.{arith}

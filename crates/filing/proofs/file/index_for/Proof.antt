@@ -1,3 +1,4 @@
+-- find gives none, so the search cannot answer At, and the index is that of its Absent.
 use mathlib.Core.Path.{sym, _∙_}
 use Rattle.filing.proofs.FiledRows.{only-absent}
 use borrow.Author.Needs.{needs}

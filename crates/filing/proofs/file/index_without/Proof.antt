@@ -1,3 +1,4 @@
+-- The rows before the key come first, so row i is one of them exactly where i < at, and then the index is one less.
 use native.Mathlib.Omega.{arith}
 use Rattle.rules.specs.Memory.{viewRows}
 use Rattle.memory.proofs.RowLaws.{view-length}

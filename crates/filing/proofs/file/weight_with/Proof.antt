@@ -1,3 +1,4 @@
+-- place < PROBATION is the condition in the sum, and the bound on stored keeps the sum within u64.
 use native.Mathlib.Omega.{arith}
 use borrow.Author.Tests.{lt-ltb, le-ltb}
 use borrow.Author.Needs.{needs}

@@ -1,3 +1,4 @@
+-- Takes says what each case requires: a sound state with a free row without a victim, Over with one; withoutVictim has the same two cases.
 use Rattle.entries.specs.NewEntries.{entryFrom}
 use Rattle.filing.proofs.FiledInRoom.{free-asks, over-asks, filed-free, filed-over}
 use borrow.Author.Needs.{needs}

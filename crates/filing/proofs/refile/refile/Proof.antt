@@ -1,3 +1,4 @@
+-- set_weight and restamp change row i one after the other, which is one change by refiled with its own entry and the new weight.
 use native.Mathlib.Omega.{arith}
 use Rattle.rules.specs.Memory.{viewRows}
 use Rattle.filing.proofs.RefiledRows.{weighed-seq, weighed-refiled}

@@ -1,3 +1,4 @@
+-- Path, times and hint mark are three rewrites of one entry, and their composition is update.
 use Rattle.rules.specs.Memory.{viewRows}
 use Rattle.filing.proofs.RefiledRows.{updated}
 use borrow.Author.Needs.{needs}

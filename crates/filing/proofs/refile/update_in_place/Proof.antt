@@ -1,3 +1,4 @@
+-- The update changes row i's entry alone, so refiling it afterwards is refiling the old row with the updated entry (rewritten-refiled).
 use native.Mathlib.Omega.{arith}
 use Rattle.rules.specs.Entries.{update}
 use Rattle.rules.specs.Memory.{viewRows}

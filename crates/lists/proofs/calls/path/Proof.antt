@@ -1,3 +1,4 @@
+-- n starts at 1 and is below len in the body, so n + 1 fits and len - n falls.
 use Prim.Native.Nat.{_-_, _≤_}
 use borrow.Author.Needs.{needs}
 use Rattle.lists.proofs.calls.path.Statement.{statement}

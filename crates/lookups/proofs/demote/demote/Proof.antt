@@ -1,3 +1,4 @@
+-- Refused(1) reads as the rules' answer to an unsound memory (one-said); where is_sound is true, demote_unchecked's contract is this one.
 use mathlib.Core.Path.{sym, _∙_}
 use borrow.Author.Tests.{not-true, not-false}
 use Rattle.rules.specs.Calls.{Demote}

@@ -1,3 +1,4 @@
+-- Marking a parked row and restamping it changes one row twice, which is one refile; a row at another place is only rewritten.
 use mathlib.Core.Path.{sym, ap, _∙_}
 use native.Mathlib.Omega.{arith}
 use Rattle.rules.specs.Records.{State}

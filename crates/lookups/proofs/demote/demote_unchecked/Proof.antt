@@ -1,3 +1,4 @@
+-- A seq over LAST_SEQ is refusal 3; up to it the call is not refused, and its state is demotedAt i where find gives i, else the same state.
 use mathlib.Core.Path.{sym, _∙_}
 use native.Mathlib.Omega.{arith}
 use Rattle.rules.specs.Memory.{viewRows}

@@ -1,3 +1,4 @@
+-- On an unsound memory gotPart is empty and the number is 1; on a sound one Get is not refused, so the number is 0 (get-done).
 use mathlib.Core.Path.{refl, sym, _∙_}
 use borrow.Author.Tests.{not-true, not-false}
 use Rattle.rules.specs.Calls.{Get}

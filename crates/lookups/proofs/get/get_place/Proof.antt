@@ -1,3 +1,4 @@
+-- StandsAt in three cases: without a row, or with an expired one, the part is empty and at 0; else it is row i's path, inside the memory.
 use mathlib.Core.Path.{sym, _∙_}
 use Rattle.rules.specs.Memory.{viewRows}
 use Rattle.rules.proofs.MemoryLaws.{all-bytes}

@@ -1,3 +1,4 @@
+-- The slice from start to end is the cut of place.bytes bytes at start, and StandsAt equates that cut with gotPart.
 use Rattle.lookups.proofs.FoundRows.{part-from}
 use borrow.Author.Needs.{needs}
 use Rattle.lookups.proofs.get.get_unchecked.Statement.{statement}

@@ -1,3 +1,4 @@
+-- refusalOf gives number 1 for an unsound memory (one-numbered); a sound one is all that clear_path_mtu_unchecked requires.
 use mathlib.Core.Path.{sym, _∙_}
 use borrow.Author.Tests.{not-true, not-false}
 use Rattle.rules.specs.Calls.{ClearPathMtu}

@@ -1,3 +1,4 @@
+-- A call without path or stamps is not refused on a sound memory; dropMtu rewrites the row that find gives, or nothing where it gives none.
 use Rattle.rules.specs.Memory.{viewRows}
 use Rattle.rules.proofs.MemoryLaws.{all-bytes}
 use Rattle.rules.proofs.Public.{sound-memory}

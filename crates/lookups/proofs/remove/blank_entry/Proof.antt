@@ -1,3 +1,4 @@
+-- The literal is blankEntry once its path is known to be the empty one.
 use borrow.Author.Needs.{needs}
 use Rattle.lookups.proofs.RemovedRows.{blank-made}
 use Rattle.lookups.proofs.remove.blank_entry.Statement.{statement}

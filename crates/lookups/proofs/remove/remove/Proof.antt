@@ -1,3 +1,4 @@
+-- entryGiven of refusal 1 is the blank entry (one-removed); a sound memory meets the precondition of remove_unchecked.
 use mathlib.Core.Path.{sym, _∙_}
 use borrow.Author.Tests.{not-true, not-false}
 use borrow.Author.Needs.{needs}

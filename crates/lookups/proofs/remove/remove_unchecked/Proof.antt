@@ -1,3 +1,4 @@
+-- The search agrees with find; Removed says answer, entry and memory, for a row taken out and for a key that has none.
 use Rattle.rules.specs.Memory.{viewRows}
 use Rattle.rules.proofs.MemoryLaws.{all-bytes}
 use Rattle.rules.proofs.Public.{sound-memory}

@@ -1,3 +1,4 @@
+-- A refused call keeps the memory, so the part after it is empty too (one-got-after); on a sound memory the number is 0 (touch-zero).
 use mathlib.Core.Path.{sym, _∙_}
 use borrow.Author.Tests.{not-true, not-false}
 use Rattle.rules.specs.Calls.{GetAndTouch}

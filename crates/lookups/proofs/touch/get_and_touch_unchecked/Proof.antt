@@ -1,3 +1,4 @@
+-- StandsAt holds of the memory after the touch, which is the memory of the call, so the bytes read there are its part.
 use mathlib.Core.Path.{ap, _∙_}
 use Rattle.rules.specs.Lent.{gotPart}
 use Rattle.lookups.proofs.FoundRows.{part-from}

@@ -1,3 +1,4 @@
+-- Where is_sound is false, the answer is refusal 1 and the memory is kept (one-touched); where it is true, touch_unchecked applies.
 use mathlib.Core.Path.{sym, _∙_}
 use borrow.Author.Tests.{not-true, not-false}
 use borrow.Author.Needs.{needs}

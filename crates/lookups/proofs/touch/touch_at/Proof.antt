@@ -1,3 +1,4 @@
+-- Both branches are those of touchedAt: with row i out the memory shows n - 1 rows, with row i refreshed it still shows n.
 use mathlib.Core.Path.{sym, _∙_}
 use borrow.Author.Needs.{needs}
 use Rattle.lookups.proofs.TouchedRows.{touched-out, touched-kept}

@@ -1,3 +1,4 @@
+-- A refreshed row keeps index and path, so its path stands where it stood; a row that is taken out leaves its key without one.
 use Rattle.rules.specs.Memory.{viewRows}
 use Rattle.rules.proofs.Sizes.{small8}
 use Rattle.rules.proofs.MemoryLaws.{all-bytes}

@@ -1,3 +1,4 @@
+-- touchSays is Found only where row i is not expired, so the answer tells whether touchedPlace is the path's place or nowhere.
 use mathlib.Core.Path.{ap}
 use Rattle.lookups.proofs.FoundRows.{finds}
 use Rattle.lookups.proofs.PathPlaces.{placed, unplaced}

@@ -1,3 +1,4 @@
+-- Where find gives i, the call's state is touchedAt i and its answer touchSays i; where it gives none, Absent and the same state.
 use Rattle.rules.specs.Memory.{viewRows}
 use Rattle.rules.proofs.MemoryLaws.{all-bytes}
 use Rattle.rules.proofs.Public.{sound-memory}

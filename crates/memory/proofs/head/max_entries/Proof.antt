@@ -1,3 +1,4 @@
+-- `viewRows` takes this number from the first eight bytes of the head, and those are the bytes read.
 use Rattle.rules.specs.Memory.{viewRows}
 use borrow.Author.Needs.{needs}
 use Rattle.memory.proofs.head.max_entries.Statement.{statement}

@@ -1,3 +1,4 @@
+-- seq does not depend on how many rows are seen, and as it is below 2^64 − 1 the sum fits; `set_seq` then stores it.
 use mathlib.Core.Path.{ap, _∙_}
 use Prim.Native.Nat.{ℕ, _+_}
 use native.Mathlib.Omega.{arith}

@@ -1,3 +1,4 @@
+-- The last eight bytes of the head are the row count in the view and in the code alike.
 use Rattle.rules.specs.Memory.{viewRows}
 use borrow.Author.Needs.{needs}
 use Rattle.memory.proofs.head.row_count.Statement.{statement}

@@ -1,3 +1,4 @@
+-- Where the head does not fit, the definition's difference is 0 and so is its quotient; else both divide the same number.
 use native.Mathlib.Omega.{arith}
 use Rattle.rules.specs.Memory.{capacity}
 use borrow.Author.Needs.{needs}

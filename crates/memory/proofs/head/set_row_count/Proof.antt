@@ -1,3 +1,4 @@
+-- The store covers the head's last eight bytes, so the numbers before it, the rows and the rest are read as before.
 use Rattle.rules.proofs.Sizes.{small8}
 use Rattle.memory.proofs.Fields.{row-count-view}
 use borrow.Author.Needs.{needs}

@@ -1,3 +1,4 @@
+-- By `seq-view` the stored bytes are read back as v, and the cuts up to 16 and from 24 on do not meet the store.
 use Rattle.rules.proofs.Sizes.{small8}
 use Rattle.memory.proofs.Fields.{seq-view}
 use borrow.Author.Needs.{needs}

@@ -1,3 +1,4 @@
+-- A store of eight bytes at 24 leaves the cut of each other number alone, and v, of 64 bits, is read back from it.
 use Rattle.rules.proofs.Sizes.{small8}
 use Rattle.memory.proofs.Fields.{stored-weight-view}
 use borrow.Author.Needs.{needs}

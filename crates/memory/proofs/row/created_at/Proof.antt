@@ -1,3 +1,4 @@
+-- created_at stands right behind the path; `entry-number` makes the cut of the row's entry a cut of the memory.
 use mathlib.Core.Path.{refl, _∙_}
 use native.Mathlib.Omega.{arith}
 use Rattle.rules.specs.Memory.{entryOf, pathOf}

@@ -1,3 +1,4 @@
+-- Unfolded, `dropMtu` is `withMtu` with mark 0 and MTU 0, and with these `set_mtu` is called.
 use Rattle.rules.specs.Entries.{dropMtu}
 use Rattle.memory.specs.Edits.{withMtu}
 use borrow.Author.Needs.{needs}

@@ -1,3 +1,4 @@
+-- The eight bytes read lie within the entry of row i, and `entryOf` makes its third time of them.
 use mathlib.Core.Path.{refl, _∙_}
 use native.Mathlib.Omega.{arith}
 use Rattle.rules.specs.Memory.{entryOf, pathOf}

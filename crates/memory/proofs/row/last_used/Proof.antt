@@ -1,3 +1,4 @@
+-- A cut of eight bytes of row i's entry is a cut of the memory; this one begins one number past created_at.
 use mathlib.Core.Path.{refl, _∙_}
 use native.Mathlib.Omega.{arith}
 use Rattle.rules.specs.Memory.{entryOf, pathOf}

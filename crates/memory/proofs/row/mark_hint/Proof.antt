@@ -1,3 +1,4 @@
+-- `markHint` is `withSource` at 1 and 0 once both are unfolded, so the contract of `set_source` is the goal.
 use Rattle.rules.specs.Entries.{markHint}
 use Rattle.memory.specs.Edits.{withSource}
 use borrow.Author.Needs.{needs}

@@ -1,3 +1,4 @@
+-- This field alone has two bytes; `entry-number` at width 2 equates the number that `read_u16` gives with the entry's mtu.
 use mathlib.Core.Path.{refl, _∙_}
 use native.Mathlib.Omega.{arith}
 use Rattle.rules.specs.Memory.{entryOf, pathOf}

@@ -1,3 +1,4 @@
+-- The mark is the one byte behind the three times, and i < n makes the bytes at that place row i of the view.
 use mathlib.Core.Path.{refl, _∙_}
 use native.Mathlib.Omega.{arith}
 use Rattle.rules.specs.Memory.{entryOf, pathOf}

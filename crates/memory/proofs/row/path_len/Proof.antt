@@ -1,3 +1,4 @@
+-- The length is the first byte of the entry, so `entry-number` gives it at offset 0 and width 1.
 use mathlib.Core.Path.{refl, _∙_}
 use native.Mathlib.Omega.{arith}
 use Rattle.rules.specs.Memory.{entryOf, pathOf}

@@ -1,3 +1,4 @@
+-- The place is a field of the row and not of its entry, so `row-number` gives it, at the first byte past the entry.
 use mathlib.Core.Path.{refl, _∙_}
 use native.Mathlib.Omega.{arith}
 use Rattle.rules.specs.Memory.{rowOf}

@@ -1,3 +1,4 @@
+-- Mark and MTU are one run of three bytes; the mark fits one byte and the MTU two, so both are read back.
 use Prim.Native.Nat.{ℕ, _<_}
 use native.Mathlib.Omega.{arith}
 use Rattle.rules.specs.Lent.{Small}

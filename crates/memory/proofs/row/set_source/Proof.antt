@@ -1,3 +1,4 @@
+-- Source and verified_until are one run at the entry's end, so the path, the times and the MTU before it stay.
 use Rattle.rules.proofs.Sizes.{small1, small8}
 use Rattle.memory.proofs.Fields.{source-view}
 use borrow.Author.Needs.{needs}

@@ -1,3 +1,4 @@
+-- Two changes of row i, of its place and then of both stamp numbers, are one change of all three, by `stamp-view`.
 use Rattle.rules.proofs.Sizes.{small1, small8}
 use Rattle.memory.proofs.Fields.{stamp-view}
 use borrow.Author.Needs.{needs}

@@ -1,3 +1,4 @@
+-- last_used and expires_at are adjacent, so both writes are one run within the entry, and `times-view` applies to it.
 use Rattle.rules.proofs.Sizes.{small8}
 use Rattle.memory.proofs.Fields.{times-view}
 use borrow.Author.Needs.{needs}

@@ -1,3 +1,4 @@
+-- The store is in the last byte of row i alone, so that key, entry, place and stamp are read as they were.
 use Rattle.rules.proofs.Sizes.{small1}
 use Rattle.memory.proofs.Fields.{weight-view}
 use borrow.Author.Needs.{needs}

@@ -1,3 +1,4 @@
+-- The source is one byte that ends within the entry, so the cut that `read_u8` takes is the one that `entryOf` takes.
 use mathlib.Core.Path.{refl, _∙_}
 use native.Mathlib.Omega.{arith}
 use Rattle.rules.specs.Memory.{entryOf, pathOf}

@@ -1,3 +1,4 @@
+-- By `row-number` the eight bytes behind the place lie within row i and are those that `rowOf` reads as stampFirst.
 use mathlib.Core.Path.{refl, _∙_}
 use native.Mathlib.Omega.{arith}
 use Rattle.rules.specs.Memory.{rowOf}

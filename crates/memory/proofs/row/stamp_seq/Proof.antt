@@ -1,3 +1,4 @@
+-- The stamp's second number is eight bytes past its first, and a cut of the row's cut is a cut of the memory.
 use mathlib.Core.Path.{refl, _∙_}
 use native.Mathlib.Omega.{arith}
 use Rattle.rules.specs.Memory.{rowOf}

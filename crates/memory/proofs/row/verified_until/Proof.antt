@@ -1,3 +1,4 @@
+-- verified_until is the entry's last field: its end is the entry's end, so the cut still lies in the entry.
 use mathlib.Core.Path.{refl, _∙_}
 use native.Mathlib.Omega.{arith}
 use Rattle.rules.specs.Memory.{entryOf, pathOf}

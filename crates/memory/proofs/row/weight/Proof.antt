@@ -1,3 +1,4 @@
+-- The weight is the row's last byte: its offset plus 1 is the size of a row, so the cut still lies in row i.
 use mathlib.Core.Path.{refl, _∙_}
 use native.Mathlib.Omega.{arith}
 use Rattle.rules.specs.Memory.{rowOf}

@@ -1,3 +1,4 @@
+-- By `gap-closed`, what `shift_down` leaves has row i missing from the rows, and the same head and rest.
 use mathlib.Core.Path.{sym, subst}
 use Rattle.rules.specs.Rows.{withoutRow}
 use Rattle.rules.specs.Memory.{viewRows}

@@ -1,3 +1,4 @@
+-- The loop has copied k bytes; row j ends where row i begins or before, so no store changes a byte still to be read.
 use mathlib.Core.Path.{_≡_, refl, ap, _∙_}
 use Prim.Native.Nat.{ℕ, _+_, _*_, _-_, _≤_}
 use native.Mathlib.Omega.{arith}

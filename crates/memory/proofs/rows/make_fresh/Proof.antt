@@ -1,3 +1,4 @@
+-- Zeroed bytes are read as 0 in each number of the head; the two writes then change the limits alone, by `fresh-view`.
 use Rattle.rules.proofs.Sizes.{small8}
 use Rattle.memory.proofs.RowLaws.{fresh-view}
 use borrow.Author.Needs.{needs}

@@ -1,3 +1,4 @@
+-- The gap closed and the last row zeroed leave the other rows and their weight, which is `takeOut` by `out-view`.
 use mathlib.Core.Path.{_∙_}
 use Rattle.memory.proofs.RowLaws.{out-view}
 use borrow.Author.Needs.{needs}

@@ -1,3 +1,4 @@
+-- Zeros from row j on leave the first j rows as they were, and two writes to the head set weight and count.
 use mathlib.Core.Path.{ap, _∙_}
 use Prim.Native.Nat.{ℕ}
 use mathlib.Core.List.{List}

@@ -1,3 +1,4 @@
+-- The stored weight is a sum over the rows in main: with row i among them it is at least that row's weight, else it stays.
 use Rattle.memory.proofs.Fields.{same-head}
 use Prim.Native.Nat.{_<_}
 use lib.ListN.{length}

@@ -1,3 +1,4 @@
+-- The if decides by soundness alone: unsound is refusal 1 and no change, sound is the precondition of insert_unchecked.
 use mathlib.Core.Path.{sym, _∙_}
 use borrow.Author.Tests.{not-true, not-false}
 use Rattle.rules.specs.Calls.{Insert}

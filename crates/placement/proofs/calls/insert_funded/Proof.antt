@@ -1,3 +1,4 @@
+-- Refusal 1 depends on the memory alone, not on the funding; where is_sound is true, insert_funded_unchecked has the same contract.
 use mathlib.Core.Path.{sym, _∙_}
 use borrow.Author.Tests.{not-true, not-false}
 use Rattle.rules.specs.Calls.{InsertFunded}

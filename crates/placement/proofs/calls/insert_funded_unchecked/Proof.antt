@@ -1,3 +1,4 @@
+-- InsertFunded passes its funding on and is unstated, so Places needs only that default_ttl is the one the view shows.
 use mathlib.Core.Path.{_∙_}
 use Rattle.rules.specs.Calls.{InsertFunded}
 use Rattle.rules.specs.Memory.{view}

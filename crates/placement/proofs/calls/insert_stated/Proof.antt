@@ -1,3 +1,4 @@
+-- one-said gives refusal 1 of InsertStated where is_sound is false; the other branch returns what insert_stated_unchecked ensures.
 use mathlib.Core.Path.{sym, _∙_}
 use borrow.Author.Tests.{not-true, not-false}
 use Rattle.rules.specs.Calls.{InsertStated}

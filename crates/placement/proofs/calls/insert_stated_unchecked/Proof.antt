@@ -1,3 +1,4 @@
+-- Places for InsertStated needs two equations: ttl is the state's defaultTtl, and stated is startsAt of the key and the path.
 use mathlib.Core.Path.{_∙_}
 use Rattle.rules.specs.Calls.{InsertStated}
 use Rattle.rules.specs.Memory.{view}

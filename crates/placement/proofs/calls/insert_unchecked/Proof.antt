@@ -1,3 +1,4 @@
+-- place_hint's contract holds for every call that Places; Insert is one, Uncharged and unstated, with the head's default_ttl.
 use mathlib.Core.Path.{_∙_}
 use Rattle.rules.specs.Calls.{Insert}
 use Rattle.rules.specs.Memory.{view}

@@ -1,3 +1,4 @@
+-- On an unsound memory InsertWithTtl is refused by 1 at any ttl; a sound one satisfies what insert_with_ttl_unchecked requires.
 use mathlib.Core.Path.{sym, _∙_}
 use borrow.Author.Tests.{not-true, not-false}
 use Rattle.rules.specs.Calls.{InsertWithTtl}

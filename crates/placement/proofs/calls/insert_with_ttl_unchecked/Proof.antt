@@ -1,3 +1,4 @@
+-- InsertWithTtl names each operand itself, so Places holds by computation and nothing is read from the head.
 use Rattle.rules.specs.Calls.{InsertWithTtl}
 use Rattle.rules.specs.Memory.{view}
 use Rattle.placement.proofs.HintCalls.{inserts-with-ttl}

@@ -1,3 +1,4 @@
+-- The row taken out leaves main below M, so there is a row to file in; the saved bytes are row i, and unmade room leaves no victim.
 use Rattle.filing.proofs.RoomSought.{room-asks, sought}
 use Rattle.placement.proofs.HeldKeys.{row-there, out-asks, out-without, out-seq, grow-asks, back-asks, grown-is, goes-back}
 use borrow.Author.Needs.{needs}

@@ -1,3 +1,4 @@
+-- Each rejecting test implies staysVerified, and past both it is false; the row's place then chooses main or probation.
 use mathlib.Core.Path.{refl}
 use mathlib.Core.Bool.{false}
 use Rattle.rules.specs.Rows.{rowAt}

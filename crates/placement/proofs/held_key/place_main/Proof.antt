@@ -1,3 +1,4 @@
+-- w <= old and covers are the two conditions of placeMain; past the first, old < w, so w - old is the growth.
 use mathlib.Core.Path.{refl, sym, _∙_}
 use borrow.Author.Tests.{not-true, not-false}
 use Prim.Native.Nat.{_-_}

@@ -1,3 +1,4 @@
+-- The charge is the larger of the two weights, and whether the funding covers it chooses between refile and promote as in placeProbation.
 use mathlib.Core.Path.{sym, _∙_}
 use borrow.Author.Tests.{not-true, not-false}
 use Rattle.rules.specs.Memory.{viewRows}

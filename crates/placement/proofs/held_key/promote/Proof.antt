@@ -1,3 +1,4 @@
+-- The row taken out leaves probation below Q, so without a victim a row is free whether or not room was made in main (promote-asks).
 use Rattle.filing.proofs.RoomSought.{room-asks, sought}
 use Rattle.placement.proofs.HeldKeys.{row-there, out-asks, out-without, out-seq, promote-asks, promoted-is}
 use borrow.Author.Needs.{needs}

@@ -1,3 +1,4 @@
+-- Each branch of the if is one side of the cond in promotedAs.
 use Rattle.placement.proofs.held_key.promoted.Statement.{statement}
 use Rattle.placement.proofs.held_key.promoted.Tie as tie
 

@@ -1,3 +1,4 @@
+-- A refiled state has as many rows as before, so the n rows that update_in_place leaves are all of them; the outcome is the precondition's.
 use Rattle.placement.proofs.HeldKeys.{refile-asks, stays}
 use borrow.Author.Needs.{needs}
 use Rattle.placement.proofs.held_key.refile_held.Statement.{statement}

@@ -1,3 +1,4 @@
+-- A number other than 0 is the refusal; at 0, Stands tells the key's row, and its field placed equates placeHint with placeHeld or placeNew.
 use mathlib.Core.Path.{_∙_}
 use Rattle.rules.specs.Answers.{hintSaid}
 use Rattle.rules.proofs.MemoryLaws.{all-bytes}

@@ -1,3 +1,4 @@
+-- A found row that is not expired gives HeldAt; an expired one, taken out, or none gives NewIn; these are the cases of placeHint.
 use Rattle.placement.proofs.HeldKeys.{row-there, out-asks}
 use Rattle.placement.proofs.PlacedHints.{search-asks, holds-found, held-here, new-expired, new-missing}
 use native.Mathlib.Omega.{arith}

@@ -1,3 +1,4 @@
+-- Takes is required, so file_in_room applies; entry and weight are those of the rules, and the charge is the weight, widened.
 use Rattle.rules.specs.Memory.{viewRows}
 use Rattle.room.specs.Rooms.{withoutVictim}
 use Rattle.placement.proofs.NewKeys.{main-asks, in-main}

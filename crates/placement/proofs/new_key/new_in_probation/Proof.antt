@@ -1,3 +1,4 @@
+-- After the walk a victim is left to file over, or probation is below Q and a row is free; both give Takes, with a stamp left to draw.
 use native.Mathlib.Omega.{arith}
 use Rattle.placement.proofs.NewKeys.{probation-asks, probation-few, probation-takes, in-probation}
 use borrow.Author.Needs.{needs}

@@ -1,3 +1,4 @@
+-- Both fundings are clauses of newWithoutRoom: Upto by new_in_probation, and Uncharged with the memory as it is.
 use Rattle.types.specs.Paths.{pathWeight}
 use Rattle.rules.specs.Entries.{newEntry}
 use Rattle.placement.proofs.NewKeys.{uncharged-rejected, upto-probation}

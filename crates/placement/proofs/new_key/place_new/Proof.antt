@@ -1,3 +1,4 @@
+-- covers and room.made choose as in placeNew; by Sought, room that was made gives Takes, and room that was not, no victim and enough stamps.
 use mathlib.Core.Path.{sym, ap, _∙_}
 use native.Mathlib.Omega.{arith}
 use borrow.Author.Tests.{not-true, not-false}

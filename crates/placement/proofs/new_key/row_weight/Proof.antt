@@ -1,3 +1,4 @@
+-- A writable path has at most pathPlaces elements, so its weight is within weightLimit and the cast keeps it.
 use native.Mathlib.Omega.{arith}
 use Rattle.placement.proofs.NewKeys.{light}
 use borrow.Author.Needs.{needs}

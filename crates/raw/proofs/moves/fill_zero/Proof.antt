@@ -1,4 +1,4 @@
--- Zeros go in one after another. Assumes nothing.
+-- The loop has made the bytes from `from` up to i zero, and by `zero-turn` one store more is a run with one zero more.
 use mathlib.Core.Path.{_≡_, refl}
 use Prim.Native.Nat.{_+_, _-_, _≤_}
 use native.Mathlib.Omega.{arith}

@@ -1,3 +1,4 @@
+-- The bytes from `at` up to i are those that stood a row further on; the byte read, at i + ROW, is past every store so far.
 use borrow.Author.Needs.{needs}
 use mathlib.Core.Path.{_≡_, refl}
 use Prim.Native.Nat.{_+_, _-_, _≤_}

@@ -1,3 +1,4 @@
+-- The bytes from i up to `to` have moved, from the last one down, so the byte read is below every store so far.
 use borrow.Author.Needs.{needs}
 use mathlib.Core.Path.{_≡_, refl}
 use Prim.Native.Nat.{_≤_}

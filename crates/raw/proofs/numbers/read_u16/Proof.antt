@@ -1,3 +1,4 @@
+-- Two bytes below 256 have a sum that fits 16 bits, and by `pair-number` it is the number in the cut.
 use Rattle.raw.proofs.NumberLaws.{pair-number}
 use borrow.Author.Needs.{needs}
 use Rattle.raw.proofs.numbers.read_u16.Statement.{statement}

@@ -1,3 +1,4 @@
+-- By `word-number` the bytes times powers of 256 are the little-endian number; bytes below 256 keep the sum in 64 bits.
 use borrow.Author.Needs.{needs}
 use Rattle.raw.proofs.NumberLaws.{word-number}
 use Rattle.raw.proofs.numbers.read_u64.Statement.{statement}

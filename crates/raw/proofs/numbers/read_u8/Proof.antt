@@ -1,4 +1,4 @@
--- One byte. Assumes nothing.
+-- A cut of one byte holds that byte alone, so its little-endian number is the byte itself.
 use borrow.Author.Needs.{needs}
 use Rattle.raw.proofs.NumberLaws.{byte-number}
 use Rattle.raw.proofs.numbers.read_u8.Statement.{statement}

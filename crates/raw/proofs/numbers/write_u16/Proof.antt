@@ -1,3 +1,4 @@
+-- A store keeps the length, so the second index is in range too; by `pair-stores` both stores are one run.
 use lib.ListN.{length-set}
 use Rattle.raw.proofs.NumberLaws.{pair-stores}
 use borrow.Author.Needs.{needs}

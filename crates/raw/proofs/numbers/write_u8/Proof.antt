@@ -1,3 +1,4 @@
+-- v is below 256, so it is its own remainder and the store is the run of one byte.
 use Rattle.raw.proofs.NumberLaws.{byte-store}
 use borrow.Author.Needs.{needs}
 use Rattle.raw.proofs.numbers.write_u8.Statement.{statement}

@@ -1,3 +1,4 @@
+-- The returns are the cases of writeRefusal in its order: a bad path, else a seq over the last, else neither.
 use mathlib.Core.Path.{refl, _∙_}
 use Rattle.rules.specs.Refusals.{badPath}
 use Rattle.refusals.proofs.SoundCalls.{shown-seq}

@@ -1,3 +1,4 @@
+-- A refusal's reply is `refuses`; for a held key the flag cast to a number is its `bit`, and the other values are 0.
 use Prim.Native.Nat.{ℕ}
 use Rattle.types.specs.Values.{says}
 use Rattle.replies.proofs.Bits.{as-bit}

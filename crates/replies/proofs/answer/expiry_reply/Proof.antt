@@ -1,3 +1,4 @@
+-- The answer's cases are a refusal, a time and none, and `reply` of an optional time has the same values for each.
 use mathlib.Core.Path.{sym, ap, _∙_}
 use Rattle.types.specs.declared.answers.ExpiryAnswer.{ExpiryAnswer}
 use Rattle.rules.specs.Commands.{reply}

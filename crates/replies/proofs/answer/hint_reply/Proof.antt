@@ -1,3 +1,4 @@
+-- `hintSaid` has two cases, and the contracts of `refused` and `Placed::reply` are the reply of each.
 use mathlib.Core.Path.{sym, ap, _∙_}
 use Rattle.types.specs.declared.answers.HintAnswer.{HintAnswer}
 use Rattle.rules.specs.Commands.{reply}

@@ -1,3 +1,4 @@
+-- The entry beside the removal does not occur in the reply, so each case holds for every entry.
 use mathlib.Core.Path.{sym, ap, _∙_}
 use Rattle.types.specs.declared.answers.Removal.{Removal}
 use Rattle.rules.specs.Answers.{removalSaid}

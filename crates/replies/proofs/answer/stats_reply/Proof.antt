@@ -1,3 +1,4 @@
+-- A refusal reduces to `refuses` and statistics to `statsReply`, which the method's contract gives.
 use mathlib.Core.Path.{sym, ap, _∙_}
 use Rattle.types.specs.declared.answers.StatsAnswer.{StatsAnswer}
 use Rattle.rules.specs.Commands.{reply}

@@ -1,3 +1,4 @@
+-- The count of removed rows is the first value in `reply` too; the only other variant is the refusal.
 use mathlib.Core.Path.{sym, ap, _∙_}
 use Rattle.types.specs.declared.answers.SweepAnswer.{SweepAnswer}
 use Rattle.rules.specs.Commands.{reply}

@@ -1,3 +1,4 @@
+-- `touchReply` is defined by the same three cases as the match: refused, found with a length, absent.
 use mathlib.Core.Path.{sym, ap, _∙_}
 use Rattle.types.specs.declared.answers.TouchAnswer.{TouchAnswer}
 use Rattle.rules.specs.Answers.{touchReply}

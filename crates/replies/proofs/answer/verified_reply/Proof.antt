@@ -1,3 +1,4 @@
+-- For a done insert the goal is the contract of `VerifiedInsert::reply`, and for a refused one that of `refused`.
 use mathlib.Core.Path.{sym, ap, _∙_}
 use Rattle.types.specs.declared.answers.VerifiedAnswer.{VerifiedAnswer}
 use Rattle.rules.specs.Commands.{reply}

@@ -1,3 +1,4 @@
+-- The test d < 10 is the definition's, and d < 16 keeps 87 + d within a byte.
 use borrow.Author.Needs.{needs}
 use borrow.Author.Tests.{lt-ltb, le-ltb}
 use Rattle.rules.specs.Commands.{hexDigit}

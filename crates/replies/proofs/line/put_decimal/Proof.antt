@@ -1,3 +1,4 @@
+-- The last i digits of the rest, stored over what stands, would make the whole text; at i = 0 nothing is left to store.
 use mathlib.Core.Path.{_≡_, refl, ap}
 use Prim.Native.Nat.{_+_, _≤_}
 use native.Mathlib.Omega.{arith}

@@ -1,3 +1,4 @@
+-- Six numbers of at most 20 digits keep the text within 129 bytes, and by `line-written` the stores in order are one run.
 use mathlib.Core.Path.{_∙_}
 use native.Mathlib.Omega.{arith}
 use lib.ListN.{length-set, length-map}

@@ -1,3 +1,4 @@
+-- A space and the digits stored from the next index on are one run, one byte longer than the digits.
 use native.Mathlib.Omega.{arith}
 use native.Mathlib.Numerals.{add-one}
 use lib.ListN.{length-set}

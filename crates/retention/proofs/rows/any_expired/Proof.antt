@@ -1,3 +1,4 @@
+-- The first i rows all stay under the expiry test, whatever the address, so false means that all n rows stay.
 use mathlib.Core.Path.{_≡_, refl, sym, _∙_}
 use mathlib.Core.Bool.{true}
 use Prim.Native.Nat.{ℕ, _-_, _≤_}

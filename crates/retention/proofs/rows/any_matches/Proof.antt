@@ -1,3 +1,4 @@
+-- Each kind is answered by its own search; for rows set aside the answer is true, of which nothing is claimed.
 use mathlib.Core.Path.{refl, subst}
 use mathlib.Core.Bool.{true}
 use mathlib.Core.List.{List}

@@ -1,3 +1,4 @@
+-- The first i paths all have this root, so their rows stay at any time; PathFit lets each root be read.
 use mathlib.Core.Path.{_≡_, refl, sym, _∙_}
 use mathlib.Core.Bool.{true}
 use Prim.Native.Nat.{ℕ, _-_, _≤_}

@@ -1,3 +1,4 @@
+-- No path of the rows passed contains the address, so these rows stay, and at the end they are all rows.
 use mathlib.Core.Path.{_≡_, refl, sym, _∙_}
 use mathlib.Core.Bool.{true}
 use Prim.Native.Nat.{ℕ, _-_, _≤_}

@@ -1,3 +1,4 @@
+-- keptDown copies only where j is below i, and so does the branch; where j is i the bytes stay.
 use borrow.Author.Needs.{needs}
 use Rattle.retention.proofs.KeptRows.{down, down-stays}
 use Rattle.retention.proofs.rows.keep_row.Statement.{statement}

@@ -1,3 +1,4 @@
+-- The first j rows are those kept of the first i, and the rows from i on are still as they were.
 use mathlib.Core.Path.{_≡_, refl, _∙_}
 use Prim.Native.Nat.{_-_, _≤_}
 use native.Mathlib.Omega.{arith}

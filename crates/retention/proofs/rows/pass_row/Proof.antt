@@ -1,3 +1,4 @@
+-- The answer of row_matches is sweepTest, and both results of the contract follow it as the branch does.
 use mathlib.Core.Path.{sym, _∙_}
 use borrow.Author.Needs.{needs}
 use Rattle.retention.proofs.KeptRows.{passed-out, passed-kept}

@@ -1,3 +1,4 @@
+-- Where no row matches, the rows kept are all rows, and the head's count and weight are theirs already.
 use Rattle.retention.proofs.KeptRows.{unswept}
 use borrow.Author.Needs.{needs}
 use Rattle.retention.proofs.rows.retain_entries.Statement.{statement}

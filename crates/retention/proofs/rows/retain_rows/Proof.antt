@@ -1,3 +1,4 @@
+-- The weight is summed over the rows kept, so what shrink leaves is the state with only these rows.
 use borrow.Author.Needs.{needs}
 use Rattle.retention.proofs.KeptRows.{swept}
 use Rattle.retention.proofs.rows.retain_rows.Statement.{statement}

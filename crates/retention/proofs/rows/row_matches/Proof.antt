@@ -1,3 +1,4 @@
+-- The kind selects one test of sweepTest, and a path of 1 to 32 elements is within what its reader asks.
 use Rattle.rules.specs.Rows.{rowAt}
 use Rattle.rules.specs.Memory.{viewRows}
 use borrow.Author.Needs.{needs}

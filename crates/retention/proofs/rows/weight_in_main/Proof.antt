@@ -1,3 +1,4 @@
+-- A place below 2 is in main and gives the row's weight, which is one byte; any other place gives 0.
 use mathlib.Core.Path.{_∙_}
 use Rattle.rules.specs.Rows.{rowAt}
 use Rattle.rules.specs.Memory.{viewRows}

@@ -1,3 +1,4 @@
+-- The sum and the weight of the rows from i on are the whole weight, and at most 256 for each row fits.
 use mathlib.Core.Path.{_≡_}
 use mathlib.Core.Bool.{cond}
 use Prim.Native.Nat.{_+_, _*_, _-_, _≤_}

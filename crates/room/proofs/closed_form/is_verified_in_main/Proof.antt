@@ -1,3 +1,4 @@
+-- A place below PROBATION is inMain of the row, and the other conjunct is what is_verified returns.
 use Rattle.rules.specs.Rows.{inMain}
 use Rattle.rules.specs.Room.{verifiedInMain}
 use borrow.Author.Needs.{needs}

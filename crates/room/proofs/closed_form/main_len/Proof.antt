@@ -1,3 +1,4 @@
+-- The count of main rows from i on grows by at most 1 as i falls by 1, so it never passes n.
 use mathlib.Core.Path.{ap}
 use Prim.Native.Nat.{ℕ, _-_}
 use native.Mathlib.Omega.{arith}

@@ -1,3 +1,4 @@
+-- Count and weight are those of the rows from i on that are verified in main; at most 255 a row over 1,024 rows fits.
 use mathlib.Core.Path.{sym, _∙_}
 use Prim.Native.Nat.{_-_}
 use native.Mathlib.Omega.{arith}

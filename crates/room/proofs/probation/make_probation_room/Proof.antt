@@ -1,3 +1,4 @@
+-- Restamping leaves probation at Q rows, its bound in a sound state, so without the first row not stale there is room.
 use mathlib.Core.Path.{_≡_, refl, sym, _∙_, ap}
 use Prim.Native.Nat.{_+_}
 use native.Mathlib.Omega.{arith}

@@ -1,3 +1,4 @@
+-- Each victim set aside takes 1 from the count and its weight from main's sum; what is still to choose stays the same.
 use mathlib.Core.Path.{_≡_, refl, sym, _∙_}
 use Prim.Native.Nat.{_+_, _-_}
 use native.Mathlib.Omega.{arith}

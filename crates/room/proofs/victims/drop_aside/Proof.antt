@@ -1,3 +1,4 @@
+-- For this kind sweepTest asks only whether the row is aside, so the sweep keeps exactly the others.
 use mathlib.Core.Path.{ap, _∙_}
 use mathlib.Core.List.{List}
 use Rattle.rules.specs.Records.{Row}

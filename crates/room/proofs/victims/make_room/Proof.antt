@@ -1,3 +1,4 @@
+-- Room by the count of all rows is room for main; one victim left aside is what a sweep would remove; without room all go back.
 use mathlib.Core.Path.{_≡_, refl, sym, ap, _∙_}
 use Prim.Native.Nat.{ℕ, _≤_, min, _*_}
 use native.Mathlib.Omega.{arith}

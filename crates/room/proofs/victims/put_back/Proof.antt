@@ -1,3 +1,4 @@
+-- The first i rows were put back and the rest left; after n turns that is putBack on every row.
 use mathlib.Core.Path.{_≡_, refl}
 use Prim.Native.Nat.{_-_, _≤_}
 use native.Mathlib.Omega.{arith}

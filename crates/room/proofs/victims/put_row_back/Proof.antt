@@ -1,3 +1,4 @@
+-- putBack changes only a row that is aside: there the place becomes BY_USE, and any other row is left.
 use mathlib.Core.Path.{sym, _∙_}
 use Rattle.rules.specs.Memory.{viewRows}
 use Rattle.room.proofs.RowsAside.{back-here, back-not-here}

@@ -1,3 +1,4 @@
+-- The stamp written is the one just read from the row, so only its place changes.
 use Rattle.rules.specs.Memory.{viewRows}
 use Rattle.room.proofs.RowsAside.{placed}
 use borrow.Author.Needs.{needs}

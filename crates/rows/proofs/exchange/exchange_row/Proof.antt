@@ -1,3 +1,4 @@
+-- With the place open, the store at j changes row j alone, and by `row-view` the bytes of the new row are read as that row.
 use mathlib.Core.Path.{ap, _∙_}
 use native.Mathlib.Omega.{arith}
 use Rattle.rules.specs.Records.{Row}

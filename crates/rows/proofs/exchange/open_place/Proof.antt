@@ -1,3 +1,4 @@
+-- The parts that a shift leaves are the rows but row i, with a place at j: by `opened-down` where i < j, else by `opened-up`.
 use Rattle.rows.proofs.ExchangeLaws.{opened-down, opened-up}
 use borrow.Author.Needs.{needs}
 use Rattle.rows.proofs.exchange.open_place.Statement.{statement}

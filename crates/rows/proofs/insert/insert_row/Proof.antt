@@ -1,3 +1,4 @@
+-- Shift and store leave the rows before i, the new row's bytes and the rows from i on; `row-view` reads the bytes as the row.
 use mathlib.Core.Path.{ap, _∙_}
 use Rattle.rules.specs.Records.{Row}
 use Rattle.rules.specs.Memory.{rowBytes, viewRows}

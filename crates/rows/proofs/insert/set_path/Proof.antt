@@ -1,3 +1,4 @@
+-- The path's bytes fill the first field of the entry exactly, so by `path-view` no other field is changed.
 use Rattle.rows.proofs.PathLaws.{path-view}
 use borrow.Author.Needs.{needs}
 use Rattle.rows.proofs.insert.set_path.Statement.{statement}

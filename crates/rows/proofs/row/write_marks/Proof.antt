@@ -1,3 +1,4 @@
+-- Fields of 1, 2, 1 and 8 bytes are stored end to end, so they are one run, and each value's type says that it fits.
 use native.Mathlib.Omega.{arith}
 use Rattle.rules.specs.Memory.{leBytes}
 use Rattle.rules.proofs.ViewLaws.{length-le}

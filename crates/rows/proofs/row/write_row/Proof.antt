@@ -1,3 +1,4 @@
+-- Five parts stored end to end are one run of the row's bytes, and each part's contract says that its values fit.
 use Rattle.rows.proofs.RowImage.{row-stored, new-row-fits}
 use mathlib.Core.Path.{_∙_}
 use native.Mathlib.Omega.{arith}

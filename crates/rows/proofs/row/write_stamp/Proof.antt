@@ -1,3 +1,4 @@
+-- The offsets 1, 9 and 17 are the sums of the widths before them, so that by `four` the stores are one run.
 use native.Mathlib.Omega.{arith}
 use Rattle.rules.specs.Memory.{leBytes}
 use Rattle.rules.proofs.ViewLaws.{length-le}

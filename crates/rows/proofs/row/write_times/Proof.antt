@@ -1,3 +1,4 @@
+-- Three numbers of 64 bits, stored eight bytes apart, are one run of 24 bytes by `three`.
 use native.Mathlib.Omega.{arith}
 use Rattle.rules.specs.Memory.{leBytes}
 use Rattle.rules.proofs.ViewLaws.{length-le}

@@ -1,3 +1,4 @@
+-- The saved array is as long as a row, so `insert-view` applies to its bytes, whatever row they are read as.
 use mathlib.Core.Path.{_∙_}
 use Rattle.rows.proofs.InsertLaws.{insert-view}
 use borrow.Author.Needs.{needs}

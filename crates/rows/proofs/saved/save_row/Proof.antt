@@ -1,3 +1,4 @@
+-- The loop has copied the first k bytes of row i; the rest of the array is as it was made.
 use mathlib.Core.Path.{_≡_, refl}
 use mathlib.Core.List.{_++_}
 use Prim.Native.Nat.{ℕ, _+_, _*_, _-_, _≤_}

@@ -1,3 +1,4 @@
+-- The loop has stored the array's first i bytes; it ends at i = ROW, which is the array's length.
 use Rattle.rows.proofs.StoreRuns.{one-more}
 use mathlib.Core.Path.{_≡_, ap, _∙_}
 use Prim.Native.Nat.{_-_, _≤_}

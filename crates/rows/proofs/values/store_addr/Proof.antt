@@ -1,3 +1,4 @@
+-- By `one-more` the run of the first i bytes grows by one; owning an address tells that it has 16 bytes, each below 256.
 use Rattle.memory.proofs.OwnedValues.{owned-addr}
 use Rattle.rows.proofs.StoreRuns.{one-more}
 use mathlib.Core.Path.{_≡_, ap, _∙_}

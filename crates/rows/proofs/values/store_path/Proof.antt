@@ -1,3 +1,4 @@
+-- Behind the length stand the bytes of the first i elements; the zeros stored past the last are those of zero elements.
 use mathlib.Core.Path.{_≡_, _∙_}
 use Prim.Native.Nat.{_+_, _-_, _≤_}
 use native.Mathlib.Omega.{arith}

@@ -1,3 +1,4 @@
+-- Each byte is below 256, so the sum fits, and by Horner's rule it is the base-256 number of the eight bytes.
 use native.Mathlib.Omega.{arith}
 use borrow.Author.Needs.{needs}
 use Rattle.search.proofs.BigEndianLaws.{eight-number}

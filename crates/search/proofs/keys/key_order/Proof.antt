@@ -1,3 +1,4 @@
+-- The sixteen bytes where row i begins are that row's key in the view, so order_to compares the right address.
 use mathlib.Core.Path.{_∙_, ap}
 use borrow.Author.Needs.{needs}
 use Rattle.types.specs.declared.node_addr.NodeAddr.{NodeAddr}

@@ -1,3 +1,4 @@
+-- The count is at most 65535 and gap / 2^32 below 2^32, so the product fits and its quotient is below 65536.
 use Prim.Native.Nat.{ℕ, _*_, _/_, _%_, _≤_}
 use native.Mathlib.Nat.{mul-le-mul-left}
 use native.Mathlib.Omega.{arith}

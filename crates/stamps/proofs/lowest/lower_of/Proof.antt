@@ -1,3 +1,4 @@
+-- The test is the condition of lowerBest, and each of the two returns is the branch that it selects.
 use Rattle.stamps.specs.Walked.{lowerBest}
 use Rattle.stamps.proofs.lowest.lower_of.Statement.{statement}
 use Rattle.stamps.proofs.lowest.lower_of.Tie as tie

@@ -1,3 +1,4 @@
+-- A row at another place leaves the best as it is; one at this place gives its two stamp fields to the comparison.
 use mathlib.Core.Path.{sym, _∙_}
 use borrow.Author.Needs.{needs}
 use borrow.Author.Tests.{eq-eqb, ne-eqb}

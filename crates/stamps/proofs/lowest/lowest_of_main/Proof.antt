@@ -1,3 +1,4 @@
+-- Each place has its own best of the rows from i on, and the count of main rows plus i is at most n, so it fits.
 use mathlib.Core.Path.{ap, _∙_}
 use Prim.Native.Nat.{ℕ, _-_}
 use native.Mathlib.Omega.{arith}

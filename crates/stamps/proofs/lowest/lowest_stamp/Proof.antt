@@ -1,3 +1,4 @@
+-- The best row and the count are those of the rows from i on; a row that ties replaces the best, so the lower key wins.
 use mathlib.Core.Path.{ap, _∙_}
 use Prim.Native.Nat.{ℕ, _-_}
 use native.Mathlib.Omega.{arith}

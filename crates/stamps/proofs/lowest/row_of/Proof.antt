@@ -1,3 +1,4 @@
+-- A best row below n was found, and one that is not below n stands for none.
 use borrow.Author.Tests.{lt-ltb, le-ltb}
 use Rattle.stamps.specs.Walked.{lowestOf, bestRow}
 use Rattle.stamps.proofs.lowest.row_of.Statement.{statement}

@@ -1,3 +1,4 @@
+-- next_key raised seq by one and returned it, so writing that stamp to row i is the rule's stamp.
 use Rattle.rules.specs.Memory.{viewRows}
 use Rattle.stamps.proofs.StampedRows.{drawn}
 use borrow.Author.Needs.{needs}

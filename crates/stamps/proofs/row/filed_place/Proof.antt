@@ -1,3 +1,4 @@
+-- Below PROBATION the cond gives byUse and else the place itself, as the branches do.
 use borrow.Author.Tests.{lt-ltb, le-ltb}
 use Rattle.stamps.proofs.row.filed_place.Statement.{statement}
 use Rattle.stamps.proofs.row.filed_place.Tie as tie

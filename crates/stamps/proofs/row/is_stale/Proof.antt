@@ -1,3 +1,4 @@
+-- Both fields are read as the view has them, and their inequality is the definition of stale.
 use Rattle.rules.specs.Room.{stale}
 use borrow.Author.Needs.{needs}
 use Rattle.stamps.proofs.row.is_stale.Statement.{statement}

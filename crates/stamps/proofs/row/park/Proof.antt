@@ -1,3 +1,4 @@
+-- A stamp drawn at PARKED with the row's own verified_until changes the row as parkedAt does.
 use Rattle.rules.specs.Memory.{viewRows}
 use Rattle.stamps.proofs.StampedRows.{parked-anew}
 use borrow.Author.Needs.{needs}

@@ -1,3 +1,4 @@
+-- The filed place and last_used are what a refiled row has, so the drawn stamp is the rule's restamp.
 use mathlib.Core.Path.{ap, _∙_}
 use Prim.Native.Nat.{ℕ}
 use mathlib.Core.Bool.{cond}

@@ -1,3 +1,4 @@
+-- A row restamped or parked leaves one visit fewer and the same victim to find; the visits left bound seq and examined.
 use mathlib.Core.Path.{_≡_, refl, sym, _∙_}
 use Prim.Native.Nat.{_<_}
 use native.Mathlib.Omega.{arith}

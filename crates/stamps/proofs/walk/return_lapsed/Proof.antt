@@ -1,3 +1,4 @@
+-- Each lapsed row that is restamped takes one visit off those left, and what the walk still has to do stays the same.
 use Rattle.rules.proofs.RowLists.{lowest-at}
 use mathlib.Core.Path.{_≡_, refl}
 use Prim.Native.Nat.{_<_}

@@ -1,3 +1,4 @@
+-- Refusal 5 is the negation of headSound for no row; where it does not apply, the memory has the rows that make_fresh writes.
 use mathlib.Core.Bool.{true, false}
 use mathlib.Core.Path.{sym, ap}
 use borrow.Author.Tests.{not-true, not-false}

@@ -1,3 +1,4 @@
+-- The value is `refuses` unfolded: the number given, and five copies of 0.
 use borrow.Author.Needs.{needs}
 use Rattle.types.specs.Values.{refuses}
 use Rattle.types.proofs.reply.refused.Statement.{statement}

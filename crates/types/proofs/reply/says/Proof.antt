@@ -1,3 +1,4 @@
+-- The value is the definition unfolded: refusal 0, and the five arguments in order.
 use borrow.Author.Needs.{needs}
 use Rattle.types.specs.Values.{says}
 use Rattle.types.proofs.reply.says.Statement.{statement}

@@ -1,3 +1,4 @@
+-- Past the first test the lengths are equal, so an index of a is one of b too.
 use Prim.Native.Nat.{_-_, _≤_}
 use lib.ListN.{length}
 use borrow.Author.Needs.{needs}

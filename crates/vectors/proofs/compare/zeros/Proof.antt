@@ -1,3 +1,4 @@
+-- i is at most the length of s, so the loop's test puts s[i] in range and the bytes left fall.
 use Prim.Native.Nat.{_-_, _≤_}
 use lib.ListN.{length}
 use borrow.Author.Needs.{needs}

@@ -1,3 +1,4 @@
+-- count is at most the length of bytes, which setting a byte does not change, so n is an index and count fits.
 use mathlib.Core.Path.{_≡_}
 use Prim.Native.Nat.{_-_}
 use lib.ListN.{length}

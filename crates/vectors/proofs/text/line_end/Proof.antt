@@ -1,3 +1,4 @@
+-- i is at least `from`: at a newline i + 1 is over it, and without one i is the length, over it by the precondition.
 use Prim.Native.Nat.{_-_, _≤_}
 use lib.ListN.{length}
 use borrow.Author.Needs.{needs}

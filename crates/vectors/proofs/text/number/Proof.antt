@@ -1,3 +1,4 @@
+-- i is at most the line's length, so line[i] is in range, and fed has no precondition on the byte.
 use Prim.Native.Nat.{_-_, _≤_}
 use lib.ListN.{length}
 use borrow.Author.Needs.{needs}

@@ -1,3 +1,4 @@
+-- Number 1 is asked before 2, 3 and 4, so an unsound memory gives it; a sound one is what insert_verified_unchecked requires.
 use mathlib.Core.Path.{sym, _∙_}
 use borrow.Author.Tests.{not-true, not-false}
 use Rattle.rules.specs.Calls.{InsertVerified}

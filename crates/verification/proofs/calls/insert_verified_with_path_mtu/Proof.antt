@@ -1,3 +1,4 @@
+-- Refusal 1 holds whatever the MTU (one-said); on a sound memory the unchecked form ensures the same of the same call.
 use mathlib.Core.Path.{sym, _∙_}
 use borrow.Author.Tests.{not-true, not-false}
 use Rattle.rules.specs.Calls.{InsertVerifiedWithPathMtu}

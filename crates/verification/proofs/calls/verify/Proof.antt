@@ -1,3 +1,4 @@
+-- 2 and 3 are writeRefusal's and 4 is noPlaceFor's; where none is given the call is done, and file_verified leaves its state.
 use Rattle.rules.specs.Answers.{verifiedSaid}
 use Rattle.rules.proofs.MemoryLaws.{all-bytes}
 use Rattle.refusals.proofs.SoundCalls.{head-there}

@@ -1,3 +1,4 @@
+-- A probation row makes the conjunction false; for a main row, the count less 1 and the weight less its own are those of takeOut.
 use mathlib.Core.Path.{_∙_}
 use Prim.Native.Nat.{min}
 use native.Mathlib.Omega.{arith}

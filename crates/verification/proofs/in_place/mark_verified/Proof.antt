@@ -1,3 +1,4 @@
+-- set_source with VERIFIED and addTimes of the time and VERIFIED_TTL_MS rewrites the entry as markVerified does.
 use mathlib.Core.Path.{_∙_}
 use Rattle.rules.specs.Memory.{viewRows}
 use Rattle.verification.proofs.Marks.{verified-source}

@@ -1,3 +1,4 @@
+-- Where n <= max, n - 1 and the main count less 1 are both below max, so the comparison is the same without counting.
 use mathlib.Core.Path.{ap}
 use Prim.Native.Nat.{ℕ, _-_}
 use lib.Dec.{ltb}

@@ -1,3 +1,4 @@
+-- Known is a rewrite by setMtu; Unknown writes nothing, and a rewrite by the identity leaves the state as it is.
 use mathlib.Core.Path.{_∙_}
 use Rattle.rules.specs.Memory.{viewRows}
 use Rattle.verification.proofs.Marks.{no-mtu, some-mtu}

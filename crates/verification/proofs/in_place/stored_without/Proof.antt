@@ -1,3 +1,4 @@
+-- stored_weight is the sum over main rows and row i's weight one of its terms, so the difference is the sum over the others.
 use mathlib.Core.Path.{_∙_}
 use native.Mathlib.Omega.{arith}
 use Rattle.rules.specs.Memory.{capacity, viewRows}

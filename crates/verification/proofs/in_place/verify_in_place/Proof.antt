@@ -1,3 +1,4 @@
+-- Keys ascend, so a row of the same key is inserted at i again: fileNew after takeOut is a refile, and the later rewrites keep last_used.
 use Prim.Native.Nat.{_+_}
 use mathlib.Core.Path.{_∙_}
 use native.Mathlib.Omega.{arith}

@@ -1,3 +1,4 @@
+-- Reached says that the key is out, Sought what room was made; since noPlaceFor is false main is below M, so Takes holds.
 use mathlib.Core.Path.{ap}
 use native.Mathlib.Omega.{arith}
 use Rattle.types.specs.declared.coord.Path.{Path}

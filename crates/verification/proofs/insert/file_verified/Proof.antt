@@ -1,3 +1,4 @@
+-- With room once row i of main is out, makeRoom examines nothing, so writing in place is insertVerified; else file_anew's contract is this one.
 use mathlib.Core.Path.{_≡_, sym, _∙_}
 use native.Mathlib.Omega.{arith}
 use Rattle.search.specs.declared.keys.Search.the-variants.{At}

@@ -1,3 +1,4 @@
+-- The search decides as find does in verifiedEntry: update of the row found, or newEntry; markVerified follows in both cases.
 use mathlib.Core.Path.{_∙_}
 use Rattle.rules.specs.Memory.{viewRows}
 use Rattle.memory.proofs.Fields.{same-head}

@@ -1,3 +1,4 @@
+-- withoutKey has the search's two cases: takeOut of row i where it was found, the state itself where it was not.
 use native.Mathlib.Omega.{arith}
 use Rattle.rules.specs.Memory.{viewRows}
 use Rattle.room.proofs.RoomToFile.{shown, laid-out}

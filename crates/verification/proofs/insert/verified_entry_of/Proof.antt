@@ -1,3 +1,4 @@
+-- verifiedEntry with an MTU is setMtu of the one without, so the cases of mtu are those of mtuOf.
 use mathlib.Core.Path.{_∙_}
 use Rattle.rules.specs.Memory.{viewRows}
 use Rattle.entries.specs.NewEntries.{entryFrom}

@@ -1,3 +1,4 @@
+-- The search's answer is find's: place < PROBATION is inMain of the row found, and an absent key is not in main.
 use Rattle.rules.specs.Memory.{viewRows}
 use Rattle.verification.proofs.NoPlace.{rows-searchable, row-inside, held-in-main, absent-in-main}
 use borrow.Author.Needs.{needs}

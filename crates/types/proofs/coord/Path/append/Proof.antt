@@ -1,3 +1,4 @@
+-- The test of the length decides the definition's case too; below 32 the index is in the array and n + 1 is in range.
 use borrow.Author.Tests.{lt-ltb, le-ltb}
 use borrow.Author.Needs.{needs}
 use Rattle.types.specs.Paths.{appended}

@@ -1,3 +1,4 @@
+-- The value is equal to the definition field by field once `emptyPath` and `zeroEntry` are unfolded.
 use mathlib.Core.Path.{refl}
 use Rattle.types.specs.Paths.{emptyPath, zeroEntry}
 use Rattle.types.proofs.coord.Path.empty.Statement.{statement}

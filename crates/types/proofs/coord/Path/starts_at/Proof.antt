@@ -1,3 +1,4 @@
+-- With a count of 0 there is no first element; otherwise the first element is the one in place 0, by `first-element`.
 use mathlib.Core.Path.{sym, _∙_}
 use borrow.Author.Needs.{needs}
 use Rattle.types.specs.Paths.{elements, startsAt}

@@ -1,3 +1,4 @@
+-- Code 0 makes the test in `sourceOf` true, and every other code makes it false.
 use borrow.Author.Tests.{eq-eqb, ne-eqb}
 use Rattle.types.specs.Values.{sourceOf}
 use Rattle.types.proofs.entry.CoordSource.from_code.Statement.{statement}

@@ -1,4 +1,4 @@
--- The loop has the rest of the bytes still to compare, and the answer depends on them alone.
+-- The bytes before i agree, so that the addresses are the same where their bytes from i on are.
 use mathlib.Core.Path.{_≡_, sym, _∙_}
 use Prim.Native.Nat.{_-_, _≤_}
 use native.Mathlib.Omega.{arith}

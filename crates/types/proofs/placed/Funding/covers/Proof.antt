@@ -1,3 +1,4 @@
+-- For `Upto` the comparison is the definition's at the amount held in the variant; for `Uncharged` both are true.
 use borrow.Author.Needs.{needs}
 use Rattle.types.specs.Values.{covers}
 use Rattle.types.proofs.placed.Funding.covers.Statement.{statement}

@@ -1,3 +1,4 @@
+-- Each of the four variants has in the match the number that `outcomeCode` gives it.
 use borrow.Author.Needs.{needs}
 use Rattle.types.specs.Values.{outcomeCode}
 use Rattle.types.proofs.placed.HintOutcome.code.Statement.{statement}

@@ -1,3 +1,4 @@
+-- Both codes are the definition's by their contracts, and the flag cast to a number is its bit by `as-bit`.
 use borrow.Author.Needs.{needs}
 use Rattle.types.specs.Values.{placedReply}
 use Rattle.types.proofs.CodeLaws.{as-bit}

@@ -1,3 +1,4 @@
+-- In either case, main or probation, the match and `segmentCode` give the same number.
 use borrow.Author.Needs.{needs}
 use Rattle.types.specs.Values.{segmentCode}
 use Rattle.types.proofs.placed.Segment.code.Statement.{statement}

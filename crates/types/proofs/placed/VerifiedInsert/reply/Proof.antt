@@ -1,3 +1,4 @@
+-- `verifiedReply` is `says` of the same five arguments, so the contract of `says` is the goal.
 use borrow.Author.Needs.{needs}
 use Rattle.types.specs.Values.{verifiedReply}
 use Rattle.types.proofs.placed.VerifiedInsert.reply.Statement.{statement}

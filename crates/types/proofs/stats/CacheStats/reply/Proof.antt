@@ -1,3 +1,4 @@
+-- The four statistics and a 0 are passed in the order in which `statsReply` has them.
 use borrow.Author.Needs.{needs}
 use Rattle.types.specs.Values.{statsReply}
 use Rattle.types.proofs.stats.CacheStats.reply.Statement.{statement}
