@@ -1,7 +1,7 @@
 // Operands as they come from another language, and replies as they go there.
 use raw::layout::ELEMENT;
 use raw::layout::ROW;
-use search::keys::Search;
+use search::outcome::Search;
 use types::coord::CoordEntry;
 use types::coord::PLACES;
 use types::coord::Path;

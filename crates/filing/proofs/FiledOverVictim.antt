@@ -19,7 +19,7 @@ use Rattle.rules.proofs.Addresses.{before-trans, contradiction}
 use Rattle.rules.proofs.RowLists.{by-cond, next-none, total-without, rising-without}
 use Rattle.rules.proofs.SoundTest.{ascends-ok, ascends-test}
 use Rattle.rules.specs.Layout.{rowSize}
-use Rattle.search.specs.declared.keys.Search.the-variants.{Absent}
+use Rattle.search.specs.declared.outcome.Search.the-variants.{Absent}
 use Rattle.search.specs.ByKey.{rowsBefore, searched}
 use Rattle.search.proofs.RisingRows.{first-before, rest-ascends}
 use Rattle.search.proofs.SearchLaws.{absent-inside, absent-none, none-searched}

@@ -17,8 +17,8 @@ use Rattle.rules.proofs.RowLists.{total-insert}
 use Rattle.rules.proofs.SoundTest.{sound-is, ascends-test}
 use Rattle.rules.proofs.Sizes.{light, few-rows}
 use Rattle.rules.specs.Layout.{headSize, rowSize}
-use Rattle.search.specs.declared.keys.Search.the-variants.{At, Absent}
-use Rattle.search.specs.declared.keys.Search.{Search}
+use Rattle.search.specs.declared.outcome.Search.the-variants.{At, Absent}
+use Rattle.search.specs.declared.outcome.Search.{Search}
 use Rattle.search.specs.ByKey.{searched}
 use Rattle.search.proofs.SearchLaws.{absent-inside, absent-insert, none-searched}
 use Rattle.memory.proofs.RowLaws.{view-length}

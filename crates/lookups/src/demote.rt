@@ -1,5 +1,5 @@
 // demote.
-use search::keys::Search;
+use search::outcome::Search;
 use types::answers::DemoteAnswer;
 use types::node_addr::NodeAddr;
 ghost use mathlib.Core.Path.{_≡_};

@@ -1,6 +1,6 @@
 // get: the part of the memory in which the key's path stands.
 use entries::path::PathPlace;
-use search::keys::Search;
+use search::outcome::Search;
 use types::node_addr::NodeAddr;
 ghost use mathlib.Core.Path.{_≡_};
 ghost use mathlib.Core.Bool.{true};

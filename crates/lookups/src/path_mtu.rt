@@ -1,5 +1,5 @@
 // clear_path_mtu.
-use search::keys::Search;
+use search::outcome::Search;
 use types::node_addr::NodeAddr;
 ghost use mathlib.Core.Path.{_≡_};
 ghost use mathlib.Core.Bool.{true};

@@ -1,5 +1,5 @@
 // remove.
-use search::keys::Search;
+use search::outcome::Search;
 use types::answers::Removal;
 use types::answers::RemoveAnswer;
 use types::coord::Path;

@@ -1,7 +1,7 @@
 // get_and_touch; touch, which is the same without the part; and where the part stands.
 use crate::get::no_path;
 use entries::path::PathPlace;
-use search::keys::Search;
+use search::outcome::Search;
 use types::answers::TouchAnswer;
 use types::node_addr::NodeAddr;
 ghost use mathlib.Core.Path.{_≡_};

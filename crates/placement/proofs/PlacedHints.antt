@@ -35,8 +35,8 @@ use Rattle.rules.proofs.RowLists.{find-at}
 use Rattle.rules.proofs.Others.{takeOut-seq}
 use Rattle.rules.specs.Layout.{headSize, rowSize}
 use Rattle.memory.proofs.RowLaws.{view-length}
-use Rattle.search.specs.declared.keys.Search.{Search}
-use Rattle.search.specs.declared.keys.Search.the-variants.{At, Absent}
+use Rattle.search.specs.declared.outcome.Search.{Search}
+use Rattle.search.specs.declared.outcome.Search.the-variants.{At, Absent}
 use Rattle.search.specs.ByKey.{searched}
 use Rattle.search.proofs.SearchLaws.{at-found, absent-none}
 use Rattle.room.proofs.RoomToFile.{shown, laid-out}

@@ -2,7 +2,7 @@
 use crate::held_key::place_held;
 use crate::new_key::place_new;
 use memory::rows::remove_row;
-use search::keys::Search;
+use search::outcome::Search;
 use types::answers::HintAnswer;
 use types::coord::Path;
 use types::node_addr::NodeAddr;

@@ -19,8 +19,8 @@ use Rattle.rules.specs.Memory.{capacity, viewRows, view}
 use Rattle.rules.specs.Lent.{Bytes}
 use Rattle.rules.proofs.SoundTest.{sound-is, ascends-test}
 use Rattle.rules.proofs.LentMemory.{head-fits}
-use Rattle.search.specs.declared.keys.Search.{Search}
-use Rattle.search.specs.declared.keys.Search.the-variants.{At, Absent}
+use Rattle.search.specs.declared.outcome.Search.{Search}
+use Rattle.search.specs.declared.outcome.Search.the-variants.{At, Absent}
 use Rattle.search.specs.ByKey.{searched}
 use Rattle.search.proofs.SearchLaws.{at-found, at-inside, absent-none}
 use Rattle.rules.proofs.RowLists.{length-change}

@@ -18,7 +18,7 @@ use Rattle.rules.proofs.Addresses.{before-trans, same-eq, same-ne, same-true}
 use Rattle.rules.proofs.SoundTest.{and-left, and-right}
 use Rattle.search.specs.ByKey.{orderOf, rowsBefore, searched}
 use Rattle.search.specs.declared.keys.Order.the-variants.{Less, Equal, Greater}
-use Rattle.search.specs.declared.keys.Search.the-variants.{At, Absent}
+use Rattle.search.specs.declared.outcome.Search.the-variants.{At, Absent}
 use Rattle.search.proofs.OrderLaws.{before-differs, before-not-behind, less-before, equal-same, greater-behind}
 
 -- ---- ascending rows

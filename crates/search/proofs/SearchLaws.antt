@@ -16,7 +16,7 @@ use Rattle.rules.specs.Sound.{ascends}
 use Rattle.rules.proofs.Addresses.{before-total, before-trans, contradiction}
 use Rattle.rules.proofs.RowLists.{by-cond, cores, find-at, find-none}
 use Rattle.search.specs.ByKey.{rowsBefore, searched}
-use Rattle.search.specs.declared.keys.Search.the-variants.{At, Absent}
+use Rattle.search.specs.declared.outcome.Search.the-variants.{At, Absent}
 use Rattle.search.proofs.RisingRows.{first-before, parted, rest-ascends}
 
 pub find-searched : (k : NodeAddr) (rs : List Row) (i : ℕ) → find k rs ≡ some i → searched k rs ≡ At i

@@ -9,8 +9,8 @@ use Rattle.rules.specs.Records.{Row}
 use Rattle.rules.specs.Rows.{find, countRows}
 use Rattle.search.specs.declared.keys.Order.{Order}
 use Rattle.search.specs.declared.keys.Order.the-variants.{Less, Equal, Greater}
-use Rattle.search.specs.declared.keys.Search.{Search}
-use Rattle.search.specs.declared.keys.Search.the-variants.{At, Absent}
+use Rattle.search.specs.declared.outcome.Search.{Search}
+use Rattle.search.specs.declared.outcome.Search.the-variants.{At, Absent}
 
 -- how a stands to b
 unfoldable pub orderOf : NodeAddr → NodeAddr → Order

@@ -1,4 +1,5 @@
 // Keys of the held rows, which ascend. A key is the first sixteen bytes of its row.
+use crate::outcome::Search;
 use raw::layout::HEAD;
 use raw::layout::ROW;
 use raw::numbers::wide;
@@ -18,12 +19,6 @@ pub enum Order {
     Less,
     Equal,
     Greater,
-}
-
-// The row of a key, or the row that one of that key would become.
-pub enum Search {
-    At(usize),
-    Absent(usize),
 }
 
 // Eight bytes as a number, the first highest. Summed by fours, it compiles to one load and a reversal of its bytes.

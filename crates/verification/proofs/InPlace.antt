@@ -31,7 +31,7 @@ use Rattle.stamps.proofs.RowTotals.{count-few}
 use Rattle.memory.specs.Edits.{withStoredWeight}
 use Rattle.memory.proofs.RowChanges.{change-twice}
 use Rattle.memory.proofs.RowLaws.{view-length, length-without}
-use Rattle.search.specs.declared.keys.Search.the-variants.{At}
+use Rattle.search.specs.declared.outcome.Search.the-variants.{At}
 use Rattle.search.specs.ByKey.{searched}
 use Rattle.search.proofs.SearchLaws.{at-found}
 use Rattle.room.proofs.ClosedForm.{sound-small}

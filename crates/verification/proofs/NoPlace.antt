@@ -20,8 +20,8 @@ use Rattle.rules.proofs.SoundTest.{ascends-test}
 use Rattle.rules.specs.Layout.{headSize, rowSize}
 use Rattle.memory.proofs.Fields.{same-head}
 use Rattle.memory.proofs.RowLaws.{view-length}
-use Rattle.search.specs.declared.keys.Search.{Search}
-use Rattle.search.specs.declared.keys.Search.the-variants.{At, Absent}
+use Rattle.search.specs.declared.outcome.Search.{Search}
+use Rattle.search.specs.declared.outcome.Search.the-variants.{At, Absent}
 use Rattle.search.specs.ByKey.{searched}
 use Rattle.search.proofs.SearchLaws.{at-inside}
 use Rattle.refusals.proofs.SoundCalls.{found, missing}

@@ -17,7 +17,7 @@ use Rattle.rules.specs.Memory.{viewRows}
 use Rattle.rules.proofs.SoundTest.{Sound, and-left, and-right, is-sound}
 use Rattle.rules.proofs.Moves.{takeOut-sound}
 use Rattle.memory.proofs.RowLaws.{view-length}
-use Rattle.search.specs.declared.keys.Search.the-variants.{At}
+use Rattle.search.specs.declared.outcome.Search.the-variants.{At}
 use Rattle.search.specs.ByKey.{searched}
 use Rattle.room.proofs.RoomSettled.{room-there}
 use Rattle.verification.proofs.VerifiedRows.{out-held}

@@ -23,8 +23,8 @@ use Rattle.rules.specs.Memory.{capacity, viewRows}
 use Rattle.rules.proofs.CallsKeep.{Out, withoutKey-out, verified-free}
 use Rattle.rules.proofs.LentMemory.{capacity-same}
 use Rattle.rules.specs.Layout.{headSize, rowSize}
-use Rattle.search.specs.declared.keys.Search.{Search}
-use Rattle.search.specs.declared.keys.Search.the-variants.{At, Absent}
+use Rattle.search.specs.declared.outcome.Search.{Search}
+use Rattle.search.specs.declared.outcome.Search.the-variants.{At, Absent}
 use Rattle.search.specs.ByKey.{searched}
 use Rattle.refusals.proofs.SoundCalls.{found, missing}
 use Rattle.room.specs.declared.victims.Room.{Room as RoomAnswer}

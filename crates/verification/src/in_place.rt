@@ -28,7 +28,7 @@ ghost use Rattle.rules.specs.Room.{hasRoom, takeOut, fileNew};
 ghost use Rattle.rules.specs.Placement.{verifiedEntry};
 ghost use Rattle.rules.specs.Memory.{capacity, viewRows};
 ghost use Rattle.rules.specs.Layout.{headSize, rowSize};
-ghost use Rattle.search.specs.declared.keys.Search.the-variants.{At};
+ghost use Rattle.search.specs.declared.outcome.Search.the-variants.{At};
 ghost use Rattle.search.specs.ByKey.{searched};
 ghost use Rattle.verification.specs.Mtu.{mtuOf, givenMtu};
 

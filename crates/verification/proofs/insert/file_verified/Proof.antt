@@ -1,7 +1,7 @@
 -- With room once row i of main is out, makeRoom examines nothing, so writing in place is insertVerified; else file_anew's contract is this one.
 use mathlib.Core.Path.{_≡_, sym, _∙_}
 use native.Mathlib.Omega.{arith}
-use Rattle.search.specs.declared.keys.Search.the-variants.{At}
+use Rattle.search.specs.declared.outcome.Search.the-variants.{At}
 use Rattle.search.specs.ByKey.{searched}
 use Rattle.rules.specs.Memory.{capacity, viewRows}
 use Rattle.rules.proofs.Others.{weight-ok}
