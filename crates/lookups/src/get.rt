@@ -13,7 +13,7 @@ ghost use Rattle.rules.specs.Lent.{call, gotPart};
 ghost use Rattle.lookups.specs.Steps.{StandsAt};
 
 // Nothing is found.
-fn no_path() -> PathPlace
+pub(crate) fn no_path() -> PathPlace
     ensures { λ r. ⌜ r ≡ record { at = 0; bytes = 0 } ⌝ }
 {
     PathPlace { at: 0, bytes: 0 }
