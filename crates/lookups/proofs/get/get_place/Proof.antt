@@ -44,7 +44,7 @@ returns-3 c =
     let l = s .args .state .now in
     let n = c .before .before .before .before .row-count .result in
     let m = sound-memory l n (s .pre) (c .before .before .before .before .row-count .ensures) in
-    (absent-stands l n (s .args .key) (s .args .time) _ (s .pre) m (missing (s .args .key) (viewRows n l .rows) _ (c .before .before .before .search .result) (c .before .before .before .search .ensures) (c .before .enum-told .given .1)) (c .nowhere2 .ensures), get-left l n (s .args .key) (s .args .time) (s .pre) m (all-bytes l (λ i. c .before .before .before .before .before .shared-slice-known .given i .fits)))
+    (absent-stands l n (s .args .key) (s .args .time) _ (s .pre) m (missing (s .args .key) (viewRows n l .rows) _ (c .before .before .before .search .result) (c .before .before .before .search .ensures) (c .before .enum-told .given .1)) (c .no-path2 .ensures), get-left l n (s .args .key) (s .args .time) (s .pre) m (all-bytes l (λ i. c .before .before .before .before .before .shared-slice-known .given i .fits)))
 
 pub get-place-spec : {M : Type 1} → statement M
 get-place-spec =

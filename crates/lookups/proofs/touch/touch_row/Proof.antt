@@ -1,4 +1,4 @@
--- touchSays is Found only where row i is not expired, so the answer tells whether touchedPlace is the path's place or nowhere.
+-- touchSays is Found only where row i is not expired, so the answer tells whether touchedPlace is the path's place or no place.
 use mathlib.Core.Path.{ap}
 use Rattle.lookups.proofs.FoundRows.{finds}
 use Rattle.lookups.proofs.PathPlaces.{placed, unplaced}
@@ -23,7 +23,7 @@ returns-3 : tie.Need-returns-3
 unfolding finds
 returns-3 c =
     let s = c .before .before .before .before .before .before .before .before .before .before .args in
-    (unplaced (s .i) (s .time) (viewRows (s .n) (s .state .now)) (c .before .before .before .before .before .touch-at .result) _ (c .before .before .before .before .before .touch-at .ensures .0) (ap finds (c .before .enum-told3 .given .1)) (c .nowhere2 .ensures), c .before .before .before .before .before .touch-at .ensures .1)
+    (unplaced (s .i) (s .time) (viewRows (s .n) (s .state .now)) (c .before .before .before .before .before .touch-at .result) _ (c .before .before .before .before .before .touch-at .ensures .0) (ap finds (c .before .enum-told3 .given .1)) (c .no-path2 .ensures), c .before .before .before .before .before .touch-at .ensures .1)
 
 pub touch-row-spec : {M : Type 1} → statement M
 touch-row-spec =
