@@ -147,7 +147,7 @@ fn turn(memory: &mut [u8], input: &mut [u8], output: &mut [u8], s: Session) -> S
 
 // A proved loop has to end, and nothing says that the input does. So it counts its turns down, from a number that no run
 // uses up.
-// 24 rows are room enough for max 8, so fresh is done (runs, StreamDemand.fresh-24).
+// 24 rows are room enough for max 8, so fresh is done (stream, StreamDemand.fresh-24).
 fn serve(memory: &mut [u8], input: &mut [u8], output: &mut [u8]) -> Tally {
     state::fresh::fresh(memory, 8, 300000);
     let mut s = Session::new();

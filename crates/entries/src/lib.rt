@@ -1,4 +1,5 @@
-// An entry where it stands in a row, and by value: its path compared, handed out, copied; times added; expired or not (entry.rs).
+// An entry where it stands in a row, and by value (entry.rs): addr and path (compared, handed out, copied), times (expired, verified; sums
+// of times), entry (read), new_entry (made, updated, marked).
 pub mod addr;
 pub mod entry;
 pub mod new_entry;

@@ -1,4 +1,4 @@
-// An entry where it stands in a row: whether it is expired; sums of times.
+// An entry where it stands in a row: whether it is expired, and whether it is verified; sums of times.
 use memory::codes::VERIFIED;
 ghost use mathlib.Core.Path.{_≡_};
 ghost use Prim.Native.Nat.{_+_, _*_, _-_, _≤_, _<_};

@@ -1,4 +1,5 @@
-// Rows filed in the order of keys, over a victim or in a free row; refiled; filed again as they were.
+// Rows filed in the order of keys: file (in a free row, over a victim, or back as it was), in_room (once room was sought), refile (updated
+// and stamped anew where it stands).
 pub mod file;
 pub mod in_room;
 pub mod refile;

@@ -1,4 +1,4 @@
-// The fields of row i of n. The offsets are those of docs/PACKING.md, counted from the row's first byte.
+// The fields of row i of n. The offsets are raw::layout's (docs/PACKING.md), counted from the row's first byte.
 use crate::codes::HINT;
 use crate::codes::NO_MTU;
 use raw::layout;

@@ -1,4 +1,4 @@
-// Bytes of the lent memory: little-endian numbers at an offset, rows moved and zeroed.
+// Bytes of the lent memory: layout (offsets and sizes), numbers (little-endian, at an offset), moves (rows moved and zeroed).
 pub mod layout;
 pub mod moves;
 pub mod numbers;

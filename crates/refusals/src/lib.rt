@@ -1,2 +1,2 @@
-// Numbers 1, 2 and 3 of a refused call, and what every call may use of a sound memory.
+// Numbers 2 and 3 of a call that takes a path; in proofs/ the laws that every call uses: of a sound memory, and of a refused call.
 pub mod write;

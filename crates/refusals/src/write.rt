@@ -1,4 +1,4 @@
-// What every call shares: laws (proofs/) of a sound memory and of a refusal; the refusals of a call that takes a path.
+// The refusals of a call that takes a path, and the last seq at which stamps are drawn.
 use types::coord::PLACES;
 use types::coord::Path;
 ghost use mathlib.Core.Path.{_≡_};

@@ -1,4 +1,5 @@
-// 01's number and five values for each answer, and a reply as a line of text.
+// 01's number and five values: answer (for each case of what a call returns), part (of a lookup, from the part that it hands back); line
+// (a reply as text).
 pub mod answer;
 pub mod line;
 pub mod part;

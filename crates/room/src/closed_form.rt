@@ -1,4 +1,4 @@
-// Rows counted and weighed, and the bounds.
+// Main counted and weighed: whether it has room, and whether room can be made.
 use entries::times::is_verified;
 use memory::codes::PROBATION;
 use types::coord::ADDRS_PER_ENTRY;

@@ -1,4 +1,4 @@
-// A row by value, and its bytes. The offsets are those of docs/PACKING.md.
+// A row by value, and its bytes. The offsets are raw::layout's (docs/PACKING.md).
 use crate::values;
 use raw::layout;
 use types::coord::Path;

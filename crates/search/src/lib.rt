@@ -1,3 +1,3 @@
-// Rows by key: keys are compared where they stand, and the row of a key is searched by guesses, then by halves.
+// Rows by key: keys (compared where they stand; the row of a key searched by guesses, then by halves), outcome (what a search finds).
 pub mod keys;
 pub mod outcome;

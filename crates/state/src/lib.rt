@@ -1,4 +1,5 @@
-// Whether a lent memory is a sound state: a row by itself, the head, keys that rise, the pass over the rows; fresh.
+// Whether a lent memory is a sound state: check asks the head and then passes over the rows; head, row (a row by itself), key (keys that
+// rise) and pass are its parts. fresh makes one.
 pub mod check;
 pub mod fresh;
 pub mod head;
