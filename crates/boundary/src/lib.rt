@@ -2,15 +2,14 @@
 use raw::layout::ELEMENT;
 use raw::layout::ROW;
 use search::outcome::Search;
-use types::coord::CoordEntry;
 use types::coord::PLACES;
 use types::coord::Path;
+use types::coord::zero_entry;
 use types::node_addr::NodeAddr;
 use types::placed::Funding;
 use types::reply::Reply;
 ghost use mathlib.Core.Path.{_≡_};
 ghost use Prim.Native.Nat.{min};
-ghost use Rattle.types.specs.Paths.{zeroEntry};
 ghost use mathlib.Core.Bool.{true};
 ghost use mathlib.Core.Option.{some};
 ghost use Prim.Native.Nat.{_≤_};
@@ -36,16 +35,6 @@ fn lesser(a: usize, b: usize) -> usize
     ensures { λ r. ⌜ r ≡ min a b ⌝ }
 {
     if a < b { a } else { b }
-}
-
-fn zero_entry() -> CoordEntry
-    ensures { λ r. ⌜ r ≡ zeroEntry ⌝ }
-{
-    CoordEntry {
-        node_addr: NodeAddr([0u8; 16]),
-        sequence: 0,
-        timestamp: 0,
-    }
 }
 
 // The elements that stand whole in the bytes.

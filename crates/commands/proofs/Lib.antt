@@ -1,5 +1,5 @@
-pub mod Codes
 pub mod Operands
-pub mod Typing
-pub mod Taking
-pub mod Obeying
+pub mod UnknownCodes
+pub mod FundingKind
+pub mod TypedCommands
+pub mod CommandLaws

@@ -1,20 +1,24 @@
 // One command on a state. The command byte decides; its operands have fixed widths, little-endian, and stand in the
 // bytes behind it.
-use crate::width::Width;
-use crate::width::width_of;
+use crate::hint;
+use crate::lookup;
+use crate::stats;
+use crate::sweep;
+use crate::verified;
+use raw::layout::ELEMENT;
+use raw::numbers::read_u16;
+use raw::numbers::read_u64;
 use types::coord::Path;
 use types::reply::Reply;
 use types::reply::refused;
 use types::reply::says;
 ghost use mathlib.Core.Path.{_≡_};
-ghost use mathlib.Core.Bool.{true};
-ghost use Prim.Native.Nat.{_+_, _≤_};
+ghost use Prim.Native.Nat.{_≤_};
 ghost use lib.ListN.{length, drop};
 ghost use Rattle.rules.specs.Sound.{sound};
 ghost use Rattle.rules.specs.Memory.{capacity, view};
-ghost use Rattle.rules.specs.Commands.{takesPath};
-ghost use Rattle.commands.specs.OnMemory.{whole, obeyWhole, refusedSix, obeyByte, held};
-ghost use Rattle.commands.specs.After.{Answers};
+ghost use Rattle.commands.specs.OnMemory.{obeyByte, session};
+ghost use Rattle.commands.specs.After.{Answers, refusedBy};
 
 // What a command says, and what it leaves beside the state: the pending path, and whether the state is sound.
 pub struct AfterCommand {
@@ -23,13 +27,38 @@ pub struct AfterCommand {
     pub sound: bool,
 }
 
+// Refused by 6: unknown, cut, or of a funding kind over 1. The pending path is the one to be left.
+pub(crate) fn refused_six(is_sound: bool, pending: Path) -> AfterCommand
+    ensures { λ r. ⌜ r ≡ refusedBy 6 «is_sound» pending ⌝ }
+{
+    AfterCommand {
+        reply: refused(6),
+        pending: pending,
+        sound: is_sound,
+    }
+}
+
+// Refused by 1: the state is not sound.
+pub(crate) fn refused_one(is_sound: bool, pending: Path) -> AfterCommand
+    ensures { λ r. ⌜ r ≡ refusedBy 1 «is_sound» pending ⌝ }
+{
+    AfterCommand {
+        reply: refused(1),
+        pending: pending,
+        sound: is_sound,
+    }
+}
+
 // 00. Where it is done the state is sound; refused, it leaves all as it was.
 fn fresh(state: &mut [u8], is_sound: bool, pending: Path, input: &[u8], at: usize) -> AfterCommand
-    requires { ⌜ («is_sound» ≡ sound (capacity (now state)) (view (now state))) × (at + 10 ≤ length (now input)) ⌝ }
-    ensures { λ r. ⌜ Answers (obeyWhole (held (now (state .entry)) pending) 0x00 (drop at (now (input .entry)))) r (now (state .exit)) ⌝ }
+    requires { ⌜ («is_sound» ≡ sound (capacity (now state)) (view (now state))) × (at ≤ length (now input)) ⌝ }
+    ensures { λ r. ⌜ Answers (obeyByte (session (now (state .entry)) pending) 0x00 (drop at (now (input .entry)))) r (now (state .exit)) ⌝ }
 {
-    let max = raw::numbers::read_u16(input, at) as u64;
-    let ttl = raw::numbers::read_u64(input, at + 2);
+    if input.len() - at < 10 {
+        return refused_six(is_sound, pending);
+    }
+    let max = read_u16(input, at) as u64;
+    let ttl = read_u64(input, at + 2);
     let number = state::fresh::fresh(state, max, ttl);
     AfterCommand {
         reply: refused(number),
@@ -40,9 +69,12 @@ fn fresh(state: &mut [u8], is_sound: bool, pending: Path, input: &[u8], at: usiz
 
 // 01: an element onto the pending path; a 33rd is refused by 2 and dropped.
 fn element(state: &[u8], is_sound: bool, pending: Path, input: &[u8], at: usize) -> AfterCommand
-    requires { ⌜ («is_sound» ≡ sound (capacity (now state)) (view (now state))) × (at + 32 ≤ length (now input)) ⌝ }
-    ensures { λ r. ⌜ Answers (obeyWhole (held (now (state .entry)) pending) 0x01 (drop at (now (input .entry)))) r (now (state .exit)) ⌝ }
+    requires { ⌜ («is_sound» ≡ sound (capacity (now state)) (view (now state))) × (at ≤ length (now input)) ⌝ }
+    ensures { λ r. ⌜ Answers (obeyByte (session (now (state .entry)) pending) 0x01 (drop at (now (input .entry)))) r (now (state .exit)) ⌝ }
 {
+    if input.len() - at < ELEMENT {
+        return refused_six(is_sound, pending);
+    }
     let appended = pending.append(entries::addr::load_coord_entry(input, at));
     let path = appended.path;
     if appended.refusal != 0 {
@@ -59,64 +91,6 @@ fn element(state: &[u8], is_sound: bool, pending: Path, input: &[u8], at: usize)
     }
 }
 
-// 10 to 15.
-fn takes_path(code: u8) -> bool
-    ensures { λ r. ⌜ r ≡ takesPath code ⌝ }
-{
-    (0x10 <= code) & (code <= 0x15)
-}
-
-// A command whose operands are all there.
-fn obey(
-    state: &mut [u8],
-    is_sound: bool,
-    pending: Path,
-    code: u8,
-    input: &[u8],
-    at: usize,
-) -> AfterCommand
-    requires { ⌜ («is_sound» ≡ sound (capacity (now state)) (view (now state))) × (whole code (drop at (now input)) ≡ true) ⌝ }
-    ensures { λ r. ⌜ Answers (obeyWhole (held (now (state .entry)) pending) code (drop at (now (input .entry)))) r (now (state .exit)) ⌝ }
-{
-    if code == 0x00 {
-        return fresh(state, is_sound, pending, input, at);
-    }
-    if code == 0x01 {
-        return element(state, is_sound, pending, input, at);
-    }
-    if takes_path(code) {
-        return AfterCommand {
-            reply: crate::write::write(state, is_sound, pending, code, input, at),
-            pending: Path::empty(),
-            sound: is_sound,
-        };
-    }
-    AfterCommand {
-        reply: crate::ask::ask(state, is_sound, code, input, at),
-        pending: pending,
-        sound: is_sound,
-    }
-}
-
-// Refused by 6. Codes 10 to 15 empty the pending path here too.
-fn six(state: &[u8], is_sound: bool, pending: Path, code: u8) -> AfterCommand
-    requires { ⌜ «is_sound» ≡ sound (capacity (now state)) (view (now state)) ⌝ }
-    ensures { λ r. ⌜ Answers (refusedSix code (held (now (state .entry)) pending)) r (now (state .exit)) ⌝ }
-{
-    if takes_path(code) {
-        return AfterCommand {
-            reply: refused(6),
-            pending: Path::empty(),
-            sound: is_sound,
-        };
-    }
-    AfterCommand {
-        reply: refused(6),
-        pending: pending,
-        sound: is_sound,
-    }
-}
-
 // The command `code` with the bytes of the input from `at` on behind it; the caller knows whether the state is sound.
 pub fn command_at(
     state: &mut [u8],
@@ -127,22 +101,39 @@ pub fn command_at(
     at: usize,
 ) -> AfterCommand
     requires { ⌜ («is_sound» ≡ sound (capacity (now state)) (view (now state))) × (at ≤ length (now input)) ⌝ }
-    ensures { λ r. ⌜ Answers (obeyByte (held (now (state .entry)) pending) code (drop at (now (input .entry)))) r (now (state .exit)) ⌝ }
+    ensures { λ r. ⌜ Answers (obeyByte (session (now (state .entry)) pending) code (drop at (now (input .entry)))) r (now (state .exit)) ⌝ }
 {
-    match width_of(code) {
-        Width::Unknown => six(state, is_sound, pending, code),
-        Width::Bytes(w) => {
-            if input.len() - at < w {
-                return six(state, is_sound, pending, code);
-            }
-            obey(state, is_sound, pending, code, input, at)
-        }
+    match code {
+        0x00 => fresh(state, is_sound, pending, input, at),
+        0x01 => element(state, is_sound, pending, input, at),
+        0x02..=0x0f => refused_six(is_sound, pending),
+        0x10 => hint::insert(state, is_sound, pending, input, at),
+        0x11 => hint::insert_with_ttl(state, is_sound, pending, input, at),
+        0x12 => hint::insert_funded(state, is_sound, pending, input, at),
+        0x13 => hint::insert_stated(state, is_sound, pending, input, at),
+        0x14 => verified::insert_verified(state, is_sound, pending, input, at),
+        0x15 => verified::insert_verified_with_path_mtu(state, is_sound, pending, input, at),
+        0x16..=0x1f => refused_six(is_sound, pending),
+        0x20 => lookup::get(state, is_sound, pending, input, at),
+        0x21 => lookup::touch(state, is_sound, pending, input, at),
+        0x22 => lookup::remove(state, is_sound, pending, input, at),
+        0x23 => lookup::demote(state, is_sound, pending, input, at),
+        0x24 => lookup::clear_path_mtu(state, is_sound, pending, input, at),
+        0x25..=0x2f => refused_six(is_sound, pending),
+        0x30 => sweep::purge_expired(state, is_sound, pending, input, at),
+        0x31 => sweep::clear(state, is_sound, pending),
+        0x32 => sweep::invalidate_via_node(state, is_sound, pending, input, at),
+        0x33 => sweep::invalidate_other_roots(state, is_sound, pending, input, at),
+        0x34..=0x3f => refused_six(is_sound, pending),
+        0x40 => stats::stats(state, is_sound, pending, input, at),
+        0x41 => stats::next_expiry(state, is_sound, pending),
+        0x42..=0xff => refused_six(is_sound, pending),
     }
 }
 
 // One command on a state in any condition.
 pub fn command(state: &mut [u8], pending: Path, code: u8, operands: &[u8]) -> AfterCommand
-    ensures { λ r. ⌜ Answers (obeyByte (held (now (state .entry)) pending) code (now (operands .entry))) r (now (state .exit)) ⌝ }
+    ensures { λ r. ⌜ Answers (obeyByte (session (now (state .entry)) pending) code (now (operands .entry))) r (now (state .exit)) ⌝ }
 {
     let is_sound = state::check::is_sound(state);
     command_at(state, is_sound, pending, code, operands, 0)

@@ -1,5 +1,8 @@
-// One command on a state: the width of its operands, the calls without a path and with one, the command itself.
-pub mod ask;
+// One command on a state: the command byte decides, and the codes stand in modules by the kind of their calls.
 pub mod command;
+mod hint;
+mod lookup;
+mod stats;
+mod sweep;
+mod verified;
 pub mod width;
-pub mod write;

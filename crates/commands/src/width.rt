@@ -1,4 +1,4 @@
-// Commands from bytes: the command byte decides; operands have fixed widths.
+// The width of a command's operands, for whoever needs it before the command is obeyed.
 use raw::layout::ELEMENT;
 ghost use mathlib.Core.Path.{_≡_};
 ghost use Rattle.commands.specs.Widths.{widthOf, widthIs};
@@ -18,16 +18,21 @@ pub fn width_of(code: u8) -> Width
         0x02..=0x0f => Width::Unknown,
         0x10 => Width::Bytes(24),
         0x11 => Width::Bytes(32),
-        0x12 | 0x13 => Width::Bytes(33),
+        0x12 => Width::Bytes(33),
+        0x13 => Width::Bytes(33),
         0x14 => Width::Bytes(24),
         0x15 => Width::Bytes(26),
         0x16..=0x1f => Width::Unknown,
-        0x20 | 0x21 => Width::Bytes(24),
-        0x22 | 0x23 | 0x24 => Width::Bytes(16),
+        0x20 => Width::Bytes(24),
+        0x21 => Width::Bytes(24),
+        0x22 => Width::Bytes(16),
+        0x23 => Width::Bytes(16),
+        0x24 => Width::Bytes(16),
         0x25..=0x2f => Width::Unknown,
         0x30 => Width::Bytes(8),
         0x31 => Width::Bytes(0),
-        0x32 | 0x33 => Width::Bytes(16),
+        0x32 => Width::Bytes(16),
+        0x33 => Width::Bytes(16),
         0x34..=0x3f => Width::Unknown,
         0x40 => Width::Bytes(8),
         0x41 => Width::Bytes(0),

@@ -1,2 +1,3 @@
-pub mod Telling
-pub mod Finding
+pub mod ToldReplies
+pub mod ToldRefusals
+pub mod ToldLookups

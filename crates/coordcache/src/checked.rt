@@ -1,10 +1,22 @@
-// The calls for a memory in any condition: one that is not a sound state is refused by 1.
+// The calls for a memory in any condition: all but fresh refuse one that is not a sound state by 1, and is_sound only asks. Each is the test
+// and then the unchecked call; a funding kind over 1 is refused by 6 before it.
+use crate::unchecked::coord_cache_clear_path_mtu_unchecked;
+use crate::unchecked::coord_cache_clear_unchecked;
+use crate::unchecked::coord_cache_demote_unchecked;
 use crate::unchecked::coord_cache_get_and_touch_unchecked;
 use crate::unchecked::coord_cache_get_unchecked;
+use crate::unchecked::coord_cache_insert_funded_unchecked;
+use crate::unchecked::coord_cache_insert_stated_unchecked;
+use crate::unchecked::coord_cache_insert_unchecked;
+use crate::unchecked::coord_cache_insert_verified_unchecked;
+use crate::unchecked::coord_cache_insert_verified_with_path_mtu_unchecked;
+use crate::unchecked::coord_cache_insert_with_ttl_unchecked;
+use crate::unchecked::coord_cache_invalidate_other_roots_unchecked;
+use crate::unchecked::coord_cache_invalidate_via_node_unchecked;
+use crate::unchecked::coord_cache_next_expiry_unchecked;
+use crate::unchecked::coord_cache_purge_expired_unchecked;
 use crate::unchecked::coord_cache_remove_unchecked;
-use boundary::address;
-use boundary::funding;
-use boundary::path_from;
+use crate::unchecked::coord_cache_stats_unchecked;
 use boundary::tell;
 use raw::layout::ROW;
 use types::reply::refused;
@@ -45,10 +57,10 @@ pub extern "C" fn coord_cache_insert(
 ) -> u8
     ensures { λ r. ⌜ Told (call (now (state .entry)) (Insert (addressFrom (now (key .entry))) (pathFrom (now (path .entry))) time)) r (now (values .exit)) (now (state .exit)) ⌝ }
 {
-    let k = address(key);
-    let p = path_from(path);
-    let answer = placement::calls::insert(state, k, p, time);
-    tell(replies::answer::hint_reply(answer), values)
+    if !state::check::is_sound(state) {
+        return tell(refused(1), values);
+    }
+    coord_cache_insert_unchecked(state, key, path, time, values)
 }
 
 #[no_mangle]
@@ -62,10 +74,10 @@ pub extern "C" fn coord_cache_insert_with_ttl(
 ) -> u8
     ensures { λ r. ⌜ Told (call (now (state .entry)) (InsertWithTtl (addressFrom (now (key .entry))) (pathFrom (now (path .entry))) time ttl)) r (now (values .exit)) (now (state .exit)) ⌝ }
 {
-    let k = address(key);
-    let p = path_from(path);
-    let answer = placement::calls::insert_with_ttl(state, k, p, time, ttl);
-    tell(replies::answer::hint_reply(answer), values)
+    if !state::check::is_sound(state) {
+        return tell(refused(1), values);
+    }
+    coord_cache_insert_with_ttl_unchecked(state, key, path, time, ttl, values)
 }
 
 #[no_mangle]
@@ -83,11 +95,10 @@ pub extern "C" fn coord_cache_insert_funded(
     if 1 < kind {
         return tell(refused(6), values);
     }
-    let k = address(key);
-    let p = path_from(path);
-    let paid = funding(kind, amount);
-    let answer = placement::calls::insert_funded(state, k, p, time, paid);
-    tell(replies::answer::hint_reply(answer), values)
+    if !state::check::is_sound(state) {
+        return tell(refused(1), values);
+    }
+    coord_cache_insert_funded_unchecked(state, key, path, time, kind, amount, values)
 }
 
 #[no_mangle]
@@ -105,11 +116,10 @@ pub extern "C" fn coord_cache_insert_stated(
     if 1 < kind {
         return tell(refused(6), values);
     }
-    let k = address(key);
-    let p = path_from(path);
-    let paid = funding(kind, amount);
-    let answer = placement::calls::insert_stated(state, k, p, time, paid);
-    tell(replies::answer::hint_reply(answer), values)
+    if !state::check::is_sound(state) {
+        return tell(refused(1), values);
+    }
+    coord_cache_insert_stated_unchecked(state, key, path, time, kind, amount, values)
 }
 
 // Verified inserts: 0, weight, 0, 0, examined.
@@ -123,10 +133,10 @@ pub extern "C" fn coord_cache_insert_verified(
 ) -> u8
     ensures { λ r. ⌜ Told (call (now (state .entry)) (InsertVerified (addressFrom (now (key .entry))) (pathFrom (now (path .entry))) time)) r (now (values .exit)) (now (state .exit)) ⌝ }
 {
-    let k = address(key);
-    let p = path_from(path);
-    let answer = verification::calls::insert_verified(state, k, p, time);
-    tell(replies::answer::verified_reply(answer), values)
+    if !state::check::is_sound(state) {
+        return tell(refused(1), values);
+    }
+    coord_cache_insert_verified_unchecked(state, key, path, time, values)
 }
 
 #[no_mangle]
@@ -140,10 +150,10 @@ pub extern "C" fn coord_cache_insert_verified_with_path_mtu(
 ) -> u8
     ensures { λ r. ⌜ Told (call (now (state .entry)) (InsertVerifiedWithPathMtu (addressFrom (now (key .entry))) (pathFrom (now (path .entry))) time mtu)) r (now (values .exit)) (now (state .exit)) ⌝ }
 {
-    let k = address(key);
-    let p = path_from(path);
-    let answer = verification::calls::insert_verified_with_path_mtu(state, k, p, time, mtu);
-    tell(replies::answer::verified_reply(answer), values)
+    if !state::check::is_sound(state) {
+        return tell(refused(1), values);
+    }
+    coord_cache_insert_verified_with_path_mtu_unchecked(state, key, path, time, mtu, values)
 }
 
 // Lookups: found, length. The elements stand in the state from byte `at` on.
@@ -200,9 +210,10 @@ pub extern "C" fn coord_cache_remove(
 pub extern "C" fn coord_cache_demote(state: &mut [u8], key: &[u8; 16], values: &mut [u64; 5]) -> u8
     ensures { λ r. ⌜ Told (call (now (state .entry)) (Demote (addressFrom (now (key .entry))))) r (now (values .exit)) (now (state .exit)) ⌝ }
 {
-    let k = address(key);
-    let answer = lookups::demote::demote(state, k);
-    tell(replies::answer::demote_reply(answer), values)
+    if !state::check::is_sound(state) {
+        return tell(refused(1), values);
+    }
+    coord_cache_demote_unchecked(state, key, values)
 }
 
 #[no_mangle]
@@ -213,9 +224,10 @@ pub extern "C" fn coord_cache_clear_path_mtu(
 ) -> u8
     ensures { λ r. ⌜ Told (call (now (state .entry)) (ClearPathMtu (addressFrom (now (key .entry))))) r (now (values .exit)) (now (state .exit)) ⌝ }
 {
-    let k = address(key);
-    let answer = lookups::path_mtu::clear_path_mtu(state, k);
-    tell(refused(answer), values)
+    if !state::check::is_sound(state) {
+        return tell(refused(1), values);
+    }
+    coord_cache_clear_path_mtu_unchecked(state, key, values)
 }
 
 // Sweeps: how many rows were removed; clear tells none.
@@ -227,16 +239,20 @@ pub extern "C" fn coord_cache_purge_expired(
 ) -> u8
     ensures { λ r. ⌜ Told (call (now (state .entry)) (PurgeExpired time)) r (now (values .exit)) (now (state .exit)) ⌝ }
 {
-    let answer = sweeps::purge_expired(state, time);
-    tell(replies::answer::sweep_reply(answer), values)
+    if !state::check::is_sound(state) {
+        return tell(refused(1), values);
+    }
+    coord_cache_purge_expired_unchecked(state, time, values)
 }
 
 #[no_mangle]
 pub extern "C" fn coord_cache_clear(state: &mut [u8], values: &mut [u64; 5]) -> u8
     ensures { λ r. ⌜ Told (call (now (state .entry)) Clear) r (now (values .exit)) (now (state .exit)) ⌝ }
 {
-    let answer = sweeps::clear(state);
-    tell(refused(answer), values)
+    if !state::check::is_sound(state) {
+        return tell(refused(1), values);
+    }
+    coord_cache_clear_unchecked(state, values)
 }
 
 #[no_mangle]
@@ -247,9 +263,10 @@ pub extern "C" fn coord_cache_invalidate_via_node(
 ) -> u8
     ensures { λ r. ⌜ Told (call (now (state .entry)) (InvalidateViaNode (addressFrom (now (addr .entry))))) r (now (values .exit)) (now (state .exit)) ⌝ }
 {
-    let a = address(addr);
-    let answer = sweeps::invalidate_via_node(state, a);
-    tell(replies::answer::sweep_reply(answer), values)
+    if !state::check::is_sound(state) {
+        return tell(refused(1), values);
+    }
+    coord_cache_invalidate_via_node_unchecked(state, addr, values)
 }
 
 #[no_mangle]
@@ -260,9 +277,10 @@ pub extern "C" fn coord_cache_invalidate_other_roots(
 ) -> u8
     ensures { λ r. ⌜ Told (call (now (state .entry)) (InvalidateOtherRoots (addressFrom (now (addr .entry))))) r (now (values .exit)) (now (state .exit)) ⌝ }
 {
-    let a = address(addr);
-    let answer = sweeps::invalidate_other_roots(state, a);
-    tell(replies::answer::sweep_reply(answer), values)
+    if !state::check::is_sound(state) {
+        return tell(refused(1), values);
+    }
+    coord_cache_invalidate_other_roots_unchecked(state, addr, values)
 }
 
 // Entries, max, expired, mean age.
@@ -270,8 +288,10 @@ pub extern "C" fn coord_cache_invalidate_other_roots(
 pub extern "C" fn coord_cache_stats(state: &[u8], time: u64, values: &mut [u64; 5]) -> u8
     ensures { λ r. ⌜ Told (call (now (state .entry)) (Stats time)) r (now (values .exit)) (now (state .exit)) ⌝ }
 {
-    let answer = statistics::stats(state, time);
-    tell(replies::answer::stats_reply(answer), values)
+    if !state::check::is_sound(state) {
+        return tell(refused(1), values);
+    }
+    coord_cache_stats_unchecked(state, time, values)
 }
 
 // Whether a row is held, and the smallest expires_at.
@@ -279,6 +299,8 @@ pub extern "C" fn coord_cache_stats(state: &[u8], time: u64, values: &mut [u64; 
 pub extern "C" fn coord_cache_next_expiry(state: &[u8], values: &mut [u64; 5]) -> u8
     ensures { λ r. ⌜ Told (call (now (state .entry)) NextExpiry) r (now (values .exit)) (now (state .exit)) ⌝ }
 {
-    let answer = statistics::next_expiry(state);
-    tell(replies::answer::expiry_reply(answer), values)
+    if !state::check::is_sound(state) {
+        return tell(refused(1), values);
+    }
+    coord_cache_next_expiry_unchecked(state, values)
 }

@@ -1,5 +1,6 @@
 // Commands from standard input, one line each to standard output: 24 rows, starting fresh at max 8, ttl 300000. Input of any
-// length runs in the same memory. At its end, or where it cannot read or write, the tally goes to standard error.
+// length runs in the same memory. At its end, after a refusal by 6, or where it cannot read or write, the tally goes to standard
+// error.
 use libc::STDERR_FILENO;
 use libc::STDIN_FILENO;
 use libc::STDOUT_FILENO;

@@ -1,6 +1,6 @@
 -- Bytes of a cut: compared with an address, and read as a path element.
 use mathlib.Core.Path.{_≡_, refl, sym, ap, _∙_}
-use mathlib.Core.Bool.{Bool, true, false, _&&_}
+use mathlib.Core.Bool.{Bool, true, false, _&&_, and-assoc}
 use mathlib.Core.List.{List}
 use Prim.Native.Nat.{ℕ, _+_, _≤_, _<_}
 use native.Mathlib.Omega.{arith}
@@ -37,12 +37,7 @@ pub addr-more : (t a b c : Bool) → t ≡ (a && b) → b ≡ c → t ≡ (a && 
 addr-more t a b c e f = e ∙ ap (λ (x : Bool). a && x) f
 
 pub and-in : (a b c : Bool) → (a && (b && c)) ≡ ((a && b) && c)
-and-in true b c = refl
-and-in false b c = refl
-
-pub and-true : (a : Bool) → (a && true) ≡ a
-and-true true = refl
-and-true false = refl
+and-in a b c = sym (and-assoc a b c)
 
 pub same-sym : (a b : NodeAddr) → sameAddr a b ≡ sameAddr b a
 same-sym a b = go (sameAddr a b) refl

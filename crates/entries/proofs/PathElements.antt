@@ -17,6 +17,7 @@ use Rattle.rules.specs.Records.{Row}
 use Rattle.rules.specs.Rows.{rowAt}
 use Rattle.rules.specs.Memory.{cut, coordEntryOf, coordEntriesOf, pathOf, entryOf, rowOf, viewRows}
 use Rattle.rules.specs.Layout.{coordEntrySize, entryOffset, entrySize, headSize, placesInRow, rowSize}
+use Rattle.rules.proofs.Foreign.{elements-of-length}
 use Rattle.raw.proofs.StoreLaws.{cut-cut}
 use Rattle.memory.proofs.Fields.{row-at}
 use Rattle.entries.proofs.Bytes.{element-addr}
@@ -24,11 +25,6 @@ use Rattle.entries.proofs.Bytes.{element-addr}
 -- the path of row i of n
 abbrev pub rowPath : ℕ → ℕ → List ℕ → Path
 rowPath n i l = rowAt i (viewRows n l .rows) .entry .path
-
-pub entries-length : (n : ℕ) (l : List ℕ) → length (coordEntriesOf n l) ≡ n
-unfolding coordEntriesOf
-entries-length zero l = refl
-entries-length (suc n) l = ap suc (entries-length n (drop coordEntrySize l))
 
 pub entries-at : (n k : ℕ) (l : List ℕ) (d : CoordEntry) → k < n → getD (coordEntriesOf n l) k d ≡ coordEntryOf (cut (k * coordEntrySize) coordEntrySize l)
 unfolding coordEntriesOf
@@ -41,7 +37,7 @@ entries-at (suc n) (suc k) l d h =
 -- of a row's bytes
 row-places : (c : List ℕ) → length (rowOf c .entry .path .entries) ≡ pathPlaces
 unfolding rowOf entryOf pathOf
-row-places c = entries-length pathPlaces (drop 1 (cut entryOffset entrySize c))
+row-places c = elements-of-length pathPlaces (drop 1 (cut entryOffset entrySize c))
 
 row-place : (c : List ℕ) (k : ℕ) (d : CoordEntry) → k < pathPlaces → getD (rowOf c .entry .path .entries) k d ≡ coordEntryOf (cut (placesInRow + k * coordEntrySize) coordEntrySize c)
 unfolding rowOf entryOf pathOf

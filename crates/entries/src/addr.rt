@@ -11,7 +11,7 @@ ghost use Rattle.rules.specs.Layout.{addressSize, coordEntrySize};
 
 // Whether the sixteen bytes at an offset equal the address, byte by byte. No byte ends the loop early, so that the compiler compares
 // all sixteen at once.
-pub fn addr_at(state: &[u8], at: usize, a: NodeAddr) -> bool
+pub(crate) fn addr_at(state: &[u8], at: usize, a: NodeAddr) -> bool
     requires { ⌜ at + addressSize ≤ length (now state) ⌝ }
     ensures { λ r. ⌜ r ≡ sameAddr a (record { 0 = cut at addressSize (now (state .entry)) }) ⌝ }
 {
@@ -26,7 +26,7 @@ pub fn addr_at(state: &[u8], at: usize, a: NodeAddr) -> bool
 }
 
 // Whether the element at an offset is this one: every field counts.
-pub fn coord_entry_at(state: &[u8], at: usize, e: CoordEntry) -> bool
+pub(crate) fn coord_entry_at(state: &[u8], at: usize, e: CoordEntry) -> bool
     requires { ⌜ at + coordEntrySize ≤ length (now state) ⌝ }
     ensures { λ r. ⌜ r ≡ sameEntry (coordEntryOf (cut at coordEntrySize (now (state .entry)))) e ⌝ }
 {

@@ -1,5 +1,6 @@
 // The entry of row i of n, by value.
 use crate::path;
+use memory::codes::SOME_MTU;
 use memory::row;
 use types::entry::CacheEntry;
 use types::entry::CoordSource;
@@ -17,7 +18,7 @@ fn path_mtu(state: &[u8], n: usize, i: usize) -> PathMtu
     requires { ⌜ (i < n) × (headSize + n * rowSize ≤ length (now state)) ⌝ }
     ensures { λ r. ⌜ r ≡ entryValue (rowAt i (viewRows n (now (state .entry)) .rows) .entry) .«path_mtu» ⌝ }
 {
-    if row::mtu_mark(state, n, i) == 1 {
+    if row::mtu_mark(state, n, i) == SOME_MTU {
         PathMtu::Known(row::mtu(state, n, i))
     } else {
         PathMtu::Unknown

@@ -1,4 +1,4 @@
-// An entry where it stands in a row, and by value (entry.rs): addr and path (compared, handed out, copied), times (expired, verified; sums
+// An entry where it stands in a row, and by value (the original's entry.rs): addr and path (compared, handed out, copied), times (expired, verified; sums
 // of times), entry (read), new_entry (made, updated, marked).
 pub mod addr;
 pub mod entry;

@@ -1,4 +1,4 @@
-// An entry by value, as the calls make it (entry.rs).
+// An entry by value, as the calls make it (the original's entry.rs).
 use crate::times::VERIFIED_TTL_MS;
 use crate::times::add_times;
 use memory::codes::HINT;

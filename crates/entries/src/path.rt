@@ -94,7 +94,7 @@ pub fn path_place(state: &[u8], n: usize, i: usize) -> PathPlace
 }
 
 // All places and the length.
-pub fn load_path(state: &[u8], n: usize, i: usize) -> Path
+pub(crate) fn load_path(state: &[u8], n: usize, i: usize) -> Path
     requires { ⌜ (i < n) × (headSize + n * rowSize ≤ length (now state)) ⌝ }
     ensures { λ r. ⌜ r ≡ rowAt i (viewRows n (now (state .entry)) .rows) .entry .path ⌝ }
 {

@@ -11,7 +11,7 @@ use lib.Seq.{drop-at}
 use Rattle.types.specs.declared.node_addr.NodeAddr.{NodeAddr}
 use Rattle.types.specs.Addresses.{sameAddr, addrBefore}
 use Rattle.rules.specs.Records.{Entry, Row, State}
-use Rattle.rules.specs.Rows.{rowAt, inMain, find, nextIndex, total, withoutRow, weighRows, withRows, withOnlyRows, zeroRows}
+use Rattle.rules.specs.Rows.{rowAt, find, nextIndex, total, withoutRow, withRows, withOnlyRows, zeroRows}
 use Rattle.rules.specs.Sound.{ascends}
 use Rattle.rules.specs.Room.{fileNew, takeOut}
 use Rattle.rules.specs.Memory.{viewRows}
@@ -26,6 +26,7 @@ use Rattle.search.proofs.SearchLaws.{absent-inside, absent-none, none-searched}
 use Rattle.memory.proofs.RowLaws.{length-without, view-length}
 use Rattle.memory.specs.Edits.{withSeq, withStoredWeight, withRowCount}
 use Rattle.rows.specs.Insertions.{exchanged}
+use Rattle.filing.specs.Filings.{Over}
 use Rattle.filing.proofs.FiledRows.{in-order}
 
 -- ---- the place of a key once row i is gone
@@ -93,10 +94,10 @@ module _ (k : NodeAddr) (rs : List Row) (i p : ℕ) (a : ascends rs ≡ true) (l
       go false e = omega (arith, rw e at count-without)
 
 -- it is among the rows
-pub place-without : (l : List ℕ) (n i : ℕ) (k : NodeAddr) (j : ℕ) → i < n → searched k (withoutRow i (viewRows n l .rows)) ≡ Absent j → j < n
-place-without l n i k j h e =
+pub place-without : {k : NodeAddr} {n i c j : ℕ} {l : List ℕ} → Over k n i c l → searched k (withoutRow i (viewRows n l .rows)) ≡ Absent j → j < n
+place-without {k} {n} {i} {j = j} {l} o e =
     let m = view-length n l in
-    omega (arith, absent-inside k (withoutRow i (viewRows n l .rows)) j e, length-without i (viewRows n l .rows) (omega arith))
+    omega (arith, absent-inside k (withoutRow i (viewRows n l .rows)) j e, length-without i (viewRows n l .rows) (omega (arith, o .inside)), o .inside)
 
 -- ---- the new row
 
@@ -111,14 +112,16 @@ rest-kept i s h =
     let n = length-without i (s .rows) h in
     drop-at (zeroRows (length (s .rows) - length (withoutRow i (s .rows)))) (s .rest) rowSize (zeros (length (s .rows) - length (withoutRow i (s .rows))) ∙ omega arith)
 
--- c is the weight that is stored without row i
-pub filed-over : (k : NodeAddr) (e : Entry) (w p n i j c v q : ℕ) (r : Row) (s t u y x : State) → i < n → length (s .rows) ≡ n → ascends (s .rows) ≡ true → searched k (withoutRow i (s .rows)) ≡ Absent j
-    → c ≡ weighRows inMain (withoutRow i (s .rows)) → v ≡ c + cond (ltb p 2) w 0 → q ≡ s .seq + 1
-    → t ≡ withStoredWeight v s → u ≡ withSeq q t → y ≡ withRowCount n u → r ≡ record { key = k; entry = e; place = p; stampFirst = e .lastUsed; stampSeq = q; weight = w } → x ≡ exchanged i j r y → x ≡ fileNew k e w p (takeOut i s)
+-- c is the weight that is stored without row i, v with the new row
+pub filed-over : {k : NodeAddr} {n i c : ℕ} {l : List ℕ} (o : Over k n i c l) {e : Entry} {w p j v q : ℕ} {r : Row} {t u y x : State}
+    → searched k (withoutRow i (viewRows n l .rows)) ≡ Absent j → v ≡ c + cond (ltb p 2) w 0 → t ≡ withStoredWeight v (viewRows n l) → (q ≡ t .seq + 1) × (u ≡ withSeq q t) → y ≡ withRowCount n u
+    → r ≡ record { key = k; entry = e; place = p; stampFirst = e .lastUsed; stampSeq = q; weight = w } → x ≡ exchanged i j r y → x ≡ fileNew k e w p (takeOut i (viewRows n l))
 unfolding fileNew takeOut withOnlyRows exchanged withRows withStoredWeight withSeq withRowCount
-filed-over k e w p n i j c v q r s t u y x h l a g ec ev eq et eu ey er ex =
-    let b : ascends (withoutRow i (s .rows)) ≡ true = ascends-test (withoutRow i (s .rows)) (rising-without i (s .rows) (ascends-ok (s .rows) a)) in
+filed-over {k} {n} {i} {c} {l} o {e} {w} {p} {j} {v} {u = u} g ev et eq ey er ex =
+    let s = viewRows n l in
+    let h : i < length (s .rows) = omega (arith, o .inside, view-length n l) in
+    let b : ascends (withoutRow i (s .rows)) ≡ true = ascends-test (withoutRow i (s .rows)) (rising-without i (s .rows) (ascends-ok (s .rows) (o .rising))) in
     let d : Row = record { key = k; entry = e; place = p; stampFirst = e .lastUsed; stampSeq = s .seq + 1; weight = w } in
-    let o = in-order d v j (takeOut i s) b g refl (ev ∙ ap (λ (z : ℕ). z + cond (ltb p 2) w 0) ec) in
-    let m : n ≡ length (withoutRow i (s .rows)) + 1 = omega (arith, length-without i (s .rows) (omega arith)) in
-    ex ∙ rw (ey, eu, et, er, eq, o .0, o .1, rest-kept i s (omega arith)) (rw (m, o .2))
+    let f = in-order d v j (takeOut i s) b g refl (ev ∙ ap (λ (z : ℕ). z + cond (ltb p 2) w 0) (o .weighs)) in
+    let m : n ≡ length (withoutRow i (s .rows)) + 1 = omega (arith, length-without i (s .rows) h, view-length n l) in
+    ex ∙ rw (ey ∙ ap (λ (z : ℕ). withRowCount z u) (m ∙ f .2), eq .1, er, eq .0, et, f .0, f .1, rest-kept i s h)

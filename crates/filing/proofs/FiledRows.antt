@@ -10,53 +10,69 @@ use lib.ListN.{length, take, drop, length-append, length-take, length-drop}
 use Rattle.types.specs.declared.node_addr.NodeAddr.{NodeAddr}
 use Rattle.rules.specs.Records.{Entry, Row, State, maxRows, weightLimit}
 use Rattle.rules.specs.Rows.{rowAt, inMain, find, changeRow, insertInOrder, weighRows, mainWeight, withRows}
-use Rattle.rules.specs.Sound.{sound, ascends}
+use Rattle.rules.specs.Sound.{ascends}
 use Rattle.rules.specs.Room.{fileNew, stamp, raised}
 use Rattle.rules.specs.Memory.{capacity, viewRows}
 use Rattle.rules.proofs.RowLists.{total-insert}
-use Rattle.rules.proofs.SoundTest.{sound-is, ascends-test}
+use Rattle.rules.proofs.SoundTest.{Sound, sound-is, ascends-test}
 use Rattle.rules.proofs.Sizes.{light, few-rows}
 use Rattle.rules.specs.Layout.{headSize, rowSize}
+use Rattle.rules.proofs.Foreign.{view-length}
 use Rattle.search.specs.declared.outcome.Search.the-variants.{At, Absent}
 use Rattle.search.specs.declared.outcome.Search.{Search}
 use Rattle.search.specs.ByKey.{searched}
 use Rattle.search.proofs.SearchLaws.{absent-inside, absent-insert, none-searched}
-use Rattle.memory.proofs.RowLaws.{view-length}
 use Rattle.memory.specs.Edits.{withSeq, withStoredWeight, stampedAs}
+use Rattle.memory.proofs.Fields.{same-head}
 use Rattle.rows.specs.Insertions.{inserted}
+use Rattle.filing.specs.Filings.{Free}
 
--- ---- what a sound memory with a free row gives
+-- ---- what a row that is filed meets
 
 long : (R n m : ℕ) → R ≡ (m - headSize) / rowSize → n < R → headSize + (n + 1) * rowSize ≤ m
 long R n m e h = omega arith
 
-pub one-more-fits : (l : List ℕ) (n : ℕ) → n < capacity l → headSize + (n + 1) * rowSize ≤ length l
-unfolding capacity
-one-more-fits l n h = long ((length l - headSize) / rowSize) n (length l) refl h
+module _ {k : NodeAddr} {n : ℕ} {l : List ℕ} (f : Free k n l) where
+  pub one-more-fits : headSize + (n + 1) * rowSize ≤ length l
+  unfolding capacity
+  one-more-fits = long ((length l - headSize) / rowSize) n (length l) refl (f .room)
 
-pub rows-rise : (R : ℕ) (s : State) → sound R s ≡ true → ascends (s .rows) ≡ true
-rows-rise R s h = ascends-test (s .rows) (sound-is R s h .rising)
+  whole : Sound (capacity l) (viewRows n l)
+  whole = sound-is (capacity l) (viewRows n l) (f .without .sound)
 
-pub stored-light : (R : ℕ) (s : State) → sound R s ≡ true → s .storedWeight ≤ maxRows * weightLimit
-stored-light R s h = let d = sound-is R s h in omega (arith, d .storedWeight, light (s .seq) (s .rows) (d .each), few-rows R s d, d .small)
+  rows-rise : ascends (viewRows n l .rows) ≡ true
+  rows-rise = ascends-test (viewRows n l .rows) (whole .rising)
 
--- a new row's place is among the rows, or past the last
-pub place-inside : (l : List ℕ) (n : ℕ) (k : NodeAddr) (i : ℕ) → searched k (viewRows n l .rows) ≡ Absent i → i ≤ n
-place-inside l n k i h = omega (arith, absent-inside k (viewRows n l .rows) i h, view-length n l)
+  pub index-asks : (ascends (viewRows n l .rows) ≡ true) × (headSize + n * rowSize ≤ length l) × (find k (viewRows n l .rows) ≡ none)
+  index-asks = (rows-rise, omega (arith, one-more-fits), f .without .gone)
 
-pub rows-weigh : (R : ℕ) (s : State) → sound R s ≡ true → s .storedWeight ≡ mainWeight s
-rows-weigh R s h = sound-is R s h .storedWeight
+  pub head-there : headSize ≤ length l
+  head-there = omega (arith, one-more-fits)
+
+  pub stored-light : viewRows 0 l .storedWeight ≤ maxRows * weightLimit
+  stored-light =
+      let r = light (viewRows n l .seq) (viewRows n l .rows) (whole .each) in
+      omega (arith, same-head 0 n l .storedWeight, whole .storedWeight, few-rows (capacity l) (viewRows n l) whole, whole .small)
+
+  -- a new row's place is among the rows, or past the last
+  pub place-inside : {i : ℕ} → searched k (viewRows n l .rows) ≡ Absent i → i ≤ n
+  place-inside {i} h = omega (arith, absent-inside k (viewRows n l .rows) i h, view-length n l)
+
+-- what fits a memory of length b fits one of length c
+pub fits-kept : {a b c : ℕ} → c ≡ b → a ≤ b → a ≤ c
+fits-kept e h = omega arith
 
 -- a search for a key that has no row doesn't find one
-pub only-absent : (k : NodeAddr) (rs : List Row) (i j : ℕ) (r : Search) → find k rs ≡ none → r ≡ searched k rs → r ≡ At i → searched k rs ≡ Absent j
-only-absent k rs i j r h f g = let z = sym (none-searched k rs h) ∙ sym f ∙ g in cc
+pub only-absent : (k : NodeAddr) (rs : List Row) {i j : ℕ} {r : Search} → find k rs ≡ none → r ≡ searched k rs → r ≡ At i → searched k rs ≡ Absent j
+only-absent k rs h f g = let z = sym (none-searched k rs h) ∙ sym f ∙ g in cc
 
 -- ---- a new row
 
 one-longer : (i : ℕ) (r : Row) (rs : List Row) → i ≤ length rs → length (take i rs ++ (r ∷ drop i rs)) ≡ length rs + 1
 one-longer i r rs h = simp (length-append, length-take, length-drop) (omega arith)
 
-pub in-order : (r : Row) (w i : ℕ) (s : State) → ascends (s .rows) ≡ true → searched (r .key) (s .rows) ≡ Absent i → s .storedWeight ≡ mainWeight s → w ≡ s .storedWeight + cond (ltb (r .place) 2) (r .weight) 0
+pub in-order : (r : Row) (w i : ℕ) (s : State) → ascends (s .rows) ≡ true → searched (r .key) (s .rows) ≡ Absent i
+    → s .storedWeight ≡ mainWeight s → w ≡ s .storedWeight + cond (ltb (r .place) 2) (r .weight) 0
     → (take i (s .rows) ++ (r ∷ drop i (s .rows)) ≡ insertInOrder r (s .rows)) × (w ≡ weighRows inMain (insertInOrder r (s .rows))) × (length (s .rows) + 1 ≡ length (insertInOrder r (s .rows)))
 unfolding inMain
 in-order r w i s a h m e =
@@ -64,17 +80,19 @@ in-order r w i s a h m e =
     (sym o, omega (arith, total-insert (λ (x : Row). cond (ltb (x .place) 2) (x .weight) 0) r (s .rows)), sym (ap length o ∙ one-longer i r (s .rows) (absent-inside (r .key) (s .rows) i h)))
 
 -- a new stored weight leaves seq as it was
-pub same-seq : (v : ℕ) (s t : State) → t ≡ withStoredWeight v s → t .seq ≡ s .seq
+pub same-seq : (v : ℕ) (s : State) {t : State} → t ≡ withStoredWeight v s → t .seq ≡ s .seq
 unfolding withStoredWeight
-same-seq v s t e = ap (λ (x : State). x .seq) e
+same-seq v s e = ap (λ (x : State). x .seq) e
 
-pub filed : (k : NodeAddr) (e : Entry) (w p i v q : ℕ) (r : Row) (s t u x : State) → ascends (s .rows) ≡ true → searched k (s .rows) ≡ Absent i → s .storedWeight ≡ mainWeight s → v ≡ s .storedWeight + cond (ltb p 2) w 0 → q ≡ s .seq + 1
-    → t ≡ withStoredWeight v s → u ≡ withSeq q t → r ≡ record { key = k; entry = e; place = p; stampFirst = e .lastUsed; stampSeq = q; weight = w } → x ≡ inserted i r u → x ≡ fileNew k e w p s
-unfolding fileNew inserted withStoredWeight withSeq
-filed k e w p i v q r s t u x a h m ev eq et eu er ex =
-    let c : Row = record { key = k; entry = e; place = p; stampFirst = e .lastUsed; stampSeq = s .seq + 1; weight = w } in
-    let o = in-order c v i s a h m ev in
-    ex ∙ rw (eu, et, er, eq, o .0, o .1, o .2)
+-- at i, once the weight v is stored and the stamp q drawn
+pub filed : {k : NodeAddr} {n : ℕ} {l : List ℕ} (f : Free k n l) {e : Entry} {w p i v q : ℕ} {r : Row} {t u x : State}
+    → searched k (viewRows n l .rows) ≡ Absent i → v ≡ viewRows 0 l .storedWeight + cond (ltb p 2) w 0 → t ≡ withStoredWeight v (viewRows n l) → (q ≡ t .seq + 1) × (u ≡ withSeq q t)
+    → r ≡ record { key = k; entry = e; place = p; stampFirst = e .lastUsed; stampSeq = q; weight = w } → x ≡ inserted i r u → x ≡ fileNew k e w p (viewRows n l)
+unfolding fileNew inserted withStoredWeight withSeq viewRows
+filed {k} {n} {l} f {e} {w} {p} {i} {v} h ev et eq er ex =
+    let c : Row = record { key = k; entry = e; place = p; stampFirst = e .lastUsed; stampSeq = viewRows n l .seq + 1; weight = w } in
+    let o = in-order c v i (viewRows n l) (rows-rise f) h (whole f .storedWeight) ev in
+    ex ∙ rw (eq .1, er, eq .0, et, o .0, o .1, o .2)
 
 -- ---- a saved row
 
@@ -93,34 +111,45 @@ inserted-row : (i : ℕ) (r : Row) (s : State) → i ≤ length (s .rows) → ro
 unfolding inserted
 inserted-row i r s h = row-in i r (s .rows) h
 
-pub inserted-stored : (i : ℕ) (r : Row) (s t : State) → t ≡ inserted i r s → t .storedWeight ≡ s .storedWeight
-unfolding inserted
-inserted-stored i r s t e = ap (λ (x : State). x .storedWeight) e
-
-pub inserted-seq : (v i : ℕ) (r : Row) (s t u : State) → t ≡ inserted i r s → u ≡ withStoredWeight v t → u .seq ≡ s .seq
-unfolding inserted withStoredWeight
-inserted-seq v i r s t u et eu = ap (λ (x : State). x .seq) (eu ∙ ap (withStoredWeight v) et)
-
-stored-rows : (v : ℕ) (s : State) → withStoredWeight v s .rows ≡ s .rows
-unfolding withStoredWeight
-stored-rows v s = refl
-
-stamp-in : (f v i : ℕ) (r : Row) (s : State) → i ≤ length (s .rows) → stamp (stampedAs 0 f) i (withStoredWeight v (inserted i r s)) ≡ inserted i (stampedAs 0 f (s .seq + 1) r) (withSeq (s .seq + 1) (withStoredWeight v s))
+stamp-in : (f v i : ℕ) (r : Row) (s : State) → i ≤ length (s .rows)
+    → stamp (stampedAs 0 f) i (withStoredWeight v (inserted i r s)) ≡ inserted i (stampedAs 0 f (s .seq + 1) r) (withSeq (s .seq + 1) (withStoredWeight v s))
 unfolding stamp raised withRows inserted withStoredWeight withSeq
 stamp-in f v i r s h = rw (change-in (stampedAs 0 f (s .seq + 1)) i r (s .rows) h)
 
-saved-row : (k : NodeAddr) (f q : ℕ) (r : Row) → r .key ≡ k → f ≡ r .entry .lastUsed → stampedAs 0 f q r ≡ record { key = k; entry = r .entry; place = 0; stampFirst = r .entry .lastUsed; stampSeq = q; weight = r .weight }
+saved-row : (k : NodeAddr) (f q : ℕ) (r : Row) → r .key ≡ k → f ≡ r .entry .lastUsed
+    → stampedAs 0 f q r ≡ record { key = k; entry = r .entry; place = 0; stampFirst = r .entry .lastUsed; stampSeq = q; weight = r .weight }
 unfolding stampedAs
 saved-row k f q r e g = rw (e, g)
 
--- the row inserted as it was, its weight counted, and a stamp drawn for it
-pub filed-again : (k : NodeAddr) (w f v i : ℕ) (r : Row) (s t u x : State) → ascends (s .rows) ≡ true → searched k (s .rows) ≡ Absent i → s .storedWeight ≡ mainWeight s → r .key ≡ k
-    → t ≡ inserted i r s → w ≡ rowAt i (t .rows) .weight → v ≡ t .storedWeight + w → u ≡ withStoredWeight v t → f ≡ rowAt i (u .rows) .entry .lastUsed → x ≡ stamp (stampedAs 0 f) i u → x ≡ fileNew k (r .entry) (r .weight) 0 s
-filed-again k w f v i r s t u x a h m ek et ew ev eu ef ex =
-    let b = absent-inside k (s .rows) i h in
-    let w1 : w ≡ r .weight = ew ∙ ap (λ (y : State). rowAt i (y .rows) .weight) et ∙ ap (λ (y : Row). y .weight) (inserted-row i r s b) in
-    let v1 : v ≡ s .storedWeight + r .weight = ev ∙ rw (inserted-stored i r s t et, w1) in
-    let u1 : u ≡ withStoredWeight v (inserted i r s) = eu ∙ ap (withStoredWeight v) et in
-    let f1 : f ≡ r .entry .lastUsed = ef ∙ ap (λ (y : State). rowAt i (y .rows) .entry .lastUsed) u1 ∙ ap (λ (rs : List Row). rowAt i rs .entry .lastUsed) (stored-rows v (inserted i r s)) ∙ ap (λ (y : Row). y .entry .lastUsed) (inserted-row i r s b) in
-    filed k (r .entry) (r .weight) 0 i v (s .seq + 1) (stampedAs 0 f (s .seq + 1) r) s (withStoredWeight v s) (withSeq (s .seq + 1) (withStoredWeight v s)) x a h m v1 refl refl refl (saved-row k f (s .seq + 1) r ek f1)
-    (ex ∙ ap (stamp (stampedAs 0 f) i) u1 ∙ stamp-in f v i r s b)
+-- row r, of key k, stands at i among the rows of memory m, as it was: those of memory l were n
+pub record Standing (k : NodeAddr) (n i : ℕ) (r : Row) (l m : List ℕ) : Type 0 where
+  pub free : Free k n l
+  pub at : searched k (viewRows n l .rows) ≡ Absent i
+  pub key : r .key ≡ k
+  pub size : length m ≡ length l
+  pub state : viewRows (n + 1) m ≡ inserted i r (viewRows n l)
+
+module _ {k : NodeAddr} {n i : ℕ} {r : Row} {l m : List ℕ} (s : Standing k n i r l m) where
+  pub row-there : (i < n + 1) × (headSize + (n + 1) * rowSize ≤ length m)
+  row-there = (omega (arith, place-inside (s .free) (s .at)), omega (arith, one-more-fits (s .free), s .size))
+
+  pub count-asks : (headSize ≤ length m) × (viewRows 0 m .storedWeight ≤ maxRows * weightLimit)
+  unfolding inserted
+  count-asks = (omega (arith, row-there), omega (arith, stored-light (s .free), same-head 0 (n + 1) m .storedWeight, ap (λ (x : State). x .storedWeight) (s .state), same-head 0 n l .storedWeight))
+
+  pub seq-left : viewRows (n + 1) m .seq < 18446744073709551615
+  unfolding inserted
+  seq-left = rw (s .state) (s .free .seq)
+
+  -- its weight counted, and a stamp drawn for it
+  pub filed-unchanged : {w v first : ℕ} {u x : State} → w ≡ rowAt i (viewRows (n + 1) m .rows) .weight → v ≡ viewRows 0 m .storedWeight + w → u ≡ withStoredWeight v (viewRows (n + 1) m)
+      → first ≡ rowAt i (u .rows) .entry .lastUsed → x ≡ stamp (stampedAs 0 first) i u → x ≡ fileNew k (r .entry) (r .weight) 0 (viewRows n l)
+  unfolding inserted withStoredWeight
+  filed-unchanged {w} {v} {first} ew ev eu ef ex =
+      let q = viewRows n l .seq + 1 in
+      let b = absent-inside k (viewRows n l .rows) i (s .at) in
+      let w1 : w ≡ r .weight = ew ∙ rw (s .state, inserted-row i r (viewRows n l) b) in
+      let v1 : v ≡ viewRows 0 l .storedWeight + r .weight = omega (arith, ev, w1, same-head 0 (n + 1) m .storedWeight, same-head 0 n l .storedWeight, ap (λ (y : State). y .storedWeight) (s .state)) in
+      let u1 = eu ∙ ap (withStoredWeight v) (s .state) in
+      let f1 : first ≡ r .entry .lastUsed = ef ∙ rw (u1, inserted-row i r (viewRows n l) b) in
+      filed (s .free) (s .at) v1 refl (refl, refl) (saved-row k first q r (s .key) f1) (ex ∙ ap (stamp (stampedAs 0 first) i) u1 ∙ stamp-in first v i r (viewRows n l) b)

@@ -9,8 +9,8 @@ use Rattle.rules.specs.Rows.{rowAt, inMain, changeRow, withRows}
 use Rattle.rules.specs.Entries.{update, markHint, addTimes}
 use Rattle.rules.specs.Room.{refiled, raised, stamp, refile, restamp}
 use Rattle.rules.specs.Lookups.{rewrite, withEntry}
+use Rattle.rules.proofs.RowLists.{change-at, change-twice, row-changed}
 use Rattle.memory.specs.Edits.{withWeight, withTimes}
-use Rattle.memory.proofs.RowChanges.{change-at, change-twice, row-changed}
 use Rattle.rows.specs.Insertions.{withPath}
 
 -- ---- an update
@@ -23,9 +23,10 @@ update-steps : (p : Path) (time ttl i : ℕ) (s : State) → rewrite (λ e. mark
 unfolding update markHint withTimes withPath
 update-steps p time ttl i s = refl
 
-pub updated : (p : Path) (time ttl expires i : ℕ) (s t u x : State) → expires ≡ addTimes time ttl → t ≡ rewrite (withPath p) i s → u ≡ rewrite (withTimes time expires) i t → x ≡ rewrite markHint i u → x ≡ rewrite (update p time ttl) i s
-updated p time ttl expires i s t u x e et eu ex =
-    ex ∙ ap (rewrite markHint i) (eu ∙ rw e (ap (rewrite (withTimes time (addTimes time ttl)) i) et ∙ rewrite-twice (withPath p) (withTimes time (addTimes time ttl)) i s))
+pub updated : (p : Path) (time ttl i : ℕ) (s : State) {expires : ℕ} {t u x : State} → expires ≡ addTimes time ttl
+    → t ≡ rewrite (withPath p) i s → u ≡ rewrite (withTimes time expires) i t → x ≡ rewrite markHint i u → x ≡ rewrite (update p time ttl) i s
+updated p time ttl i s e et eu ex =
+    ex ∙ ap (rewrite markHint i) (eu ∙ rw (e, et) (rewrite-twice (withPath p) (withTimes time (addTimes time ttl)) i s))
     ∙ rewrite-twice (λ y. withTimes time (addTimes time ttl) (withPath p y)) markHint i s ∙ update-steps p time ttl i s
 
 -- ---- a row refiled
@@ -34,13 +35,13 @@ weighed-row : (q w : ℕ) (r : Row) → refiled q (withWeight w r .entry) (withW
 unfolding refiled withWeight inMain
 weighed-row q w r = refl
 
-pub weighed-seq : (w i : ℕ) (s t : State) → t ≡ withRows (changeRow (withWeight w) i (s .rows)) s → t .seq ≡ s .seq
+pub weighed-seq : (w i : ℕ) (s : State) {t : State} → t ≡ withRows (changeRow (withWeight w) i (s .rows)) s → t .seq ≡ s .seq
 unfolding withRows
-weighed-seq w i s t e = ap (λ (x : State). x .seq) e
+weighed-seq w i s e = ap (λ (x : State). x .seq) e
 
-pub weighed-refiled : (w i : ℕ) (s t x : State) → t ≡ withRows (changeRow (withWeight w) i (s .rows)) s → x ≡ restamp i t → x ≡ refile (rowAt i (s .rows) .entry) w i s
+pub weighed-refiled : (w i : ℕ) (s : State) {t x : State} → t ≡ withRows (changeRow (withWeight w) i (s .rows)) s → x ≡ restamp i t → x ≡ refile (rowAt i (s .rows) .entry) w i s
 unfolding restamp refile stamp raised withRows
-weighed-refiled w i s t x et ex =
+weighed-refiled w i s et ex =
     let q = s .seq + 1 in
     let r = rowAt i (s .rows) in
     let e : changeRow (λ y. refiled q (y .entry) (y .weight) y) i (changeRow (withWeight w) i (s .rows)) ≡ changeRow (refiled q (r .entry) w) i (s .rows) =
@@ -57,16 +58,17 @@ rewritten-entry : (f : Entry → Entry) (i : ℕ) (s : State) → i < length (s 
 unfolding rewrite withRows withEntry
 rewritten-entry f i s h = ap (λ (r : Row). r .entry) (row-changed (λ r. withEntry (f (r .entry)) r) i (s .rows) h)
 
-pub rewritten-seq : (f : Entry → Entry) (i : ℕ) (s t : State) → t ≡ rewrite f i s → t .seq ≡ s .seq
+pub rewritten-seq : (f : Entry → Entry) (i : ℕ) (s : State) {t : State} → t ≡ rewrite f i s → t .seq ≡ s .seq
 unfolding rewrite withRows
-rewritten-seq f i s t e = ap (λ (x : State). x .seq) e
+rewritten-seq f i s e = ap (λ (x : State). x .seq) e
 
 refile-rewritten : (f : Entry → Entry) (e : Entry) (w i : ℕ) (s : State) → refile e w i (rewrite f i s) ≡ refile e w i s
 unfolding refile stamp raised rewrite withRows
 refile-rewritten f e w i s =
     let q = s .seq + 1 in
-    ap (λ (rs : List Row). withRows rs (raised s)) (change-twice (λ r. withEntry (f (r .entry)) r) (refiled q e w) i (s .rows) ∙ change-at _ (refiled q e w) i (s .rows) (entry-row f q w e (rowAt i (s .rows))))
+    ap (λ (rs : List Row). withRows rs (raised s))
+    (change-twice (λ r. withEntry (f (r .entry)) r) (refiled q e w) i (s .rows) ∙ change-at _ (refiled q e w) i (s .rows) (entry-row f q w e (rowAt i (s .rows))))
 
-pub rewritten-refiled : (f : Entry → Entry) (w i : ℕ) (s t x : State) → i < length (s .rows) → t ≡ rewrite f i s → x ≡ refile (rowAt i (t .rows) .entry) w i t → x ≡ refile (f (rowAt i (s .rows) .entry)) w i s
-rewritten-refiled f w i s t x h et ex =
-    ex ∙ ap (λ (y : State). refile (rowAt i (y .rows) .entry) w i y) et ∙ ap (λ (e : Entry). refile e w i (rewrite f i s)) (rewritten-entry f i s h) ∙ refile-rewritten f (f (rowAt i (s .rows) .entry)) w i s
+pub rewritten-refiled : (f : Entry → Entry) (w i : ℕ) (s : State) {t x : State} → i < length (s .rows) → t ≡ rewrite f i s
+    → x ≡ refile (rowAt i (t .rows) .entry) w i t → x ≡ refile (f (rowAt i (s .rows) .entry)) w i s
+rewritten-refiled f w i s h et ex = ex ∙ rw (et, rewritten-entry f i s h) (refile-rewritten f (f (rowAt i (s .rows) .entry)) w i s)

@@ -18,15 +18,14 @@ use Rattle.rules.proofs.Walks.{Roomed, room-roomed}
 use Rattle.rules.proofs.Moves.{ready, room-sound, probation-twice}
 use Rattle.rules.proofs.Others.{room-gone, made-free}
 use Rattle.rules.specs.Layout.{headSize, rowSize}
-use Rattle.memory.proofs.RowLaws.{view-length}
+use Rattle.rules.proofs.Foreign.{view-length}
 use Rattle.stamps.specs.declared.lowest.Lowest.{Lowest}
 use Rattle.stamps.specs.declared.lowest.Lowest.the-variants.{At, Nothing}
 use Rattle.room.specs.declared.victims.Room.{Room as RoomAnswer}
-use Rattle.room.specs.Rooms.{roomOf, withoutVictim, Leaves, LeftAt, Without, StampsLeft}
+use Rattle.room.specs.Rooms.{roomOf, withoutVictim, Leaves, Without, StampsLeft}
 use Rattle.room.proofs.ClosedForm.{main-visits, probation-visits}
 use Rattle.room.proofs.RoomToFile.{shown, laid-out, few, free-in-main, reached-without, without-gone}
 use Rattle.room.proofs.LeftVictims.{without-none}
-use Rattle.filing.specs.Filings.{Over}
 use Rattle.filing.specs.InRoom.{Takes}
 
 -- ---- before
@@ -47,14 +46,20 @@ unfolding withoutVictim takeOut withOnlyRows
 victim-seq (At i) s = refl
 victim-seq Nothing s = refl
 
-pub over-victim : (k : NodeAddr) (n j i w : ℕ) (l m : List ℕ) → Without k n l → length m ≡ length l → j ≤ n → LeftAt i w (viewRows n l .rows) (viewRows j m .rows) → Over k j i w m
-over-victim k n j i w l m wo z h d = record {
-  fits = omega (arith, laid-out n l (wo .sound));
-  inside = omega (arith, d .inside, view-length j m);
-  rising = d .rising;
-  gone = d .gone k (wo .gone);
-  weighs = d .weighs;
-  light = d .light;
+-- what a row asks that takes its place, or a free row
+pub left-takes : {k : NodeAddr} {v : Lowest} {w n j : ℕ} {l m : List ℕ} → Without k n l → length m ≡ length l → j ≤ n → Leaves v w (viewRows n l .rows) (viewRows j m .rows)
+    → viewRows j m .seq < 18446744073709551615 → (v ≡ Nothing → Without k j m × (j < capacity m)) → Takes k v w j m
+left-takes {k} {n = n} {j} {l} {m} wo z h d q f = record {
+  free = λ e. record { without = f e .0; room = f e .1; seq = q };
+  over = λ i e. record {
+    fits = omega (arith, laid-out n l (wo .sound));
+    inside = omega (arith, d i e .inside, view-length j m);
+    rising = d i e .rising;
+    gone = d i e .gone k (wo .gone);
+    weighs = d i e .weighs;
+    light = d i e .light;
+    seq = q;
+  };
 }
 
 -- ---- after
@@ -68,9 +73,17 @@ pub record Sought (l m : List ℕ) (n time w : ℕ) (r : RoomAnswer) : Type 0 wh
   pub none : r .made ≡ false → r .victim ≡ Nothing
 
 pub sought : (l m : List ℕ) (n time w : ℕ) (r : RoomAnswer) → length m ≡ length l
-    → (roomOf r (viewRows (r .rows) m) ≡ makeRoom time w (viewRows n l)) × (r .rows ≤ n) × Leaves (r .victim) (r .stored) (viewRows n l .rows) (viewRows (r .rows) m .rows) × (r .made ≡ false → r .victim ≡ Nothing)
+    → (roomOf r (viewRows (r .rows) m) ≡ makeRoom time w (viewRows n l)) × (r .rows ≤ n)
+    × Leaves (r .victim) (r .stored) (viewRows n l .rows) (viewRows (r .rows) m .rows) × (r .made ≡ false → r .victim ≡ Nothing)
     → Sought l m n time w r
 sought l m n time w r z e = record { size = z; room = e .0; rows = e .1; leaves = e .2; none = e .3 }
+
+-- the same, where the weight that was asked for is w
+pub sought-for : {l m : List ℕ} {n time v w : ℕ} {r : RoomAnswer} → v ≡ w → length m ≡ length l
+    → (roomOf r (viewRows (r .rows) m) ≡ makeRoom time v (viewRows n l)) × (r .rows ≤ n)
+    × Leaves (r .victim) (r .stored) (viewRows n l .rows) (viewRows (r .rows) m .rows) × (r .made ≡ false → r .victim ≡ Nothing)
+    → Sought l m n time w r
+sought-for {l} {m} {n} {time} {r = r} g z e = rw (← g) (sought l m n time _ r z e)
 
 module _ (k : NodeAddr) (n : ℕ) (l m : List ℕ) (time w : ℕ) (r : RoomAnswer) (wo : Without k n l) (so : Sought l m n time w r) where
   pub left-state : withoutVictim (r .victim) (viewRows (r .rows) m) ≡ makeRoom time w (viewRows n l) .state
@@ -102,7 +115,10 @@ module _ (k : NodeAddr) (n : ℕ) (l m : List ℕ) (time w : ℕ) (r : RoomAnswe
   free-state e = sym (without-none (r .victim) (viewRows (r .rows) m) e) ∙ left-state
 
   pub still-without : r .victim ≡ Nothing → Without k (r .rows) m
-  still-without e = reached-without k l m (r .rows) (makeRoom time w (viewRows n l) .state) (record { size = so .size; state = free-state e }) (room-sound (capacity l) (viewRows n l) (shown n l (wo .sound)) time w) (room-gone k time w (viewRows n l) (shown n l (wo .sound)) (without-gone k n l wo))
+  still-without e =
+      let s = shown n l (wo .sound) in
+      reached-without k l m (r .rows) (makeRoom time w (viewRows n l) .state) (record { size = so .size; state = free-state e })
+      (room-sound (capacity l) (viewRows n l) s time w) (room-gone k time w (viewRows n l) s (without-gone k n l wo))
 
   -- a row is free in main
   pub free-main : mainCount (makeRoom time w (viewRows n l) .state) < mainBound (capacity l) (makeRoom time w (viewRows n l) .state .maxEntries) → r .victim ≡ Nothing → r .rows < capacity m
@@ -112,11 +128,9 @@ module _ (k : NodeAddr) (n : ℕ) (l m : List ℕ) (time w : ℕ) (r : RoomAnswe
   made-in-main t = free-main (made-free (viewRows n l) (shown n l (wo .sound)) time w (sym room-made ∙ t))
 
   pub takes : (r .victim ≡ Nothing → r .rows < capacity m) → viewRows n l .seq ≤ 18446744073709547519 → Takes k (r .victim) (r .stored) (r .rows) m
-  takes f q = record {
-    free = λ e. (still-without e, f e);
-    over = λ i e. over-victim k n (r .rows) i (r .stored) l m wo (so .size) (so .rows) (so .leaves i e);
-    seq = omega (arith, room-seq q, victim-seq (r .victim) (viewRows (r .rows) m), ap (λ (x : State). x .seq) left-state);
-  }
+  takes f q =
+      let s : viewRows (r .rows) m .seq < 18446744073709551615 = omega (arith, room-seq q, victim-seq (r .victim) (viewRows (r .rows) m), ap (λ (x : State). x .seq) left-state) in
+      left-takes wo (so .size) (so .rows) (so .leaves) s (λ e. (still-without e, f e))
 
   -- no room was made
   visits : r .victim ≡ Nothing → total probationVisits (viewRows (r .rows) m .rows) ≤ 2 * probationCount (viewRows n l)

@@ -1,4 +1,4 @@
--- A path that can be written; a row that may leave for another.
+-- A path that can be written; a row that is free, or may leave for another.
 use Prim.Native.Nat.{ℕ, _+_, _*_, _≤_, _<_}
 use mathlib.Core.Path.{_≡_}
 use mathlib.Core.Bool.{true}
@@ -11,13 +11,20 @@ use Rattle.types.specs.Paths.{pathPlaces}
 use Rattle.rules.specs.Records.{maxRows, weightLimit}
 use Rattle.rules.specs.Rows.{find, inMain, weighRows, withoutRow}
 use Rattle.rules.specs.Sound.{ascends}
-use Rattle.rules.specs.Memory.{viewRows}
+use Rattle.rules.specs.Memory.{capacity, viewRows}
 use Rattle.rules.specs.Layout.{headSize, rowSize}
+use Rattle.room.specs.Rooms.{Without}
 
 -- a path that can be written: 1 to 32 elements
 pub record Writable (p : Path) : Type 0 where
   pub long : 1 ≤ p .len
   pub short : p .len ≤ pathPlaces
+
+-- n rows of a sound state without key k, a row free for it, and a stamp left to draw
+pub record Free (k : NodeAddr) (n : ℕ) (l : List ℕ) : Type 0 where
+  pub without : Without k n l
+  pub room : n < capacity l
+  pub seq : viewRows n l .seq < 18446744073709551615
 
 -- row i of n may leave for a row of key k; w is the weight that is stored without it
 pub record Over (k : NodeAddr) (n i w : ℕ) (l : List ℕ) : Type 0 where
@@ -27,3 +34,4 @@ pub record Over (k : NodeAddr) (n i w : ℕ) (l : List ℕ) : Type 0 where
   pub gone : find k (viewRows n l .rows) ≡ none
   pub weighs : w ≡ weighRows inMain (withoutRow i (viewRows n l .rows))
   pub light : w ≤ maxRows * weightLimit
+  pub seq : viewRows n l .seq < 18446744073709551615

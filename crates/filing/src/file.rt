@@ -21,13 +21,13 @@ ghost use lib.ListN.{length};
 ghost use Rattle.types.specs.Paths.{pathPlaces};
 ghost use Rattle.rules.specs.Records.{byUse, probation, maxRows, weightLimit};
 ghost use Rattle.rules.specs.Rows.{find, withoutRow};
-ghost use Rattle.rules.specs.Sound.{sound, ascends};
+ghost use Rattle.rules.specs.Sound.{ascends};
 ghost use Rattle.rules.specs.Room.{fileNew, takeOut};
-ghost use Rattle.rules.specs.Memory.{rowOf, capacity, viewRows};
+ghost use Rattle.rules.specs.Memory.{rowOf, viewRows};
 ghost use Rattle.rules.specs.Layout.{headSize, rowSize};
 ghost use Rattle.search.specs.declared.outcome.Search.the-variants.{Absent};
 ghost use Rattle.search.specs.ByKey.{searched};
-ghost use Rattle.filing.specs.Filings.{Over};
+ghost use Rattle.filing.specs.Filings.{Free, Over};
 ghost use Rattle.entries.specs.NewEntries.{entryFrom};
 
 // The row that a key without one becomes.
@@ -72,8 +72,15 @@ fn stored_with(state: &[u8], weight: u8, place: u8) -> u64
 }
 
 // A new row, under the stamp (last_used, seq + 1).
-pub fn file_new(state: &mut [u8], n: usize, key: NodeAddr, e: NewEntry, weight: u8, place: u8)
-    requires { ⌜ (sound (capacity (now state)) (viewRows n (now state)) ≡ true) × (n < capacity (now state)) × (find key (viewRows n (now state) .rows) ≡ none) × (viewRows n (now state) .seq < 18446744073709551615) × (e .path .len ≤ pathPlaces) ⌝ }
+pub(crate) fn file_new(
+    state: &mut [u8],
+    n: usize,
+    key: NodeAddr,
+    e: NewEntry,
+    weight: u8,
+    place: u8,
+)
+    requires { ⌜ Free key n (now state) × (e .path .len ≤ pathPlaces) ⌝ }
     ensures { λ _. ⌜ viewRows (n + 1) (now (state .exit)) ≡ fileNew key (entryFrom e) weight place (viewRows n (now (state .entry))) ⌝ }
 {
     let i = index_for(state, n, key);
@@ -104,7 +111,7 @@ pub fn file_new(state: &mut [u8], n: usize, key: NodeAddr, e: NewEntry, weight: 
 }
 
 // Row i leaves, and a new row is filed under the stamp (last_used, seq + 1). `stored` is the weight that is stored without row i.
-pub fn file_over_victim(
+pub(crate) fn file_over_victim(
     state: &mut [u8],
     n: usize,
     i: usize,
@@ -114,7 +121,7 @@ pub fn file_over_victim(
     weight: u8,
     place: u8,
 )
-    requires { ⌜ Over key n i stored (now state) × (viewRows n (now state) .seq < 18446744073709551615) × (e .path .len ≤ pathPlaces) ⌝ }
+    requires { ⌜ Over key n i stored (now state) × (e .path .len ≤ pathPlaces) ⌝ }
     ensures { λ _. ⌜ viewRows n (now (state .exit)) ≡ fileNew key (entryFrom e) weight place (takeOut i (viewRows n (now (state .entry)))) ⌝ }
 {
     let j = index_without(state, n, i, key);
@@ -147,7 +154,7 @@ pub fn file_over_victim(
 
 // A saved row goes back as it was, but as ByUse and under the stamp (last_used, seq + 1).
 pub fn file_unchanged(state: &mut [u8], n: usize, key: NodeAddr, row: [u8; ROW])
-    requires { ⌜ (sound (capacity (now state)) (viewRows n (now state)) ≡ true) × (n < capacity (now state)) × (find key (viewRows n (now state) .rows) ≡ none) × (viewRows n (now state) .seq < 18446744073709551615) × (rowOf row .key ≡ key) ⌝ }
+    requires { ⌜ Free key n (now state) × (rowOf row .key ≡ key) ⌝ }
     ensures { λ _. ⌜ viewRows (n + 1) (now (state .exit)) ≡ fileNew key (rowOf row .entry) (rowOf row .weight) byUse (viewRows n (now (state .entry))) ⌝ }
 {
     let i = index_for(state, n, key);

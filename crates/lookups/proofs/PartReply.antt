@@ -56,13 +56,22 @@ part-of l n i s h =
 
 inside : (k : NodeAddr) (time : ℕ) (s : State) (i : ℕ) → unexpiredRow k time s ≡ some i → i < length (s .rows)
 unfolding unexpiredRow
-inside k time s i = by-maybe (λ (o : Option ℕ). o ≡ some i → i < length (s .rows)) (find k (s .rows)) (λ e g. contradiction {b = true} refl (cc))
-    (λ j e. by-cond (λ (o : Option ℕ). o ≡ some i → i < length (s .rows)) (expired time (rowAt j (s .rows) .entry)) (λ x g. contradiction {b = true} refl (cc)) (λ x g. let z : j ≡ i = cc in subst (λ (n : ℕ). n < length (s .rows)) z (find-at k (s .rows) j e .inside)))
+inside k time s i = by-maybe P (find k (s .rows)) (λ e g. contradiction {b = true} refl (cc))
+    (λ j e. by-cond P (expired time (rowAt j (s .rows) .entry)) (λ x g. contradiction {b = true} refl (cc))
+    (λ x g. let z : j ≡ i = cc in subst (λ (n : ℕ). n < length (s .rows)) z (find-at k (s .rows) j e .inside)))
+  where
+    P : Option ℕ → Type 0
+    P o = o ≡ some i → i < length (s .rows)
 
 pub got-reply : (l : List ℕ) (k : NodeAddr) (time : ℕ) → sound (capacity l) (view l) ≡ true → partReply (length (gotPart k time l)) ≡ reply (call l (Get k time) .answer)
 unfolding gotPart foundPart lent serve performRequest perform get gives reply partReply pathGiven verifiedWrite drawsStamps
 got-reply l k time h = rw (not-refused l (Get k time) h refl refl refl) (go (unexpiredRow k time (view l)) refl)
   where
-    go : (o : Option ℕ) → unexpiredRow k time (view l) ≡ o → partReply (length (maybe o [] (λ i. pathPart i (rowAt i (view l .rows) .entry .path .len) l))) ≡ reply (PathFound (maybe o none (λ i. some (elements (rowAt i (view l .rows) .entry .path)))))
+    go : (o : Option ℕ) → unexpiredRow k time (view l) ≡ o → partReply (length (maybe o [] (λ i. pathPart i (rowAt i (view l .rows) .entry .path .len) l)))
+        ≡ reply (PathFound (maybe o none (λ i. some (elements (rowAt i (view l .rows) .entry .path)))))
     go none e = refl
-    go (some i) e = let s = sound-memory l (viewRows 0 l .rowCount) h refl in let p = part-of l (viewRows 0 l .rowCount) i s (subst (λ (n : ℕ). i < n) (ap (λ (x : State). length (x .rows)) (sym (s .same)) ∙ s .rows) (inside k time (view l) i e)) in ap partReply (p .bytes) ∙ found-reply (rowAt i (view l .rows) .entry .path .len) (p .long) ∙ ap (λ (x : ℕ). says 1 x 0 0 0) (sym (p .count))
+    go (some i) e =
+        let s = sound-memory l (viewRows 0 l .rowCount) h refl in
+        let j = subst (λ (n : ℕ). i < n) (ap (λ (x : State). length (x .rows)) (sym (s .same)) ∙ s .rows) (inside k time (view l) i e) in
+        let p = part-of l (viewRows 0 l .rowCount) i s j in
+        ap partReply (p .bytes) ∙ found-reply (rowAt i (view l .rows) .entry .path .len) (p .long) ∙ ap (λ (x : ℕ). says 1 x 0 0 0) (sym (p .count))

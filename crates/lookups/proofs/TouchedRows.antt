@@ -1,18 +1,16 @@
--- get_and_touch, by row.
-use mathlib.Core.Path.{_≡_, refl, sym, ap, _∙_, subst}
-use Prim.Native.Nat.{ℕ, zero, suc, _+_, _*_, _-_, _≤_, _<_}
-use native.Mathlib.Omega.{arith}
+-- A row that is refreshed, or leaves where it is expired, is what get_and_touch leaves.
+use mathlib.Core.Path.{_≡_, refl, sym, ap, _∙_}
+use Prim.Native.Nat.{ℕ, _-_}
 use mathlib.Core.List.{List}
 use mathlib.Core.Option.{Option, none, some}
 use mathlib.Core.Bool.{Bool, true, false, cond}
-use lib.ListN.{length, drop}
-use lib.Seq.{length-take-le}
+use lib.ListN.{length}
 use Rattle.types.specs.declared.node_addr.NodeAddr.{NodeAddr}
 use Rattle.types.specs.declared.coord.CoordEntry.{CoordEntry}
-use Rattle.types.specs.Paths.{elements, pathPlaces}
+use Rattle.types.specs.Paths.{elements}
 use Rattle.types.specs.declared.answers.TouchAnswer.{TouchAnswer}
 use Rattle.rules.specs.Cases.{maybe}
-use Rattle.rules.specs.Records.{Row, State}
+use Rattle.rules.specs.Records.{State}
 use Rattle.rules.specs.Rows.{rowAt, find}
 use Rattle.rules.specs.Sound.{sound}
 use Rattle.rules.specs.Entries.{addTimes, expired, refresh}
@@ -24,46 +22,45 @@ use Rattle.rules.specs.Answers.{refusalOf, touchAnswer, touchReply}
 use Rattle.rules.specs.Commands.{reply}
 use Rattle.rules.specs.Memory.{capacity, viewRows, view}
 use Rattle.rules.specs.Lent.{Bytes, lent, call}
-use Rattle.rules.proofs.SoundTest.{RowOk}
-use Rattle.rules.proofs.RowLists.{every-at}
-use Rattle.rules.proofs.Public.{SoundMemory, unsound-one}
+use Rattle.rules.proofs.Public.{unsound-one}
 use Rattle.memory.proofs.RowLaws.{view-length}
 use Rattle.memory.specs.Edits.{withTimes}
 use Rattle.entries.proofs.PathElements.{elements-length}
-use Rattle.refusals.proofs.SoundCalls.{done-with, not-refused, rewritten-length, out-length}
+use Rattle.refusals.proofs.SoundCalls.{Answered, done-rows, not-refused}
+use Rattle.refusals.proofs.SearchedKeys.{Found, inside}
+use Rattle.lookups.proofs.FoundRows.{path-short}
 use Rattle.lookups.specs.Steps.{touchedAt, touchSays}
 
 -- ---- row i
 
-pub touched-out : (l : List ℕ) (n i time : ℕ) (m : List ℕ) → i < n → expired time (rowAt i (viewRows n l .rows) .entry) ≡ true → viewRows (n - 1) m ≡ takeOut i (viewRows n l)
-    → (TouchAnswer.Absent ≡ touchSays i time (viewRows n l)) × (viewRows (length (touchedAt i time (viewRows n l) .rows)) m ≡ touchedAt i time (viewRows n l))
-unfolding touchSays touchedAt
-touched-out l n i time m h x v = rw x (refl, ap (λ (k : ℕ). viewRows k m) (out-length l n i h) ∙ v)
+-- a view of n rows is one of all its rows
+all-shown : (n : ℕ) (m : List ℕ) (s : State) → viewRows n m ≡ s → viewRows (length (s .rows)) m ≡ s
+all-shown n m s e = ap (λ (j : ℕ). viewRows j m) (ap (λ (x : State). length (x .rows)) (sym e) ∙ view-length n m) ∙ e
 
-pub touched-kept : (l : List ℕ) (n i time len : ℕ) (m : List ℕ) → expired time (rowAt i (viewRows n l .rows) .entry) ≡ false → len ≡ rowAt i (viewRows n l .rows) .entry .path .len → viewRows n m ≡ rewrite (refresh time (viewRows n l .defaultTtl)) i (viewRows n l)
-    → (TouchAnswer.Found len ≡ touchSays i time (viewRows n l)) × (viewRows (length (touchedAt i time (viewRows n l) .rows)) m ≡ touchedAt i time (viewRows n l))
-unfolding touchSays touchedAt
-touched-kept l n i time len m x e v = rw x (ap TouchAnswer.Found e, ap (λ (k : ℕ). viewRows k m) (rewritten-length (refresh time (viewRows n l .defaultTtl)) i (viewRows n l) ∙ view-length n l) ∙ v)
+-- what a touch of row i tells, and leaves in memory m
+abbrev pub Touched : List ℕ → ℕ → ℕ → ℕ → TouchAnswer → List ℕ → Type 0
+Touched l n i time r m = (r ≡ touchSays i time (viewRows n l)) × (viewRows (length (touchedAt i time (viewRows n l) .rows)) m ≡ touchedAt i time (viewRows n l))
+
+module _ (l : List ℕ) (n i time : ℕ) (m : List ℕ) where
+  pub touched-out : expired time (rowAt i (viewRows n l .rows) .entry) ≡ true → viewRows (n - 1) m ≡ takeOut i (viewRows n l)
+      → Touched l n i time TouchAnswer.Absent m
+  unfolding touchSays touchedAt
+  touched-out x v = rw x (refl, all-shown (n - 1) m _ v)
+
+  pub touched-kept : (len : ℕ) → expired time (rowAt i (viewRows n l .rows) .entry) ≡ false → len ≡ rowAt i (viewRows n l .rows) .entry .path .len
+      → viewRows n m ≡ rewrite (refresh time (viewRows n l .defaultTtl)) i (viewRows n l) → Touched l n i time (TouchAnswer.Found len) m
+  unfolding touchSays touchedAt
+  touched-kept len x e v = rw x (ap TouchAnswer.Found e, all-shown n m _ v)
 
 -- ---- the call
 
-touch-state : (k : NodeAddr) (time : ℕ) (s : State) (i : ℕ) → find k (s .rows) ≡ some i → perform s (GetAndTouch k time) .state ≡ touchedAt i time s
-unfolding perform gives touched touchedAt
-touch-state k time s i e = rw e
-
-touch-absent-state : (k : NodeAddr) (time : ℕ) (s : State) → find k (s .rows) ≡ none → perform s (GetAndTouch k time) .state ≡ s
-unfolding perform gives touched
-touch-absent-state k time s e = rw e
-
-touch-absent-says : (k : NodeAddr) (time : ℕ) (s : State) → find k (s .rows) ≡ none → touchAnswer (perform s (GetAndTouch k time) .answer) ≡ TouchAnswer.Absent
-unfolding perform gives get unexpiredRow touchAnswer
-touch-absent-says k time s e = rw e
-
-touch-says : (k : NodeAddr) (time : ℕ) (s : State) (i : ℕ) → find k (s .rows) ≡ some i → length (elements (rowAt i (s .rows) .entry .path)) ≡ rowAt i (s .rows) .entry .path .len → touchAnswer (perform s (GetAndTouch k time) .answer) ≡ touchSays i time s
+touch-says : (k : NodeAddr) (time : ℕ) (s : State) (i : ℕ) → find k (s .rows) ≡ some i → length (elements (rowAt i (s .rows) .entry .path)) ≡ rowAt i (s .rows) .entry .path .len
+    → touchAnswer (perform s (GetAndTouch k time) .answer) ≡ touchSays i time s
 unfolding perform gives get unexpiredRow touchAnswer touchSays
 touch-says k time s i e f = rw e (go (expired time (rowAt i (s .rows) .entry)))
   where
-    go : (b : Bool) → maybe (maybe (cond b none (some i)) none (λ j. some (elements (rowAt j (s .rows) .entry .path)))) TouchAnswer.Absent (λ es. TouchAnswer.Found (length es)) ≡ cond b TouchAnswer.Absent (TouchAnswer.Found (rowAt i (s .rows) .entry .path .len))
+    go : (b : Bool) → maybe (maybe (cond b none (some i)) none (λ j. some (elements (rowAt j (s .rows) .entry .path)))) TouchAnswer.Absent (λ es. TouchAnswer.Found (length es))
+        ≡ cond b TouchAnswer.Absent (TouchAnswer.Found (rowAt i (s .rows) .entry .path .len))
     go true = refl
     go false = ap TouchAnswer.Found f
 
@@ -79,7 +76,8 @@ replied : (R : ℕ) (s : State) (k : NodeAddr) (time : ℕ) → touchReply (touc
 unfolding serve performRequest perform gives touchReply touchAnswer reply
 replied R s k time = go (refusal R s (Asked (GetAndTouch k time))) (get k time s)
   where
-    go : (o : Option ℕ) (p : Option (List CoordEntry)) → touchReply (touchAnswer (maybe o (gives (PathFound p) (touched k time s)) (λ n. gives (Refused n) s) .answer)) ≡ reply (maybe o (gives (PathFound p) (touched k time s)) (λ n. gives (Refused n) s) .answer)
+    go : (o : Option ℕ) (p : Option (List CoordEntry)) → touchReply (touchAnswer (maybe o (gives (PathFound p) (touched k time s)) (λ n. gives (Refused n) s) .answer))
+        ≡ reply (maybe o (gives (PathFound p) (touched k time s)) (λ n. gives (Refused n) s) .answer)
     go none none = refl
     go none (some es) = refl
     go (some n) p = refl
@@ -88,20 +86,23 @@ told : (l : List ℕ) (k : NodeAddr) (time : ℕ) (r : TouchAnswer) (m : List �
 unfolding lent
 told l k time r m e v = (ap touchReply e ∙ replied (capacity l) (view l) k time, e, v)
 
-pub touch-done-at : (l : List ℕ) (n : ℕ) (k : NodeAddr) (time i : ℕ) (r : TouchAnswer) (m : List ℕ) → sound (capacity l) (view l) ≡ true → SoundMemory l n → i < n → find k (viewRows n l .rows) ≡ some i → Bytes m → length m ≡ length l
-    → r ≡ touchSays i time (viewRows n l) → viewRows (length (touchedAt i time (viewRows n l) .rows)) m ≡ touchedAt i time (viewRows n l) → Told l k time r m
-touch-done-at l n k time i r m h s j f b z a v =
-    let p = touch-state k time (viewRows n l) i f in
-    let o : rowAt i (viewRows n l .rows) .entry .path .len ≤ pathPlaces = every-at (RowOk (viewRows n l .seq)) i (viewRows n l .rows) (omega (arith, s .rows)) (s .sound .each) .short in
-    let d = done-with l n (GetAndTouch k time) m (length (touchedAt i time (viewRows n l) .rows)) s (touch-allowed l k time h) b z (ap (λ (x : State). length (x .rows)) p) (v ∙ sym p) in
-    told l k time r m (a ∙ sym (ap touchAnswer (d .answer) ∙ ap (λ (x : State). touchAnswer (perform x (GetAndTouch k time) .answer)) (sym (s .same)) ∙ touch-says k time (viewRows n l) i f (elements-length n i l j o))) (sym (d .memory))
+module _ {k : NodeAddr} {n : ℕ} {l : List ℕ} (time : ℕ) where
+  touch-done : {o : Option ℕ} → Found k n o l → (m : List ℕ) (j : ℕ) → Bytes m → length m ≡ length l
+      → viewRows j m ≡ perform (viewRows n l) (GetAndTouch k time) .state → Answered l n (GetAndTouch k time) m
+  touch-done f m j b z v = done-rows (f .memory) (GetAndTouch k time) m j (touch-allowed l k time (f .sound)) b z v
 
-pub touch-done-absent : (l : List ℕ) (n : ℕ) (k : NodeAddr) (time : ℕ) → sound (capacity l) (view l) ≡ true → SoundMemory l n → find k (viewRows n l .rows) ≡ none → Bytes l
-    → Told l k time TouchAnswer.Absent l
-touch-done-absent l n k time h s f b =
-    let p = touch-absent-state k time (viewRows n l) f in
-    let d = done-with l n (GetAndTouch k time) l n s (touch-allowed l k time h) b refl (ap (λ (x : State). length (x .rows)) p ∙ s .rows) (sym p) in
-    told l k time TouchAnswer.Absent l (sym (ap touchAnswer (d .answer) ∙ ap (λ (x : State). touchAnswer (perform x (GetAndTouch k time) .answer)) (sym (s .same)) ∙ touch-absent-says k time (viewRows n l) f)) (sym (d .memory))
+  pub touched-at : {i : ℕ} → Found k n (some i) l → (r : TouchAnswer) (m : List ℕ) → Bytes m → length m ≡ length l → Touched l n i time r m → Told l k time r m
+  unfolding perform gives touched touchedAt
+  touched-at {i} f r m b z v =
+      let d = touch-done f m (length (touchedAt i time (viewRows n l) .rows)) b z (rw (f .row) (v .1)) in
+      let a = touch-says k time (viewRows n l) i (f .row) (elements-length n i l (inside f) (path-short f)) in
+      told l k time r m (v .0 ∙ sym a ∙ ap touchAnswer (d .answer)) (d .memory)
+
+  pub touched-absent : Found k n none l → Bytes l → Told l k time TouchAnswer.Absent l
+  unfolding perform gives touched get unexpiredRow touchAnswer
+  touched-absent f b =
+      let d = touch-done f l n b refl (rw (f .row)) in
+      told l k time TouchAnswer.Absent l (rw (f .row) at (ap touchAnswer (d .answer))) (d .memory)
 
 -- a touch that is done: number 0
 pub touch-zero : (l : List ℕ) (k : NodeAddr) (time : ℕ) → sound (capacity l) (view l) ≡ true → 0 ≡ refusalOf (call l (GetAndTouch k time) .answer)

@@ -1,23 +1,29 @@
 -- A field of the head or of a row: what is read, and what a store does to the view.
-use mathlib.Core.Path.{_≡_, refl, sym, ap, _∙_, subst}
-use Prim.Native.Nat.{ℕ, zero, suc, _+_, _*_, _-_, _≤_, _<_}
+use mathlib.Core.Path.{_≡_, refl, sym, ap, _∙_}
+use Prim.Native.Nat.{ℕ, zero, suc, _+_, _*_, _/_, _^_, _≤_, _<_}
 use native.Mathlib.Nat.{not-suc-le-zero, le-of-suc-le-suc}
 use native.Mathlib.Omega.{arith}
 use mathlib.Core.Logic.{inl, inr}
-use mathlib.Core.List.{List, [], _∷_, _++_}
-use lib.ListN.{length, take, drop, length-drop, length-append}
-use lib.Seq.{sets, drop-drop, length-take-le, length-sets, take-at, drop-at, take-all}
+use mathlib.Core.List.{List, [], _∷_}
+use mathlib.Core.Bool.{Bool, true, false, cond}
+use lib.Dec.{eqb, leb}
+use borrow.Author.Tests.{eqb-true, leb-true}
+use lib.ListN.{length, take, drop, getD, length-drop}
+use lib.Seq.{sets, drop-drop, length-take-le, length-sets, take-take}
 use Rattle.rules.specs.Records.{Entry, Row, State}
 use Rattle.rules.specs.Rows.{rowAt, changeRow, withRows}
 use Rattle.rules.specs.Lookups.{withEntry, rewrite}
-use Rattle.rules.specs.Memory.{cut, leNumber, leBytes, coordEntriesOf, coordEntryOf, pathOf, entryOf, rowOf, rowsOf, viewRows}
-use Rattle.types.specs.declared.coord.CoordEntry.{CoordEntry}
+use Rattle.rules.specs.Memory.{cut, leNumber, leBytes, coordEntriesOf, pathOf, entryOf, rowOf, rowsOf, viewRows}
+use Rattle.rules.specs.Cases.{Every}
 use Rattle.rules.specs.Lent.{Small}
 use Rattle.rules.proofs.ViewLaws.{num-le, length-le}
-use Rattle.rules.specs.Layout.{coordEntrySize, createdAtOffset, entryOffset, entrySize, expiresAtInRow, expiresAtOffset, headSize, lastUsedInRow, lastUsedOffset, mtuInRow, mtuMarkInRow, mtuMarkOffset, mtuOffset, placeOffset, rowCountOffset, rowSize, sourceInRow, sourceOffset, stampFirstOffset, stampSeqOffset, verifiedUntilInRow, verifiedUntilOffset, weightOffset}
+use Rattle.rules.specs.Layout.{defaultTtlOffset, headSize, maxEntriesOffset, rowCountOffset, seqOffset, storedWeightOffset}
+use Rattle.rules.specs.Layout.{coordEntrySize, createdAtOffset, entryOffset, entrySize, expiresAtOffset, lastUsedOffset, mtuMarkOffset, mtuOffset, pathSize, placeOffset, placesSize, rowSize, sourceOffset, stampFirstOffset, stampSeqOffset, verifiedUntilOffset, weightOffset}
+use Rattle.rules.specs.Layout.{createdAtInRow, expiresAtInRow, lastUsedInRow, mtuInRow, mtuMarkInRow, sourceInRow, verifiedUntilInRow}
 use Rattle.types.specs.Paths.{pathPlaces}
-use Rattle.raw.proofs.StoreLaws.{take-sets-le, drop-sets-ge, take-sets-in, drop-sets-add, sets-more, cut-else, cut-same, cut-cut}
-use Rattle.memory.specs.Edits.{withSeq, withStoredWeight, withRowCount, stampedAs, withWeight, withTimes, withSource, withMtu}
+use Rattle.raw.proofs.StoreLaws.{take-sets-le, drop-sets-ge, take-sets-in, drop-sets-add, cut-else, cut-same, cut-cut}
+use Rattle.memory.proofs.RowBlocks.{drop-take-add}
+use Rattle.rules.proofs.RowLists.{change-twice}
 
 -- ---- what is read of a row
 
@@ -33,15 +39,56 @@ pub row-at : (n i : ℕ) (l : List ℕ) → i < n → rowAt i (viewRows n l .row
 unfolding viewRows
 row-at n i l h = rows-at n i (drop headSize l) h ∙ ap (λ (m : List ℕ). rowOf (take rowSize m)) (drop-drop (i * rowSize) headSize l)
 
--- a number of w bytes at o, of the row and of its entry
-pub row-number : (get : Row → ℕ) (o w : ℕ) → ((c : List ℕ) → get (rowOf c) ≡ leNumber (cut o w c)) → o + w ≤ rowSize
-    → (l : List ℕ) (n i : ℕ) → i < n → leNumber (cut (headSize + i * rowSize + o) w l) ≡ get (rowAt i (viewRows n l .rows))
-row-number get o w law h l n i j = ap leNumber (sym (cut-cut (headSize + i * rowSize) rowSize o w l h)) ∙ sym (law (cut (headSize + i * rowSize) rowSize l)) ∙ ap get (sym (row-at n i l j))
-
-pub entry-number : (get : Entry → ℕ) (o w : ℕ) → ((c : List ℕ) → get (entryOf c) ≡ leNumber (cut o w c)) → o + w ≤ entrySize
-    → (l : List ℕ) (n i : ℕ) → i < n → leNumber (cut (headSize + i * rowSize + (entryOffset + o)) w l) ≡ get (rowAt i (viewRows n l .rows) .entry)
+pub row-key : (n i : ℕ) (l : List ℕ) → i < n → rowAt i (viewRows n l .rows) .key .0 ≡ cut (headSize + i * rowSize) 16 l
 unfolding rowOf
-entry-number get o w law h l n i j = row-number (λ r. get (r .entry)) (entryOffset + o) w (λ c. law (cut entryOffset entrySize c) ∙ ap leNumber (cut-cut entryOffset entrySize o w c h)) (omega arith) l n i j
+row-key n i l h =
+    let z : headSize + i * rowSize + 0 ≡ headSize + i * rowSize = omega arith in
+    ap (λ (r : Row). r .key .0) (row-at n i l h) ∙ cut-cut (headSize + i * rowSize) rowSize 0 16 l (omega arith) ∙ ap (λ (k : ℕ). cut k 16 l) z
+
+-- w bytes at o of row i, as a number
+abbrev numberAt : List ℕ → ℕ → ℕ → ℕ → ℕ
+numberAt l i o w = leNumber (cut (headSize + i * rowSize + o) w l)
+
+-- every number of row i, where it is read
+pub record Numbers (l : List ℕ) (i : ℕ) (r : Row) : Type 0 where
+  pub pathLength : numberAt l i entryOffset 1 ≡ r .entry .path .len
+  pub createdAt : numberAt l i createdAtInRow 8 ≡ r .entry .createdAt
+  pub lastUsed : numberAt l i lastUsedInRow 8 ≡ r .entry .lastUsed
+  pub expiresAt : numberAt l i expiresAtInRow 8 ≡ r .entry .expiresAt
+  pub mtuMark : numberAt l i mtuMarkInRow 1 ≡ r .entry .mtuMark
+  pub mtu : numberAt l i mtuInRow 2 ≡ r .entry .mtu
+  pub source : numberAt l i sourceInRow 1 ≡ r .entry .source
+  pub verifiedUntil : numberAt l i verifiedUntilInRow 8 ≡ r .entry .verifiedUntil
+  pub place : numberAt l i placeOffset 1 ≡ r .place
+  pub stampFirst : numberAt l i stampFirstOffset 8 ≡ r .stampFirst
+  pub stampSeq : numberAt l i stampSeqOffset 8 ≡ r .stampSeq
+  pub weight : numberAt l i weightOffset 1 ≡ r .weight
+
+module _ (l : List ℕ) (n i : ℕ) (h : i < n) where
+  of-row : (get : Row → ℕ) (o w : ℕ) → ((c : List ℕ) → get (rowOf c) ≡ leNumber (cut o w c)) → o + w ≤ rowSize → numberAt l i o w ≡ get (rowAt i (viewRows n l .rows))
+  of-row get o w law k = ap leNumber (sym (cut-cut (headSize + i * rowSize) rowSize o w l k)) ∙ sym (law (cut (headSize + i * rowSize) rowSize l)) ∙ ap get (sym (row-at n i l h))
+
+  of-entry : (get : Entry → ℕ) (o w : ℕ) → ((c : List ℕ) → get (entryOf c) ≡ leNumber (cut o w c)) → o + w ≤ entrySize → numberAt l i (entryOffset + o) w ≡ get (rowAt i (viewRows n l .rows) .entry)
+  unfolding rowOf
+  of-entry get o w law k = of-row (λ r. get (r .entry)) (entryOffset + o) w (λ c. law (cut entryOffset entrySize c) ∙ ap leNumber (cut-cut entryOffset entrySize o w c k)) (omega arith)
+
+  pub field-read : Numbers l i (rowAt i (viewRows n l .rows))
+  unfolding rowOf entryOf pathOf
+  field-read =
+      record {
+        pathLength = of-entry (λ e. e .path .len) 0 1 (λ c. refl) (omega arith);
+        createdAt = of-entry (λ e. e .createdAt) createdAtOffset 8 (λ c. refl) (omega arith);
+        lastUsed = of-entry (λ e. e .lastUsed) lastUsedOffset 8 (λ c. refl) (omega arith);
+        expiresAt = of-entry (λ e. e .expiresAt) expiresAtOffset 8 (λ c. refl) (omega arith);
+        mtuMark = of-entry (λ e. e .mtuMark) mtuMarkOffset 1 (λ c. refl) (omega arith);
+        mtu = of-entry (λ e. e .mtu) mtuOffset 2 (λ c. refl) (omega arith);
+        source = of-entry (λ e. e .source) sourceOffset 1 (λ c. refl) (omega arith);
+        verifiedUntil = of-entry (λ e. e .verifiedUntil) verifiedUntilOffset 8 (λ c. refl) (omega arith);
+        place = of-row (λ r. r .place) placeOffset 1 (λ c. refl) (omega arith);
+        stampFirst = of-row (λ r. r .stampFirst) stampFirstOffset 8 (λ c. refl) (omega arith);
+        stampSeq = of-row (λ r. r .stampSeq) stampSeqOffset 8 (λ c. refl) (omega arith);
+        weight = of-row (λ r. r .weight) weightOffset 1 (λ c. refl) (omega arith);
+      }
 
 -- ---- stores in a row
 
@@ -71,25 +118,15 @@ row-store f o vs w law n i l h k =
     ap (rowsOf n) (drop-sets-add headSize vs l (i * rowSize + o) j (omega arith)) ∙ row-rows f o vs w law n i (drop headSize l) h d in
     rw (b 0 8 (omega arith), b 8 8 (omega arith), b 16 8 (omega arith), b 24 8 (omega arith), b rowCountOffset 8 (omega arith), r, drop-sets-ge (headSize + n * rowSize) vs l j (omega arith))
 
--- ---- stores in an entry, behind its path
-
-entries-store : (n k : ℕ) (l vs : List ℕ) → n * coordEntrySize ≤ k → coordEntriesOf n (sets l k vs) ≡ coordEntriesOf n l
-unfolding coordEntriesOf
-entries-store zero k l vs h = refl
-entries-store (suc n) k l vs h =
-    rw (take-sets-le coordEntrySize vs l k (omega arith), drop-sets-add coordEntrySize vs l (k - coordEntrySize) k (omega arith))
-    (ap (λ (xs : List CoordEntry). coordEntryOf (take coordEntrySize l) ∷ xs) (entries-store n (k - coordEntrySize) (drop coordEntrySize l) vs (omega arith)))
-
-path-store : (c vs : List ℕ) (o : ℕ) → createdAtOffset ≤ o → pathOf (sets c o vs) ≡ pathOf c
-unfolding pathOf
-path-store c vs o h = rw (cut-else c vs o 0 1 (inl (omega arith)), drop-sets-add 1 vs c (o - 1) o (omega arith), entries-store pathPlaces (o - 1) (drop 1 c) vs (omega arith))
+-- ---- a run of stores in an entry
 
 entry-in-row : (f : Entry → Entry) (o : ℕ) (vs : List ℕ) → o + length vs ≤ entrySize → ((e : List ℕ) → length e ≡ entrySize → entryOf (sets e o vs) ≡ f (entryOf e))
     → (c : List ℕ) → length c ≡ rowSize → rowOf (sets c (entryOffset + o) vs) ≡ withEntry (f (rowOf c .entry)) (rowOf c)
 unfolding rowOf withEntry
 entry-in-row f o vs w law c h =
     let k : length (cut entryOffset entrySize c) ≡ entrySize = length-take-le entrySize (drop 16 c) (rw length-drop (omega arith)) in
-    let e : cut entryOffset entrySize (sets c (entryOffset + o) vs) ≡ sets (cut entryOffset entrySize c) o vs = ap (take entrySize) (drop-sets-add 16 vs c o (entryOffset + o) refl) ∙ take-sets-in entrySize vs (drop 16 c) o w in
+    let e : cut entryOffset entrySize (sets c (entryOffset + o) vs) ≡ sets (cut entryOffset entrySize c) o vs =
+    ap (take entrySize) (drop-sets-add 16 vs c o (entryOffset + o) refl) ∙ take-sets-in entrySize vs (drop 16 c) o w in
     let b : (a m : ℕ) → placeOffset ≤ a → cut a m (sets c (entryOffset + o) vs) ≡ cut a m c = λ a m q. cut-else c vs (entryOffset + o) a m (inr (omega arith)) in
     rw (cut-else c vs (entryOffset + o) 0 16 (inl (omega arith)), e, law (cut entryOffset entrySize c) k, b placeOffset 1 (omega arith), b stampFirstOffset 8 (omega arith), b stampSeqOffset 8 (omega arith), b weightOffset 1 (omega arith))
 
@@ -99,170 +136,185 @@ pub entry-store : (f : Entry → Entry) (o : ℕ) (vs : List ℕ) → o + length
 unfolding rewrite
 entry-store f o vs w law n i l h k = row-store (λ r. withEntry (f (r .entry)) r) (entryOffset + o) vs (omega arith) (entry-in-row f o vs w law) n i l h k
 
--- two numbers, one behind the other, are one run of stores
-pub two-stores : (l : List ℕ) (at a v b x : ℕ) → sets (sets l at (leBytes a v)) (at + a) (leBytes b x) ≡ sets l at (leBytes a v ++ leBytes b x)
-two-stores l at a v b x = subst (λ (k : ℕ). sets (sets l at (leBytes a v)) (at + k) (leBytes b x) ≡ sets l at (leBytes a v ++ leBytes b x)) (length-le a v) (sets-more (leBytes a v) (leBytes b x) l at)
+-- ---- a number stored among others
 
--- and each is read where it was stored
-stored : (c us vs : List ℕ) (o a b : ℕ) → length us ≡ a → length vs ≡ b → o + (a + b) ≤ length c → (cut o a (sets c o (us ++ vs)) ≡ us) × (cut (o + a) b (sets c o (us ++ vs)) ≡ vs)
-stored c us vs o a b p q h =
-    let n : length (us ++ vs) ≡ a + b = length-append us vs ∙ omega arith in
-    let s : cut o (a + b) (sets c o (us ++ vs)) ≡ us ++ vs = rw n at (cut-same c (us ++ vs) o (omega arith)) in
-    let z : o + 0 ≡ o = omega arith in
-    let f : cut 0 a (cut o (a + b) (sets c o (us ++ vs))) ≡ cut o a (sets c o (us ++ vs)) = rw z at (cut-cut o (a + b) 0 a (sets c o (us ++ vs)) (omega arith)) in
-    let g : cut a b (cut o (a + b) (sets c o (us ++ vs))) ≡ cut (o + a) b (sets c o (us ++ vs)) = cut-cut o (a + b) a b (sets c o (us ++ vs)) (omega arith) in
-    (sym f ∙ ap (take a) s ∙ take-at us vs a p, sym g ∙ ap (λ (m : List ℕ). take b (drop a m)) s ∙ ap (take b) (drop-at us vs a p) ∙ take-all b vs (omega arith))
+-- w bytes at o are the field of m bytes at k, or lie apart from it
+abbrev apart : ℕ → ℕ → ℕ → ℕ → Bool
+apart o w k m = cond (eqb o k) (eqb w m) (cond (leb (k + m) o) true (leb (o + w) k))
 
--- ---- the fields that are set
+abbrev all : List Bool → Bool
+all [] = true
+all (b ∷ bs) = cond b (all bs) false
 
-times-entry : (u x : ℕ) → Small 8 u → Small 8 x → (e : List ℕ) → length e ≡ entrySize → entryOf (sets e lastUsedOffset (leBytes 8 u ++ leBytes 8 x)) ≡ withTimes u x (entryOf e)
-unfolding entryOf withTimes
-times-entry u x hu hx e h =
-    let vs : List ℕ = leBytes 8 u ++ leBytes 8 x in
-    let n : length vs ≡ 16 = length-append (leBytes 8 u) (leBytes 8 x) ∙ omega (arith, length-le 8 u, length-le 8 x) in
-    let s = stored e (leBytes 8 u) (leBytes 8 x) lastUsedOffset 8 8 (length-le 8 u) (length-le 8 x) (omega arith) in
-    let a : (k w : ℕ) → mtuMarkOffset ≤ k → cut k w (sets e lastUsedOffset vs) ≡ cut k w e = λ k w q. cut-else e vs lastUsedOffset k w (inr (omega arith)) in
-    rw (path-store e vs lastUsedOffset (omega arith), cut-else e vs lastUsedOffset createdAtOffset 8 (inl (omega arith)), s .0, s .1, a mtuMarkOffset 1 (omega arith), a mtuOffset 2 (omega arith), a sourceOffset 1 (omega arith), a verifiedUntilOffset 8 (omega arith), num-le 8 u hu, num-le 8 x hx)
+all-true : (bs : List Bool) → all bs ≡ true → (i : ℕ) → getD bs i true ≡ true
+all-true [] e i = refl
+all-true (true ∷ bs) e zero = refl
+all-true (true ∷ bs) e (suc i) = all-true bs e i
+all-true (false ∷ bs) e i = cc
 
-pub times-view : (l : List ℕ) (n i u x : ℕ) → Small 8 u → Small 8 x → i < n → headSize + n * rowSize ≤ length l
-    → viewRows n (sets (sets l (headSize + i * rowSize + lastUsedInRow) (leBytes 8 u)) (headSize + i * rowSize + expiresAtInRow) (leBytes 8 x)) ≡ rewrite (withTimes u x) i (viewRows n l)
-times-view l n i u x hu hx h k =
-    let e : headSize + i * rowSize + expiresAtInRow ≡ headSize + i * rowSize + lastUsedInRow + 8 = omega arith in
-    rw (e, two-stores l (headSize + i * rowSize + lastUsedInRow) 8 u 8 x)
-    (entry-store (withTimes u x) lastUsedOffset (leBytes 8 u ++ leBytes 8 x) (rw length-append (omega (arith, length-le 8 u, length-le 8 x))) (times-entry u x hu hx) n i l h k)
+-- what stands at k, once v stands at o
+abbrev put : ℕ → ℕ → ℕ → ℕ → ℕ
+put o v k x = cond (eqb o k) v x
 
-source-entry : (v u : ℕ) → Small 1 v → Small 8 u → (e : List ℕ) → length e ≡ entrySize → entryOf (sets e sourceOffset (leBytes 1 v ++ leBytes 8 u)) ≡ withSource v u (entryOf e)
-unfolding entryOf withSource
-source-entry v u hv hu e h =
-    let vs : List ℕ = leBytes 1 v ++ leBytes 8 u in
-    let s = stored e (leBytes 1 v) (leBytes 8 u) sourceOffset 1 8 (length-le 1 v) (length-le 8 u) (omega arith) in
-    let b : (k w : ℕ) → k + w ≤ sourceOffset → cut k w (sets e sourceOffset vs) ≡ cut k w e = λ k w q. cut-else e vs sourceOffset k w (inl q) in
-    rw (path-store e vs sourceOffset (omega arith), b createdAtOffset 8 (omega arith), b lastUsedOffset 8 (omega arith), b expiresAtOffset 8 (omega arith), b mtuMarkOffset 1 (omega arith), b mtuOffset 2 (omega arith), s .0, s .1, num-le 1 v hv, num-le 8 u hu)
+-- a field that was the one stored has the number, and any other what it had
+field-stored : (o w v : ℕ) (c : List ℕ) → Small w v → o + w ≤ length c → (k m : ℕ) → apart o w k m ≡ true → leNumber (cut k m (sets c o (leBytes w v))) ≡ put o v k (leNumber (cut k m c))
+field-stored o w v c s h k m = here (eqb o k) refl
+  where
+    vs : List ℕ
+    vs = leBytes w v
 
-pub source-view : (l : List ℕ) (n i v u : ℕ) → Small 1 v → Small 8 u → i < n → headSize + n * rowSize ≤ length l
-    → viewRows n (sets (sets l (headSize + i * rowSize + sourceInRow) (leBytes 1 v)) (headSize + i * rowSize + verifiedUntilInRow) (leBytes 8 u)) ≡ rewrite (withSource v u) i (viewRows n l)
-source-view l n i v u hv hu h k =
-    let e : headSize + i * rowSize + verifiedUntilInRow ≡ headSize + i * rowSize + sourceInRow + 1 = omega arith in
-    rw (e, two-stores l (headSize + i * rowSize + sourceInRow) 1 v 8 u)
-    (entry-store (withSource v u) sourceOffset (leBytes 1 v ++ leBytes 8 u) (rw length-append (omega (arith, length-le 1 v, length-le 8 u))) (source-entry v u hv hu) n i l h k)
+    else : (b : Bool) → leb (k + m) o ≡ b → cond b true (leb (o + w) k) ≡ true → cut k m (sets c o vs) ≡ cut k m c
+    else true p q = cut-else c vs o k m (inl (leb-true (k + m) o p))
+    else false p q = cut-else c vs o k m (inr (omega (arith, leb-true (o + w) k q, length-le w v)))
 
-mtu-entry : (v m : ℕ) → Small 1 v → Small 2 m → (e : List ℕ) → length e ≡ entrySize → entryOf (sets e mtuMarkOffset (leBytes 1 v ++ leBytes 2 m)) ≡ withMtu v m (entryOf e)
-unfolding entryOf withMtu
-mtu-entry v m hv hm e h =
-    let vs : List ℕ = leBytes 1 v ++ leBytes 2 m in
-    let n : length vs ≡ 3 = length-append (leBytes 1 v) (leBytes 2 m) ∙ omega (arith, length-le 1 v, length-le 2 m) in
-    let s = stored e (leBytes 1 v) (leBytes 2 m) mtuMarkOffset 1 2 (length-le 1 v) (length-le 2 m) (omega arith) in
-    let b : (k w : ℕ) → k + w ≤ mtuMarkOffset → cut k w (sets e mtuMarkOffset vs) ≡ cut k w e = λ k w q. cut-else e vs mtuMarkOffset k w (inl q) in
-    let a : (k w : ℕ) → sourceOffset ≤ k → cut k w (sets e mtuMarkOffset vs) ≡ cut k w e = λ k w q. cut-else e vs mtuMarkOffset k w (inr (omega arith)) in
-    rw (path-store e vs mtuMarkOffset (omega arith), b createdAtOffset 8 (omega arith), b lastUsedOffset 8 (omega arith), b expiresAtOffset 8 (omega arith), s .0, s .1, a sourceOffset 1 (omega arith), a verifiedUntilOffset 8 (omega arith), num-le 1 v hv, num-le 2 m hm)
+    here : (b : Bool) → eqb o k ≡ b → cond b (eqb w m) (cond (leb (k + m) o) true (leb (o + w) k)) ≡ true → leNumber (cut k m (sets c o vs)) ≡ cond b v (leNumber (cut k m c))
+    here true p q = rw (← eqb-true o k p, ← eqb-true w m q) (ap leNumber (rw (length-le w v) at (cut-same c vs o (omega (arith, length-le w v)))) ∙ num-le w v s)
+    here false p q = ap leNumber (else (leb (k + m) o) refl q)
 
-pub mtu-view : (l : List ℕ) (n i v m : ℕ) → Small 1 v → Small 2 m → i < n → headSize + n * rowSize ≤ length l
-    → viewRows n (sets (sets l (headSize + i * rowSize + mtuMarkInRow) (leBytes 1 v)) (headSize + i * rowSize + mtuInRow) (leBytes 2 m)) ≡ rewrite (withMtu v m) i (viewRows n l)
-mtu-view l n i v m hv hm h k =
-    let e : headSize + i * rowSize + mtuInRow ≡ headSize + i * rowSize + mtuMarkInRow + 1 = omega arith in
-    rw (e, two-stores l (headSize + i * rowSize + mtuMarkInRow) 1 v 2 m)
-    (entry-store (withMtu v m) mtuMarkOffset (leBytes 1 v ++ leBytes 2 m) (rw length-append (omega (arith, length-le 1 v, length-le 2 m))) (mtu-entry v m hv hm) n i l h k)
+-- ---- numbers stored in a row, behind its path
 
-place-row : (p : ℕ) → Small 1 p → (c : List ℕ) → length c ≡ rowSize → rowOf (sets c placeOffset (leBytes 1 p)) ≡ stampedAs p (rowOf c .stampFirst) (rowOf c .stampSeq) (rowOf c)
-unfolding rowOf stampedAs
-place-row p hp c h =
-    let vs : List ℕ = leBytes 1 p in
-    let n : length vs ≡ 1 = length-le 1 p in
-    let s : cut placeOffset 1 (sets c placeOffset vs) ≡ vs = rw n at (cut-same c vs placeOffset (omega arith)) in
-    let b : (k w : ℕ) → k + w ≤ placeOffset → cut k w (sets c placeOffset vs) ≡ cut k w c = λ k w q. cut-else c vs placeOffset k w (inl q) in
-    let a : (k w : ℕ) → stampFirstOffset ≤ k → cut k w (sets c placeOffset vs) ≡ cut k w c = λ k w q. cut-else c vs placeOffset k w (inr (omega arith)) in
-    rw (b 0 16 (omega arith), b entryOffset entrySize (omega arith), s, a stampFirstOffset 8 (omega arith), a stampSeqOffset 8 (omega arith), a weightOffset 1 (omega arith), num-le 1 p hp)
+entries-front : (n : ℕ) (l : List ℕ) → coordEntriesOf n (take (n * coordEntrySize) l) ≡ coordEntriesOf n l
+unfolding coordEntriesOf
+entries-front zero l = refl
+entries-front (suc n) l =
+    let e : suc n * coordEntrySize ≡ coordEntrySize + n * coordEntrySize = omega arith in
+    rw (e, take-take coordEntrySize (coordEntrySize + n * coordEntrySize) l (omega arith), drop-take-add coordEntrySize (n * coordEntrySize) l, entries-front n (drop coordEntrySize l))
 
-stamps-row : (f q : ℕ) → Small 8 f → Small 8 q → (c : List ℕ) → length c ≡ rowSize → rowOf (sets c stampFirstOffset (leBytes 8 f ++ leBytes 8 q)) ≡ stampedAs (rowOf c .place) f q (rowOf c)
-unfolding rowOf stampedAs
-stamps-row f q hf hq c h =
-    let vs : List ℕ = leBytes 8 f ++ leBytes 8 q in
-    let n : length vs ≡ 16 = length-append (leBytes 8 f) (leBytes 8 q) ∙ omega (arith, length-le 8 f, length-le 8 q) in
-    let s = stored c (leBytes 8 f) (leBytes 8 q) stampFirstOffset 8 8 (length-le 8 f) (length-le 8 q) (omega arith) in
-    let b : (k w : ℕ) → k + w ≤ stampFirstOffset → cut k w (sets c stampFirstOffset vs) ≡ cut k w c = λ k w r. cut-else c vs stampFirstOffset k w (inl r) in
-    rw (b 0 16 (omega arith), b entryOffset entrySize (omega arith), b placeOffset 1 (omega arith), s .0, s .1, cut-else c vs stampFirstOffset weightOffset 1 (inr (omega arith)), num-le 8 f hf, num-le 8 q hq)
+path-front : (e : List ℕ) → pathOf e ≡ pathOf (take pathSize e)
+unfolding pathOf
+path-front e = rw (take-take 1 pathSize e (omega arith), drop-take-add 1 placesSize e, entries-front pathPlaces (drop 1 e))
 
-change-twice : (f g : Row → Row) (i : ℕ) (rs : List Row) → changeRow g i (changeRow f i rs) ≡ changeRow (λ r. g (f r)) i rs
+-- w bytes at o are a number of a row behind its path: each such number is at o, or apart from them
+abbrev pub isNumber : ℕ → ℕ → List Bool
+isNumber o w =
+    leb createdAtInRow o ∷ leb (o + w) rowSize ∷ apart o w createdAtInRow 8 ∷ apart o w lastUsedInRow 8 ∷ apart o w expiresAtInRow 8 ∷ apart o w mtuMarkInRow 1 ∷ apart o w mtuInRow 2
+    ∷ apart o w sourceInRow 1 ∷ apart o w verifiedUntilInRow 8 ∷ apart o w placeOffset 1 ∷ apart o w stampFirstOffset 8 ∷ apart o w stampSeqOffset 8 ∷ apart o w weightOffset 1 ∷ []
+
+-- the row with v as its number at o
+unfoldable pub withNumber : ℕ → ℕ → Row → Row
+withNumber o v r =
+    let at = put o v in
+    let e = r .entry in
+    record {
+      key = r .key;
+      entry = record {
+        path = e .path;
+        createdAt = at createdAtInRow (e .createdAt);
+        lastUsed = at lastUsedInRow (e .lastUsed);
+        expiresAt = at expiresAtInRow (e .expiresAt);
+        mtuMark = at mtuMarkInRow (e .mtuMark);
+        mtu = at mtuInRow (e .mtu);
+        source = at sourceInRow (e .source);
+        verifiedUntil = at verifiedUntilInRow (e .verifiedUntil);
+      };
+      place = at placeOffset (r .place);
+      stampFirst = at stampFirstOffset (r .stampFirst);
+      stampSeq = at stampSeqOffset (r .stampSeq);
+      weight = at weightOffset (r .weight);
+    }
+
+number-row : (o w v : ℕ) → all (isNumber o w) ≡ true → Small w v → (c : List ℕ) → length c ≡ rowSize → rowOf (sets c o (leBytes w v)) ≡ withNumber o v (rowOf c)
+unfolding rowOf entryOf withNumber
+number-row o w v e s c h =
+    let t = all-true (isNumber o w) e in
+    let vs : List ℕ = leBytes w v in
+    let b = leb-true createdAtInRow o (t 0) in
+    let x = leb-true (o + w) rowSize (t 1) in
+    let f = field-stored o w v c s (omega arith) in
+    let g : (k m : ℕ) → k + m ≤ entrySize → apart o w (entryOffset + k) m ≡ true → leNumber (cut k m (cut entryOffset entrySize (sets c o vs)))
+    ≡ put o v (entryOffset + k) (leNumber (cut k m (cut entryOffset entrySize c))) =
+    λ k m q a. ap leNumber (cut-cut entryOffset entrySize k m (sets c o vs) q) ∙ f (entryOffset + k) m a
+    ∙ ap (λ (y : List ℕ). put o v (entryOffset + k) (leNumber y)) (sym (cut-cut entryOffset entrySize k m c q)) in
+    let front : (y : List ℕ) → pathOf (cut entryOffset entrySize y) ≡ pathOf (cut entryOffset pathSize y) =
+    λ y. path-front (cut entryOffset entrySize y) ∙ ap pathOf (take-take pathSize entrySize (drop entryOffset y) (omega arith)) in
+    let p : pathOf (cut entryOffset entrySize (sets c o vs)) ≡ pathOf (cut entryOffset entrySize c) =
+    front (sets c o vs) ∙ ap pathOf (cut-else c vs o entryOffset pathSize (inl (omega arith))) ∙ sym (front c) in
+    rw (
+      cut-else c vs o 0 16 (inl (omega arith)),
+      p,
+      g createdAtOffset 8 (omega arith) (t 2),
+      g lastUsedOffset 8 (omega arith) (t 3),
+      g expiresAtOffset 8 (omega arith) (t 4),
+      g mtuMarkOffset 1 (omega arith) (t 5),
+      g mtuOffset 2 (omega arith) (t 6),
+      g sourceOffset 1 (omega arith) (t 7),
+      g verifiedUntilOffset 8 (omega arith) (t 8),
+      f placeOffset 1 (t 9),
+      f stampFirstOffset 8 (t 10),
+      f stampSeqOffset 8 (t 11),
+      f weightOffset 1 (t 12),
+    )
+
+small : (w v : ℕ) → v < 256 ^ w → Small w v
+small zero v h = omega arith
+small (suc w) v h = small w (v / 256) (omega arith)
+
+-- an offset, a width and a value
+abbrev pub Store : Type 0
+Store = ℕ × ℕ × ℕ
+
+abbrev pub stores : ℕ → List Store → List ℕ → List ℕ
+stores at [] l = l
+stores at (x ∷ xs) l = stores at xs (sets l (at + x .0) (leBytes (x .1) (x .2)))
+
+abbrev pub withNumbers : List Store → Row → Row
+withNumbers [] r = r
+withNumbers (x ∷ xs) r = withNumbers xs (withNumber (x .0) (x .2) r)
+
+change-none : (i : ℕ) (rs : List Row) → changeRow (λ r. r) i rs ≡ rs
 unfolding changeRow
-change-twice f g i [] = refl
-change-twice f g zero (r ∷ rs) = refl
-change-twice f g (suc i) (r ∷ rs) = ap (λ (xs : List Row). r ∷ xs) (change-twice f g i rs)
+change-none i [] = refl
+change-none zero (r ∷ rs) = refl
+change-none (suc i) (r ∷ rs) = ap (λ (xs : List Row). r ∷ xs) (change-none i rs)
 
-change-same : (f g : Row → Row) → ((r : Row) → f r ≡ g r) → (i : ℕ) (rs : List Row) → changeRow f i rs ≡ changeRow g i rs
-unfolding changeRow
-change-same f g e i [] = refl
-change-same f g e zero (r ∷ rs) = ap (λ (x : Row). x ∷ rs) (e r)
-change-same f g e (suc i) (r ∷ rs) = ap (λ (xs : List Row). r ∷ xs) (change-same f g e i rs)
-
-stamped-twice : (p f q : ℕ) (r : Row) → stampedAs (stampedAs p (r .stampFirst) (r .stampSeq) r .place) f q (stampedAs p (r .stampFirst) (r .stampSeq) r) ≡ stampedAs p f q r
-unfolding stampedAs
-stamped-twice p f q r = refl
-
-rows-of : (rs : List Row) (s : State) → withRows rs s .rows ≡ rs
+-- numbers stored in row i, one after the other, are that row changed in the view
+pub field-store : (xs : List Store) → Every (λ x. (all (isNumber (x .0) (x .1)) ≡ true) × (x .2 < 256 ^ x .1)) xs → (l : List ℕ) (n i : ℕ) → i < n → headSize + n * rowSize ≤ length l
+    → viewRows n (stores (headSize + i * rowSize) xs l) ≡ withRows (changeRow (withNumbers xs) i (viewRows n l .rows)) (viewRows n l)
 unfolding withRows
-rows-of rs s = refl
+field-store [] e l n i h k = rw (change-none i (viewRows n l .rows))
+field-store (x ∷ xs) e l n i h k =
+    let f = withNumber (x .0) (x .2) in
+    let b = length-le (x .1) (x .2) in
+    let t = leb-true (x .0 + x .1) rowSize (all-true (isNumber (x .0) (x .1)) (e .0 .0) 1) in
+    let v = row-store f (x .0) (leBytes (x .1) (x .2)) (omega arith) (number-row (x .0) (x .1) (x .2) (e .0 .0) (small (x .1) (x .2) (e .0 .1))) n i l h k in
+    field-store xs (e .1) _ n i h (rw length-sets k) ∙ rw v (ap (λ (rs : List Row). withRows rs (viewRows n l)) (change-twice f (withNumbers xs) i (viewRows n l .rows)))
 
-with-twice : (xs ys : List Row) (s : State) → withRows ys (withRows xs s) ≡ withRows ys s
-unfolding withRows
-with-twice xs ys s = refl
+-- ---- a number stored in the head
 
-pub stamp-view : (l : List ℕ) (n i p f q : ℕ) → Small 1 p → Small 8 f → Small 8 q → i < n → headSize + n * rowSize ≤ length l
-    → viewRows n (sets (sets (sets l (headSize + i * rowSize + placeOffset) (leBytes 1 p)) (headSize + i * rowSize + stampFirstOffset) (leBytes 8 f)) (headSize + i * rowSize + stampSeqOffset) (leBytes 8 q)) ≡ withRows (changeRow (stampedAs p f q) i (viewRows n l .rows)) (viewRows n l)
-stamp-view l n i p f q hp hf hq h k =
-    let m : List ℕ = sets l (headSize + i * rowSize + placeOffset) (leBytes 1 p) in
-    let e : headSize + i * rowSize + stampSeqOffset ≡ headSize + i * rowSize + stampFirstOffset + 8 = omega arith in
-    let km : headSize + n * rowSize ≤ length m = rw length-sets k in
-    let g1 : Row → Row = λ r. stampedAs p (r .stampFirst) (r .stampSeq) r in
-    let g2 : Row → Row = λ r. stampedAs (r .place) f q r in
-    let v1 : viewRows n m ≡ withRows (changeRow g1 i (viewRows n l .rows)) (viewRows n l) = row-store g1 placeOffset (leBytes 1 p) (omega (arith, length-le 1 p)) (place-row p hp) n i l h k in
-    let v2 : viewRows n (sets m (headSize + i * rowSize + stampFirstOffset) (leBytes 8 f ++ leBytes 8 q)) ≡ withRows (changeRow g2 i (viewRows n m .rows)) (viewRows n m) = row-store g2 stampFirstOffset (leBytes 8 f ++ leBytes 8 q) (rw length-append (omega (arith, length-le 8 f, length-le 8 q))) (stamps-row f q hf hq) n i m h km in
-    rw (e, two-stores m (headSize + i * rowSize + stampFirstOffset) 8 f 8 q)
-    (v2 ∙ ap (λ (s : State). withRows (changeRow g2 i (s .rows)) s) v1
-    ∙ ap (λ (rs : List Row). withRows (changeRow g2 i rs) (withRows (changeRow g1 i (viewRows n l .rows)) (viewRows n l))) (rows-of (changeRow g1 i (viewRows n l .rows)) (viewRows n l))
-    ∙ with-twice (changeRow g1 i (viewRows n l .rows)) (changeRow g2 i (changeRow g1 i (viewRows n l .rows))) (viewRows n l)
-    ∙ ap (λ (rs : List Row). withRows rs (viewRows n l)) (change-twice g1 g2 i (viewRows n l .rows) ∙ change-same (λ r. g2 (g1 r)) (stampedAs p f q) (λ r. stamped-twice p f q r) i (viewRows n l .rows)))
+-- the eight bytes at o are a number of the head
+abbrev pub isHeadNumber : ℕ → List Bool
+isHeadNumber o = leb (o + 8) headSize ∷ apart o 8 maxEntriesOffset 8 ∷ apart o 8 defaultTtlOffset 8 ∷ apart o 8 seqOffset 8 ∷ apart o 8 storedWeightOffset 8 ∷ apart o 8 rowCountOffset 8 ∷ []
 
-weight-row : (w : ℕ) → Small 1 w → (c : List ℕ) → length c ≡ rowSize → rowOf (sets c weightOffset (leBytes 1 w)) ≡ withWeight w (rowOf c)
-unfolding rowOf withWeight
-weight-row w hw c h =
-    let vs : List ℕ = leBytes 1 w in
-    let n : length vs ≡ 1 = length-le 1 w in
-    let s : cut weightOffset 1 (sets c weightOffset vs) ≡ vs = rw n at (cut-same c vs weightOffset (omega arith)) in
-    let b : (k m : ℕ) → k + m ≤ weightOffset → cut k m (sets c weightOffset vs) ≡ cut k m c = λ k m q. cut-else c vs weightOffset k m (inl q) in
-    rw (b 0 16 (omega arith), b entryOffset entrySize (omega arith), b placeOffset 1 (omega arith), b stampFirstOffset 8 (omega arith), b stampSeqOffset 8 (omega arith), s, num-le 1 w hw)
+-- the state with v as its number of the head at o
+unfoldable pub withHeadNumber : ℕ → ℕ → State → State
+withHeadNumber o v s =
+    let at = put o v in
+    record {
+      maxEntries = at maxEntriesOffset (s .maxEntries);
+      defaultTtl = at defaultTtlOffset (s .defaultTtl);
+      seq = at seqOffset (s .seq);
+      storedWeight = at storedWeightOffset (s .storedWeight);
+      rowCount = at rowCountOffset (s .rowCount);
+      rows = s .rows;
+      rest = s .rest;
+    }
 
-pub weight-view : (l : List ℕ) (n i w : ℕ) → Small 1 w → i < n → headSize + n * rowSize ≤ length l → viewRows n (sets l (headSize + i * rowSize + weightOffset) (leBytes 1 w)) ≡ withRows (changeRow (withWeight w) i (viewRows n l .rows)) (viewRows n l)
-weight-view l n i w hw h k = row-store (withWeight w) weightOffset (leBytes 1 w) (omega (arith, length-le 1 w)) (weight-row w hw) n i l h k
-
--- ---- the head
-
-pub seq-view : (n : ℕ) (l : List ℕ) (v : ℕ) → Small 8 v → headSize ≤ length l → viewRows n (sets l 16 (leBytes 8 v)) ≡ withSeq v (viewRows n l)
-unfolding viewRows withSeq
-seq-view n l v hv k =
-    let vs : List ℕ = leBytes 8 v in
-    let w : length vs ≡ 8 = length-le 8 v in
-    let s : cut 16 8 (sets l 16 vs) ≡ vs = rw w at (cut-same l vs 16 (omega arith)) in
-    let b : (a m : ℕ) → a + m ≤ 16 → cut a m (sets l 16 vs) ≡ cut a m l = λ a m q. cut-else l vs 16 a m (inl q) in
-    let a : (a m : ℕ) → 24 ≤ a → cut a m (sets l 16 vs) ≡ cut a m l = λ a m q. cut-else l vs 16 a m (inr (omega arith)) in
-    rw (b 0 8 (omega arith), b 8 8 (omega arith), s, a 24 8 (omega arith), a rowCountOffset 8 (omega arith), drop-sets-ge headSize vs l 16 (omega arith), drop-sets-ge (headSize + n * rowSize) vs l 16 (omega arith), num-le 8 v hv)
-
-pub stored-weight-view : (n : ℕ) (l : List ℕ) (v : ℕ) → Small 8 v → headSize ≤ length l → viewRows n (sets l 24 (leBytes 8 v)) ≡ withStoredWeight v (viewRows n l)
-unfolding viewRows withStoredWeight
-stored-weight-view n l v hv k =
-    let vs : List ℕ = leBytes 8 v in
-    let w : length vs ≡ 8 = length-le 8 v in
-    let s : cut 24 8 (sets l 24 vs) ≡ vs = rw w at (cut-same l vs 24 (omega arith)) in
-    let b : (a m : ℕ) → a + m ≤ 24 → cut a m (sets l 24 vs) ≡ cut a m l = λ a m q. cut-else l vs 24 a m (inl q) in
-    rw (b 0 8 (omega arith), b 8 8 (omega arith), b 16 8 (omega arith), s, cut-else l vs 24 rowCountOffset 8 (inr (omega arith)), drop-sets-ge headSize vs l 24 (omega arith), drop-sets-ge (headSize + n * rowSize) vs l 24 (omega arith), num-le 8 v hv)
-
-pub row-count-view : (n : ℕ) (l : List ℕ) (v : ℕ) → Small 8 v → headSize ≤ length l → viewRows n (sets l rowCountOffset (leBytes 8 v)) ≡ withRowCount v (viewRows n l)
-unfolding viewRows withRowCount
-row-count-view n l v hv k =
-    let vs : List ℕ = leBytes 8 v in
-    let w : length vs ≡ 8 = length-le 8 v in
-    let s : cut rowCountOffset 8 (sets l rowCountOffset vs) ≡ vs = rw w at (cut-same l vs rowCountOffset (omega arith)) in
-    let b : (a m : ℕ) → a + m ≤ rowCountOffset → cut a m (sets l rowCountOffset vs) ≡ cut a m l = λ a m q. cut-else l vs rowCountOffset a m (inl q) in
-    rw (b 0 8 (omega arith), b 8 8 (omega arith), b 16 8 (omega arith), b 24 8 (omega arith), s, drop-sets-ge headSize vs l rowCountOffset (omega arith), drop-sets-ge (headSize + n * rowSize) vs l rowCountOffset (omega arith), num-le 8 v hv)
+pub head-store : (o v : ℕ) → all (isHeadNumber o) ≡ true → v < 256 ^ 8 → (n : ℕ) (l : List ℕ) → headSize ≤ length l → viewRows n (sets l o (leBytes 8 v)) ≡ withHeadNumber o v (viewRows n l)
+unfolding viewRows withHeadNumber
+head-store o v e s n l h =
+    let t = all-true (isHeadNumber o) e in
+    let b = leb-true (o + 8) headSize (t 0) in
+    let w = length-le 8 v in
+    let f = field-stored o 8 v l (small 8 v s) (omega arith) in
+    rw (
+      f maxEntriesOffset 8 (t 1),
+      f defaultTtlOffset 8 (t 2),
+      f seqOffset 8 (t 3),
+      f storedWeightOffset 8 (t 4),
+      f rowCountOffset 8 (t 5),
+      drop-sets-ge headSize (leBytes 8 v) l o (omega arith),
+      drop-sets-ge (headSize + n * rowSize) (leBytes 8 v) l o (omega arith),
+    )
 
 -- ---- the head's numbers don't depend on how many rows are seen
 

@@ -1,11 +1,11 @@
 -- Rows of a list of bytes that is put together of parts: what removal, keeping and insertion are made of.
-use mathlib.Core.Path.{_≡_, refl, sym, ap, _∙_, subst}
-use Prim.Native.Nat.{ℕ, zero, suc, _+_, _*_, _-_, _≤_, _<_}
-use native.Mathlib.Nat.{add-suc, suc-add, zero-add}
+use mathlib.Core.Path.{_≡_, refl, sym, ap, _∙_}
+use Prim.Native.Nat.{ℕ, zero, suc, _+_, _*_, _-_, _≤_}
+use native.Mathlib.Nat.{suc-add, zero-add}
 use native.Mathlib.Omega.{arith}
-use mathlib.Core.List.{List, [], _∷_, _++_, append-assoc, append-nil}
-use lib.ListN.{length, take, drop, length-append, length-drop, take-append-drop}
-use lib.Seq.{slice, length-slice, length-take-le, take-all, take-append-le, drop-append-le, drop-drop, take-take}
+use mathlib.Core.List.{List, [], _∷_, _++_, append-nil}
+use lib.ListN.{length, take, drop, length-drop, take-append-drop}
+use lib.Seq.{slice, length-slice, length-take-le, take-append-le, drop-append-le, drop-drop}
 use Rattle.rules.specs.Records.{Row}
 use Rattle.rules.specs.Rows.{withoutRow}
 use Rattle.rules.specs.Memory.{rowOf, rowsOf}
@@ -44,38 +44,20 @@ rows-front i a b e = let z : i ≡ i + 0 = omega arith in ap (λ (k : ℕ). rows
 pub rows-cut : (i : ℕ) (l : List ℕ) → i * rowSize ≤ length l → rowsOf i (take (i * rowSize) l) ≡ rowsOf i l
 rows-cut i l h = sym (rows-front i (take (i * rowSize) l) (drop (i * rowSize) l) (length-take-le (i * rowSize) l h)) ∙ ap (rowsOf i) (take-append-drop (i * rowSize) l)
 
--- a removal: rows behind row i moved down by a row. n is i + suc m
-pub removed : (l D : List ℕ) (i m : ℕ) → (i + suc m) * rowSize ≤ length l
-    → rowsOf (i + m) (take (i * rowSize) l ++ (slice (i * rowSize + rowSize) ((i + suc m) * rowSize) l ++ D))
-    ≡ take i (rowsOf (i + suc m) l) ++ drop (suc i) (rowsOf (i + suc m) l)
-removed l D i m h =
-    let a : length (take (i * rowSize) l) ≡ i * rowSize = length-take-le (i * rowSize) l (omega arith) in
-    let s : length (slice (i * rowSize + rowSize) ((i + suc m) * rowSize) l) ≡ m * rowSize = length-slice (i * rowSize + rowSize) ((i + suc m) * rowSize) l h ∙ omega arith in
-    let e : i * rowSize + rowSize ≡ suc i * rowSize = omega arith in
-    let q : i + suc m ≡ suc i + m = omega arith in
-    let behind : rowsOf m (slice (i * rowSize + rowSize) ((i + suc m) * rowSize) l) ≡ drop (suc i) (rowsOf (i + suc m) l) =
-    ap (λ (k : ℕ). rowsOf m (slice k ((i + suc m) * rowSize) l)) e ∙ rows-drop (suc i) m (take ((i + suc m) * rowSize) l)
-    ∙ ap (λ (k : ℕ). drop (suc i) (rowsOf k (take ((i + suc m) * rowSize) l))) (sym q) ∙ ap (drop (suc i)) (rows-cut (i + suc m) l h) in
-    rows-append (take (i * rowSize) l) _ i m a
-    ∙ ap (λ (rs : List Row). rs ++ rowsOf m (slice (i * rowSize + rowSize) ((i + suc m) * rowSize) l ++ D)) (rows-cut i l (omega arith) ∙ rows-take i (suc m) l)
-    ∙ ap (λ (rs : List Row). take i (rowsOf (i + suc m) l) ++ rs) (rows-front m _ D s ∙ behind)
-
--- an insertion: rows from i on moved up by a row, and a row c stored at i. There are i + m rows before
-pub inserted : (l c D : List ℕ) (i m : ℕ) → (i + m) * rowSize ≤ length l → length c ≡ rowSize
-    → rowsOf (i + suc m) (take (i * rowSize) l ++ (c ++ (slice (i * rowSize) ((i + m) * rowSize) l ++ D)))
-    ≡ take i (rowsOf (i + m) l) ++ rowOf c ∷ drop i (rowsOf (i + m) l)
-unfolding rowsOf
-inserted l c D i m h w =
-    let a : length (take (i * rowSize) l) ≡ i * rowSize = length-take-le (i * rowSize) l (omega arith) in
-    let s : length (slice (i * rowSize) ((i + m) * rowSize) l) ≡ m * rowSize = length-slice (i * rowSize) ((i + m) * rowSize) l h ∙ omega arith in
-    let o : suc m ≡ 1 + m = omega arith in
-    let b : List ℕ = slice (i * rowSize) ((i + m) * rowSize) l ++ D in
-    let one : rowsOf (suc m) (c ++ b) ≡ rowOf c ∷ rowsOf m b = ap (λ (k : ℕ). rowsOf k (c ++ b)) o ∙ rows-append c b 1 m (omega arith) ∙ ap (λ (x : List ℕ). rowOf x ∷ rowsOf m b) (take-all rowSize c (omega arith)) in
-    let behind : rowsOf m b ≡ drop i (rowsOf (i + m) l) =
-    rows-front m _ D s ∙ rows-drop i m (take ((i + m) * rowSize) l) ∙ ap (drop i) (rows-cut (i + m) l h) in
-    rows-append (take (i * rowSize) l) _ i (suc m) a
-    ∙ ap (λ (rs : List Row). rs ++ rowsOf (suc m) (c ++ b)) (rows-cut i l (omega arith) ∙ rows-take i m l)
-    ∙ ap (λ (rs : List Row). take i (rowsOf (i + m) l) ++ rs) (one ∙ ap (λ (rs : List Row). rowOf c ∷ rs) behind)
+-- p rows, the rows from a up to e, and the rows from s on are n rows again
+pub parts-rows : (n p a e s : ℕ) → p ≤ n → a ≤ e → e ≤ n → s ≤ n → p + (e - a + (n - s)) ≡ n → (b : List ℕ) → n * rowSize ≤ length b
+    → rowsOf n (take (p * rowSize) b ++ (slice (a * rowSize) (e * rowSize) b ++ drop (s * rowSize) b)) ≡ take p (rowsOf n b) ++ (drop a (take e (rowsOf n b)) ++ drop s (rowsOf n b))
+parts-rows n p a e s f h g u w b k =
+    let lp : length (take (p * rowSize) b) ≡ p * rowSize = length-take-le (p * rowSize) b (omega arith) in
+    let ls : length (slice (a * rowSize) (e * rowSize) b) ≡ (e - a) * rowSize = length-slice (a * rowSize) (e * rowSize) b (omega arith) ∙ omega arith in
+    let front : (i : ℕ) → i ≤ n → rowsOf i (take (i * rowSize) b) ≡ take i (rowsOf n b) =
+    λ i q. let z : i + (n - i) ≡ n = omega arith in rows-cut i b (omega arith) ∙ rw z at (rows-take i (n - i) b) in
+    let za : a + (e - a) ≡ e = omega arith in
+    let zs : s + (n - s) ≡ n = omega arith in
+    let middle : rowsOf (e - a) (slice (a * rowSize) (e * rowSize) b) ≡ drop a (take e (rowsOf n b)) = rw za at (rows-drop a (e - a) (take (e * rowSize) b)) ∙ ap (drop a) (front e g) in
+    let last : rowsOf (n - s) (drop (s * rowSize) b) ≡ drop s (rowsOf n b) = rw zs at (rows-drop s (n - s) b) in
+    ap (λ (m : ℕ). rowsOf m (take (p * rowSize) b ++ (slice (a * rowSize) (e * rowSize) b ++ drop (s * rowSize) b))) (sym w) ∙ rows-append (take (p * rowSize) b) _ p (e - a + (n - s)) lp
+    ∙ rw (rows-append (slice (a * rowSize) (e * rowSize) b) (drop (s * rowSize) b) (e - a) (n - s) ls, front p f, middle, last)
 
 pub without-eq : (i : ℕ) (rs : List Row) → withoutRow i rs ≡ take i rs ++ drop (suc i) rs
 unfolding withoutRow

@@ -6,7 +6,7 @@ ghost use Rattle.rules.specs.Records.{probationBound};
 pub const MAX_ROWS: u64 = 1024;
 
 // Q is this part of max.
-pub const PROBATION_DIVISOR: u64 = 32;
+const PROBATION_DIVISOR: u64 = 32;
 
 // Q.
 pub fn probation_bound(max: u64) -> u64

@@ -55,7 +55,7 @@ pub fn row_count(state: &[u8]) -> u64
 }
 
 // Head numbers are set one at a time; n is any number of rows.
-pub fn set_seq(state: &mut [u8], n: usize, v: u64)
+fn set_seq(state: &mut [u8], n: usize, v: u64)
     requires { ⌜ headSize ≤ length (now state) ⌝ }
     ensures { λ _. ⌜ viewRows n (now (state .exit)) ≡ withSeq v (viewRows n (now (state .entry))) ⌝ }
 {

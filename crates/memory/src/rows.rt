@@ -1,4 +1,4 @@
-// Whole rows: taken out, kept together, zeroed.
+// Whole rows: taken out, copied down, zeroed; and a fresh memory.
 use crate::codes::PROBATION;
 use crate::head;
 use crate::row;
@@ -76,6 +76,6 @@ pub fn make_fresh(state: &mut [u8], rows: usize, max: u64, ttl: u64)
     ensures { λ _. ⌜ viewRows 0 (now (state .exit)) ≡ fresh rows max ttl (drop (headSize + rows * rowSize) (now (state .entry))) ⌝ }
 {
     raw::moves::fill_zero(state, 0, HEAD + rows * ROW);
-    raw::numbers::write_u64(state, 0, max);
+    raw::numbers::write_u64(state, raw::layout::MAX_ENTRIES, max);
     raw::numbers::write_u64(state, raw::layout::DEFAULT_TTL, ttl);
 }

@@ -25,7 +25,6 @@ ghost use mathlib.Core.Bool.{true, false, cond};
 ghost use Prim.Native.Nat.{_-_, _≤_, _<_, max};
 ghost use Rattle.types.specs.declared.placed.HintOutcome.the-variants.{Changed, Unchanged};
 ghost use Rattle.rules.specs.Records.{byUse, probation};
-ghost use Rattle.rules.specs.Rows.{rowAt, inMain};
 ghost use Rattle.rules.specs.Sound.{sound};
 ghost use Rattle.rules.specs.Entries.{update};
 ghost use Rattle.rules.specs.Room.{refile};
@@ -33,7 +32,7 @@ ghost use Rattle.rules.specs.Placement.{placeResult, heldOutcome, promote, plac
 ghost use Rattle.rules.specs.Refusals.{lastSeq};
 ghost use Rattle.rules.specs.Memory.{capacity, viewRows};
 ghost use Rattle.filing.specs.Filings.{Writable};
-ghost use Rattle.placement.specs.Placements.{Placing, Holds, promotedAs};
+ghost use Rattle.placement.specs.Placements.{Placing, Holds, HeldHint, rowIn, promotedAs};
 
 // Unchanged where the paths are the same, else Changed.
 fn outcome_of(same: bool) -> HintOutcome
@@ -58,8 +57,8 @@ fn refile_held(
     segment: Segment,
     outcome: HintOutcome,
 ) -> Placed
-    requires { ⌜ (sound (capacity (now state)) (viewRows n (now state)) ≡ true) × (i < n) × Writable path × (viewRows n (now state) .seq ≤ lastSeq) × (outcome ≡ heldOutcome path (rowAt i (viewRows n (now state) .rows))) ⌝ }
-    ensures { λ r. ⌜ Placing (placeResult (heldOutcome path (rowAt i (viewRows n (now (state .entry)) .rows))) 0 segment false 0 (refile (update path time ttl (rowAt i (viewRows n (now (state .entry)) .rows) .entry)) weight i (viewRows n (now (state .entry))))) r (now (state .exit)) ⌝ }
+    requires { ⌜ (sound (capacity (now state)) (viewRows n (now state)) ≡ true) × (i < n) × Writable path × (viewRows n (now state) .seq ≤ lastSeq) × (outcome ≡ heldOutcome path (rowIn n i (now state))) ⌝ }
+    ensures { λ r. ⌜ Placing (placeResult (heldOutcome path (rowIn n i (now (state .entry)))) 0 segment false 0 (refile (update path time ttl (rowIn n i (now (state .entry)) .entry)) weight i (viewRows n (now (state .entry))))) r (now (state .exit)) ⌝ }
 {
     update_in_place(state, n, i, path, time, ttl, weight);
     Placed {
@@ -112,7 +111,7 @@ fn promote(
     weight: u8,
     outcome: HintOutcome,
 ) -> Placed
-    requires { ⌜ Holds key n i (now state) × Writable path × (viewRows n (now state) .seq ≤ lastSeq) × (inMain (rowAt i (viewRows n (now state) .rows)) ≡ false) × (outcome ≡ heldOutcome path (rowAt i (viewRows n (now state) .rows))) ⌝ }
+    requires { ⌜ HeldHint key path outcome false n i (now state) ⌝ }
     ensures { λ r. ⌜ Placing (promote key path time ttl weight i (viewRows n (now (state .entry)))) r (now (state .exit)) ⌝ }
 {
     let e = updated_entry(state, n, i, path, time, ttl);
@@ -142,7 +141,7 @@ fn place_probation(
     funding: Funding,
     outcome: HintOutcome,
 ) -> Placed
-    requires { ⌜ Holds key n i (now state) × Writable path × (viewRows n (now state) .seq ≤ lastSeq) × (inMain (rowAt i (viewRows n (now state) .rows)) ≡ false) × (outcome ≡ heldOutcome path (rowAt i (viewRows n (now state) .rows))) ⌝ }
+    requires { ⌜ HeldHint key path outcome false n i (now state) ⌝ }
     ensures { λ r. ⌜ Placing (placeProbation key path time ttl funding i (viewRows n (now (state .entry)))) r (now (state .exit)) ⌝ }
 {
     let w = larger(row_weight(path), row::weight(state, n, i));
@@ -166,7 +165,7 @@ fn grow(
     added: u64,
     outcome: HintOutcome,
 ) -> Placed
-    requires { ⌜ Holds key n i (now state) × Writable path × (viewRows n (now state) .seq ≤ lastSeq) × (inMain (rowAt i (viewRows n (now state) .rows)) ≡ true) × (added ≡ weight - rowAt i (viewRows n (now state) .rows) .weight) × (outcome ≡ heldOutcome path (rowAt i (viewRows n (now state) .rows))) ⌝ }
+    requires { ⌜ HeldHint key path outcome true n i (now state) × (added ≡ weight - rowIn n i (now state) .weight) ⌝ }
     ensures { λ r. ⌜ Placing (grow key path time ttl stated weight i (viewRows n (now (state .entry)))) r (now (state .exit)) ⌝ }
 {
     let e = updated_entry(state, n, i, path, time, ttl);
@@ -211,7 +210,7 @@ fn place_main(
     stated: bool,
     outcome: HintOutcome,
 ) -> Placed
-    requires { ⌜ Holds key n i (now state) × Writable path × (viewRows n (now state) .seq ≤ lastSeq) × (inMain (rowAt i (viewRows n (now state) .rows)) ≡ true) × (outcome ≡ heldOutcome path (rowAt i (viewRows n (now state) .rows))) ⌝ }
+    requires { ⌜ HeldHint key path outcome true n i (now state) ⌝ }
     ensures { λ r. ⌜ Placing (placeMain key path time ttl funding stated i (viewRows n (now (state .entry)))) r (now (state .exit)) ⌝ }
 {
     let w = row_weight(path);

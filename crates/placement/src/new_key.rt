@@ -1,4 +1,4 @@
-// 2. A new key.
+// 2. A new key; and for held keys too, a path's weight as a row holds it, and Rejected.
 use entries::new_entry::new_entry;
 use filing::in_room::file_in_room;
 use memory::codes::BY_USE;

@@ -1,13 +1,14 @@
 -- A run of stores in a list, and a cut of it.
-use mathlib.Core.Path.{_≡_, refl, sym, ap, _∙_, subst}
-use Prim.Native.Nat.{ℕ, zero, suc, _+_, _*_, _-_, _≤_, _<_}
+use mathlib.Core.Path.{_≡_, refl, sym, ap, _∙_}
+use Prim.Native.Nat.{ℕ, suc, _+_, _-_, _≤_}
 use native.Mathlib.Nat.{add-zero}
 use native.Mathlib.Omega.{arith}
 use mathlib.Core.Logic.{_⊎_, inl, inr}
 use mathlib.Core.List.{List, [], _∷_, _++_, append-assoc}
 use lib.ListN.{length, take, drop, set, replicate, length-replicate, replicate-append-replicate}
-use lib.Seq.{sets, sets-eq, take-set-le, drop-set-lt, take-set-lt, drop-set-add, take-at, drop-at, length-take-le, drop-drop, take-take}
+use lib.Seq.{sets, sets-eq, take-set-le, drop-set-lt, take-set-lt, drop-set-add, take-at, drop-at, length-take-le, drop-drop}
 use Rattle.rules.specs.Memory.{cut}
+use Rattle.rules.proofs.MemoryLaws.{cut-front}
 
 pub take-sets-le : (n : ℕ) (vs l : List ℕ) (i : ℕ) → n ≤ i → take n (sets l i vs) ≡ take n l
 take-sets-le n [] l i h = refl
@@ -43,14 +44,8 @@ cut-same l vs i h =
     rw (sets-eq vs l i h, append-assoc) (ap (take (length vs)) (drop-at (take i l) _ i n) ∙ take-at vs _ (length vs) refl)
 
 -- a cut of a cut
-drop-take : (o w m : ℕ) (l : List ℕ) → o + w ≤ m → take w (drop o (take m l)) ≡ take w (drop o l)
-drop-take zero w m l h = take-take w m l (omega arith)
-drop-take (suc o) w zero l h = absurd (omega arith)
-drop-take (suc o) w (suc m) [] h = refl
-drop-take (suc o) w (suc m) (x ∷ xs) h = drop-take o w m xs (omega arith)
-
 pub cut-cut : (k m o w : ℕ) (l : List ℕ) → o + w ≤ m → cut o w (cut k m l) ≡ cut (k + o) w l
-cut-cut k m o w l h = drop-take o w m (drop k l) h ∙ ap (take w) (drop-drop o k l)
+cut-cut k m o w l h = cut-front o w m (drop k l) h ∙ ap (take w) (drop-drop o k l)
 
 -- one zero more
 pub zero-turn : (l : List ℕ) (at j : ℕ) → set (sets l at (replicate j 0)) (at + j) 0 ≡ sets l at (replicate (j + 1) 0)

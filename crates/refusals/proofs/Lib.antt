@@ -1,4 +1,4 @@
 pub mod SoundCalls
-pub mod ReadCalls
+pub mod SearchedKeys
 pub mod RefusalsSaid
 pub mod WriteRefusals

@@ -20,17 +20,19 @@ use Rattle.refusals.proofs.RefusalsSaid.{said}
 
 -- ---- the number, as the code finds it
 
-pub bad-two : (p : Path) (s : State) (b : Bool) → b ≡ badPath p → b ≡ true → 2 ≡ writeRefusal p s
-unfolding writeRefusal
-bad-two p s b e h = rw (sym e ∙ h)
+module _ (p : Path) (s : State) {b : Bool} (e : b ≡ badPath p) where
+  pub bad-two : b ≡ true → 2 ≡ writeRefusal p s
+  unfolding writeRefusal
+  bad-two h = rw (sym e ∙ h)
 
-pub spent-three : (p : Path) (s : State) (b : Bool) (q : ℕ) → b ≡ badPath p → b ≡ false → q ≡ s .seq → 18446744073709547519 < q → 3 ≡ writeRefusal p s
-unfolding writeRefusal seqSpent
-spent-three p s b q e h v w = rw (sym e ∙ h, ← v, lt-ltb 18446744073709547519 q w)
+  module _ {q : ℕ} (h : b ≡ false) (v : q ≡ s .seq) where
+    pub spent-three : 18446744073709547519 < q → 3 ≡ writeRefusal p s
+    unfolding writeRefusal seqSpent
+    spent-three w = rw (sym e ∙ h, ← v, lt-ltb 18446744073709547519 q w)
 
-pub none-zero : (p : Path) (s : State) (b : Bool) (q : ℕ) → b ≡ badPath p → b ≡ false → q ≡ s .seq → q ≤ 18446744073709547519 → 0 ≡ writeRefusal p s
-unfolding writeRefusal seqSpent
-none-zero p s b q e h v w = rw (sym e ∙ h, ← v, le-ltb 18446744073709547519 q w)
+    pub none-zero : q ≤ 18446744073709547519 → 0 ≡ writeRefusal p s
+    unfolding writeRefusal seqSpent
+    none-zero w = rw (sym e ∙ h, ← v, le-ltb 18446744073709547519 q w)
 
 -- ---- a write that is refused, and one that goes on
 
@@ -48,7 +50,8 @@ passed p s n e z = go (badPath p) refl (seqSpent s) refl (sym z ∙ e)
     go false x true y h = absurd (let w : ⊥ = omega arith in w)
     go false x false y h = record { path = x; stamps = y }
 
-write-number : (R : ℕ) (s : State) (q : Call) (p : Path) (n : ℕ) → sound R s ≡ true → pathGiven q ≡ some p → drawsStamps q ≡ true → n ≡ writeRefusal p s → (n ≡ 0 → ⊥) → refusal R s (Asked q) ≡ some n
+write-number : (R : ℕ) (s : State) (q : Call) (p : Path) (n : ℕ) → sound R s ≡ true → pathGiven q ≡ some p → drawsStamps q ≡ true
+    → n ≡ writeRefusal p s → (n ≡ 0 → ⊥) → refusal R s (Asked q) ≡ some n
 unfolding writeRefusal
 write-number R s q p n h g d e z = go (badPath p) refl (seqSpent s) refl e
   where
@@ -60,9 +63,11 @@ write-number R s q p n h g d e z = go (badPath p) refl (seqSpent s) refl e
     go false x true y m = rw m (refused-three R s q h (given false x) d y)
     go false x false y m = absurd (z m)
 
-pub write-refused : (l : List ℕ) (q : Call) (p : Path) (n : ℕ) → sound (capacity l) (view l) ≡ true → pathGiven q ≡ some p → drawsStamps q ≡ true → n ≡ writeRefusal p (view l) → (n ≡ 0 → ⊥) → (Refused n ≡ call l q .answer) × (l ≡ call l q .memory)
+pub write-refused : (l : List ℕ) (q : Call) (p : Path) (n : ℕ) → sound (capacity l) (view l) ≡ true → pathGiven q ≡ some p → drawsStamps q ≡ true
+    → n ≡ writeRefusal p (view l) → (n ≡ 0 → ⊥) → (Refused n ≡ call l q .answer) × (l ≡ call l q .memory)
 write-refused l q p n h g d e z = said l q n (write-number (capacity l) (view l) q p n h g d e z)
 
 -- a hint that goes on is not refused
-pub hint-allowed : (l : List ℕ) (q : Call) (p : Path) → sound (capacity l) (view l) ≡ true → pathGiven q ≡ some p → verifiedWrite q ≡ none → Passed p (view l) → refusal (capacity l) (view l) (Asked q) ≡ none
+pub hint-allowed : (l : List ℕ) (q : Call) (p : Path) → sound (capacity l) (view l) ≡ true → pathGiven q ≡ some p → verifiedWrite q ≡ none
+    → Passed p (view l) → refusal (capacity l) (view l) (Asked q) ≡ none
 hint-allowed l q p h g v w = write-allowed (capacity l) (view l) q h (rw g (w .path)) (w .stamps) (rw v)

@@ -51,76 +51,91 @@ pub down-stays : (i j : ℕ) (l : List ℕ) → i ≤ j → l ≡ keptDown i j l
 unfolding keptDown
 down-stays i j l h = rw (le-ltb j i h)
 
-pub passed-out : (b : Bool) (j : ℕ) (l m : List ℕ) → b ≡ true → (j ≡ cond b j (j + 1)) × (l ≡ cond b l m)
-passed-out b j l m e = rw e (refl, refl)
+pub passed-out : {a b : Bool} {j : ℕ} {l : List ℕ} (m : List ℕ) → a ≡ b → a ≡ true → (j ≡ cond b j (j + 1)) × (l ≡ cond b l m)
+passed-out m h e = let k = sym h ∙ e in rw k (refl, refl)
 
-pub passed-kept : (b : Bool) (j : ℕ) (l m x : List ℕ) → b ≡ false → x ≡ m → (j + 1 ≡ cond b j (j + 1)) × (x ≡ cond b l m)
-passed-kept b j l m x e v = rw e (refl, v)
+pub passed-kept : {a b : Bool} (j : ℕ) (l : List ℕ) {m x : List ℕ} → a ≡ b → a ≡ false → x ≡ m → (j + 1 ≡ cond b j (j + 1)) × (x ≡ cond b l m)
+passed-kept j l h e v = let k = sym h ∙ e in rw k (refl, v)
 
 -- ---- i of n rows were passed, j of them stay
 
 pub record Kept (kind time : ℕ) (a : NodeAddr) (n i j : ℕ) (l m : List ℕ) : Type 0 where
+  pub long : length m ≡ length l
+  pub within : i ≤ n
   pub below : j ≤ i
-  pub counted : j ≡ length (keptRows kind time a (take i (viewRows n l .rows)))
-  pub keeping : Keeping i j (keptRows kind time a (take i (viewRows n l .rows))) l m
+  counted : j ≡ length (keptRows kind time a (take i (viewRows n l .rows)))
+  keeping : Keeping i j (keptRows kind time a (take i (viewRows n l .rows))) l m
 
-pub kept-start : (kind time : ℕ) (a : NodeAddr) (n : ℕ) (l : List ℕ) → Kept kind time a n 0 0 l l
+pub kept-start : {kind time : ℕ} {a : NodeAddr} {n : ℕ} {l : List ℕ} → Kept kind time a n 0 0 l l
 unfolding keptRows keepRows
-kept-start kind time a n l = record { below = omega arith; counted = refl; keeping = keeping-start l }
+kept-start {l = l} = record { long = refl; within = omega arith; below = omega arith; counted = refl; keeping = keeping-start l }
 
 kept-next : (kind time : ℕ) (a : NodeAddr) (i : ℕ) (rs : List Row) (b : Bool) → i < length rs → sweepTest kind time a (rowAt i rs) ≡ b
     → keptRows kind time a (take (i + 1) rs) ≡ keptRows kind time a (take i rs) ++ cond (not b) (rowAt i rs ∷ []) []
 unfolding keptRows
-kept-next kind time a i rs b h e = keep-next (λ r. not (sweepTest kind time a r)) i rs h ∙ ap (λ (x : Bool). keepRows (λ r. not (sweepTest kind time a r)) (take i rs) ++ cond (not x) (rowAt i rs ∷ []) []) e
+kept-next kind time a i rs b h e = keep-next (λ r. not (sweepTest kind time a r)) i rs h ∙ ap (λ (x : Bool). keptRows kind time a (take i rs) ++ cond (not x) (rowAt i rs ∷ []) []) e
 
-one-more : (rs : List Row) (r : Row) → length (rs ++ (r ∷ [])) ≡ length rs + 1
-one-more rs r = length-append rs (r ∷ [])
-
-down-keeping : (n i j : ℕ) (rs : List Row) (l m : List ℕ) → j ≤ i → i < n → headSize + n * rowSize ≤ length l → Keeping i j rs l m → Keeping (i + 1) (j + 1) (rs ++ (rowAt i (viewRows n l .rows) ∷ [])) l (keptDown i j m)
+down-keeping : (n i j : ℕ) (rs : List Row) (l m : List ℕ) → j ≤ i → i < n → headSize + n * rowSize ≤ length l → Keeping i j rs l m →
+    Keeping (i + 1) (j + 1) (rs ++ (rowAt i (viewRows n l .rows) ∷ [])) l (keptDown i j m)
 unfolding keptDown
 down-keeping n i j rs l m h g s k = go (ltb j i) refl
   where
-    go : (b : Bool) → ltb j i ≡ b → Keeping (i + 1) (j + 1) (rs ++ (rowAt i (viewRows n l .rows) ∷ [])) l (cond b (sets m (headSize + j * rowSize) (cut (headSize + i * rowSize) rowSize m)) m)
+    ts : List Row
+    ts = rs ++ (rowAt i (viewRows n l .rows) ∷ [])
+
+    go : (b : Bool) → ltb j i ≡ b → Keeping (i + 1) (j + 1) ts l (cond b (sets m (headSize + j * rowSize) (cut (headSize + i * rowSize) rowSize m)) m)
     go true e = keeping-copy n i j rs l m (ltb-true j i e) g s k
     go false e =
         let q : j ≡ i = omega (arith, ltb-false j i e) in
-        subst (λ (x : ℕ). Keeping (i + 1) (x + 1) (rs ++ (rowAt i (viewRows n l .rows) ∷ [])) l m) (sym q) (keeping-stay n i rs l m g s (subst (λ (x : ℕ). Keeping i x rs l m) q k))
+        subst (λ (x : ℕ). Keeping (i + 1) (x + 1) ts l m) (sym q) (keeping-stay n i rs l m g s (subst (λ (x : ℕ). Keeping i x rs l m) q k))
 
-pub kept-turn : (kind time : ℕ) (a : NodeAddr) (n i j : ℕ) (l m : List ℕ) (k : ℕ) (x : List ℕ) → i < n → headSize + n * rowSize ≤ length l → Kept kind time a n i j l m
-    → k ≡ cond (sweepTest kind time a (rowAt i (viewRows n m .rows))) j (j + 1) → x ≡ cond (sweepTest kind time a (rowAt i (viewRows n m .rows))) m (keptDown i j m) → Kept kind time a n (i + 1) k l x
-kept-turn kind time a n i j l m k x h s q e v = go (sweepTest kind time a (rowAt i (viewRows n l .rows))) refl (e ∙ ap (λ (b : Bool). cond b j (j + 1)) same) (v ∙ ap (λ (b : Bool). cond b m (keptDown i j m)) same)
+pub kept-turn : {kind time : ℕ} {a : NodeAddr} {n i j k : ℕ} {l m x : List ℕ} → Kept kind time a n i j l m → i < n → headSize + n * rowSize ≤ length l → length x ≡ length m →
+    (k ≡ cond (sweepTest kind time a (rowAt i (viewRows n m .rows))) j (j + 1)) × (x ≡ cond (sweepTest kind time a (rowAt i (viewRows n m .rows))) m (keptDown i j m)) →
+    Kept kind time a n (i + 1) k l x
+kept-turn {kind} {time} {a} {n} {i} {j} {k} {l} {m} {x} q h s len e =
+    go (sweepTest kind time a r) refl (e .0 ∙ ap (λ (b : Bool). cond b j (j + 1)) same) (e .1 ∙ ap (λ (b : Bool). cond b m (keptDown i j m)) same)
   where
-    same : sweepTest kind time a (rowAt i (viewRows n m .rows)) ≡ sweepTest kind time a (rowAt i (viewRows n l .rows))
-    same = ap (λ (r : Row). sweepTest kind time a r) (keeping-row n i j (keptRows kind time a (take i (viewRows n l .rows))) l m h (q .keeping))
+    rs : List Row
+    rs = keptRows kind time a (take i (viewRows n l .rows))
 
-    go : (b : Bool) → sweepTest kind time a (rowAt i (viewRows n l .rows)) ≡ b → k ≡ cond b j (j + 1) → x ≡ cond b m (keptDown i j m) → Kept kind time a n (i + 1) k l x
-    go true t e1 v1 =
-        let rs : List Row = keptRows kind time a (take i (viewRows n l .rows)) in
-        let w : keptRows kind time a (take (i + 1) (viewRows n l .rows)) ≡ rs = kept-next kind time a i (viewRows n l .rows) true (omega (arith, view-length n l)) t ∙ append-nil rs in
-        let z = keeping-skip i j rs l m (q .keeping) in
-        let b = q .below in
-        rw (e1, v1) (record { below = omega arith; counted = q .counted ∙ ap length (sym w); keeping = subst (λ (y : List Row). Keeping (i + 1) j y l m) (sym w) z })
-    go false t e1 v1 =
-        let rs : List Row = keptRows kind time a (take i (viewRows n l .rows)) in
-        let r : Row = rowAt i (viewRows n l .rows) in
-        let w : keptRows kind time a (take (i + 1) (viewRows n l .rows)) ≡ rs ++ (r ∷ []) = kept-next kind time a i (viewRows n l .rows) false (omega (arith, view-length n l)) t in
+    r : Row
+    r = rowAt i (viewRows n l .rows)
+
+    same : sweepTest kind time a (rowAt i (viewRows n m .rows)) ≡ sweepTest kind time a r
+    same = ap (λ (y : Row). sweepTest kind time a y) (keeping-row n i j rs l m h (q .keeping))
+
+    next : (y : ℕ) (ys : List Row) → k ≡ y → y ≤ i + 1 → y ≡ length ys → keptRows kind time a (take (i + 1) (viewRows n l .rows)) ≡ ys → Keeping (i + 1) y ys l x →
+        Kept kind time a n (i + 1) k l x
+    next y ys ek b c w z = rw ek (record { long = len ∙ q .long; within = omega arith; below = b; counted = c ∙ ap length (sym w); keeping = rw w z })
+
+    go : (b : Bool) → sweepTest kind time a r ≡ b → k ≡ cond b j (j + 1) → x ≡ cond b m (keptDown i j m) → Kept kind time a n (i + 1) k l x
+    go true t ek ex =
+        let w = kept-next kind time a i (viewRows n l .rows) true (omega (arith, view-length n l)) t ∙ append-nil rs in
+        next j rs ek (omega (arith, q .below)) (q .counted) w (rw ex (keeping-skip i j rs l m (q .keeping)))
+    go false t ek ex =
+        let w = kept-next kind time a i (viewRows n l .rows) false (omega (arith, view-length n l)) t in
         let z = down-keeping n i j rs l m (q .below) h s (q .keeping) in
-        let b = q .below in
-        rw (e1, v1) (record { below = omega arith; counted = ap (λ (y : ℕ). y + 1) (q .counted) ∙ sym (one-more rs r) ∙ ap length (sym w); keeping = subst (λ (y : List Row). Keeping (i + 1) (j + 1) y l (keptDown i j m)) (sym w) z })
+        next (j + 1) (rs ++ (r ∷ [])) ek (omega (arith, q .below)) (omega (arith, q .counted, length-append rs (r ∷ []))) w (rw ex z)
 
 kept-whole : (kind time : ℕ) (a : NodeAddr) (n : ℕ) (l : List ℕ) → keptRows kind time a (take n (viewRows n l .rows)) ≡ keptRows kind time a (viewRows n l .rows)
 unfolding keptRows
 kept-whole kind time a n l = keep-all (λ r. not (sweepTest kind time a r)) n (viewRows n l .rows) (view-length n l)
 
-pub kept-end : (kind time : ℕ) (a : NodeAddr) (n i j : ℕ) (l m : List ℕ) → i ≡ n → Kept kind time a n i j l m
-    → (j ≤ n) × (j ≡ length (keptRows kind time a (viewRows n l .rows))) × OnlyRows n j (keptRows kind time a (viewRows n l .rows)) l m
-kept-end kind time a n i j l m e q =
+pub kept-end : {kind time : ℕ} {a : NodeAddr} {n i j : ℕ} {l m : List ℕ} → Kept kind time a n i j l m → n ≤ i →
+    (j ≤ n) × (j ≡ length (keptRows kind time a (viewRows n l .rows))) × OnlyRows n j (keptRows kind time a (viewRows n l .rows)) l m
+kept-end {kind} {time} {a} {n} {i} {j} {l} {m} q h =
+    let e : i ≡ n = omega (arith, q .within) in
     let w = kept-whole kind time a n l in
     let z : Kept kind time a n n j l m = subst (λ (x : ℕ). Kept kind time a n x j l m) e q in
     (z .below, z .counted ∙ ap length w, keeping-end n j (keptRows kind time a (viewRows n l .rows)) l m (subst (λ (y : List Row). Keeping n j y l m) w (z .keeping)))
 
-pub row-fits : (kind time : ℕ) (a : NodeAddr) (n i j : ℕ) (l m : List ℕ) → i < n → PathsFit (viewRows n l .rows) → Kept kind time a n i j l m → PathFit (rowAt i (viewRows n m .rows))
-row-fits kind time a n i j l m h p q = subst PathFit (sym (keeping-row n i j (keptRows kind time a (take i (viewRows n l .rows))) l m h (q .keeping))) (every-at PathFit i (viewRows n l .rows) (omega (arith, view-length n l)) p)
+pub path-at : (n i : ℕ) (l : List ℕ) → i < n → PathsFit (viewRows n l .rows) → PathFit (rowAt i (viewRows n l .rows))
+path-at n i l h p = every-at PathFit i (viewRows n l .rows) (omega (arith, view-length n l)) p
+
+pub row-fits : {kind time : ℕ} {a : NodeAddr} {n i j : ℕ} {l m : List ℕ} → Kept kind time a n i j l m → i < n → PathsFit (viewRows n l .rows) →
+    PathFit (rowAt i (viewRows n m .rows))
+row-fits {kind} {time} {a} {n} {i} {j} {l} {m} q h p =
+    subst PathFit (sym (keeping-row n i j (keptRows kind time a (take i (viewRows n l .rows))) l m h (q .keeping))) (path-at n i l h p)
 
 -- ---- what a row weighs in main
 
@@ -139,42 +154,50 @@ unfolding keepRows total
 left-out p [] = refl
 left-out p (r ∷ rs) = go (p r) (left-out p rs)
   where
-    go : (b : Bool) → length (keepRows (λ x. not (p x)) rs) + total (λ x. cond (p x) 1 0) rs ≡ length rs → length (cond (not b) (r ∷ keepRows (λ x. not (p x)) rs) (keepRows (λ x. not (p x)) rs)) + (cond b 1 0 + total (λ x. cond (p x) 1 0) rs) ≡ suc (length rs)
+    ks : List Row
+    ks = keepRows (λ x. not (p x)) rs
+
+    go : (b : Bool) → length ks + countRows p rs ≡ length rs → length (cond (not b) (r ∷ ks) ks) + (cond b 1 0 + countRows p rs) ≡ suc (length rs)
     go true h = omega arith
     go false h = omega arith
 
-pub swept : (kind time : ℕ) (a : NodeAddr) (n j w : ℕ) (l m x : List ℕ) → j ≤ n → j ≡ length (keptRows kind time a (viewRows n l .rows)) → OnlyRows n j (keptRows kind time a (viewRows n l .rows)) l m
-    → w ≡ weighRows inMain (viewRows j m .rows) → viewRows j x ≡ shrunk n j w m
-    → viewRows j x ≡ withOnlyRows (keptRows kind time a (viewRows n l .rows)) (viewRows n l)
-swept kind time a n j w l m x h c o u v =
+pub swept : (kind time : ℕ) (a : NodeAddr) {n j w : ℕ} {l m : List ℕ} (x : List ℕ) →
+    (j ≤ n) × (j ≡ length (keptRows kind time a (viewRows n l .rows))) × OnlyRows n j (keptRows kind time a (viewRows n l .rows)) l m →
+    w ≡ weighRows inMain (viewRows j m .rows) → viewRows j x ≡ shrunk n j w m →
+    (j ≤ n) × (j ≡ length (keptRows kind time a (viewRows n l .rows))) × (viewRows j x ≡ withOnlyRows (keptRows kind time a (viewRows n l .rows)) (viewRows n l))
+swept kind time a {n} {j} {w} {l} {m} x k u v =
     let ks : List Row = keptRows kind time a (viewRows n l .rows) in
-    let g : w ≡ weighRows inMain ks = u ∙ ap (weighRows inMain) (o .rows) in
-    v ∙ ap (λ (y : ℕ). shrunk n j y m) g ∙ only-shrunk n j ks l m h (sym c) o
+    let g : w ≡ weighRows inMain ks = u ∙ ap (weighRows inMain) (k .2 .rows) in
+    (k .0, k .1, v ∙ ap (λ (y : ℕ). shrunk n j y m) g ∙ only-shrunk n j ks l m (k .0) (sym (k .1)) (k .2))
 
 -- ---- where no row matches
 
--- i of the rows were passed, and all of them stay
-abbrev pub AllStay : ℕ → ℕ → NodeAddr → ℕ → List Row → Type 0
-AllStay kind time a i rs = keptRows kind time a (take i rs) ≡ take i rs
+-- i of n rows were passed, and all of them stay
+pub record AllStay (kind time : ℕ) (a : NodeAddr) (n i : ℕ) (l : List ℕ) : Type 0 where
+  same : keptRows kind time a (take i (viewRows n l .rows)) ≡ take i (viewRows n l .rows)
 
-pub stay-start : (kind time : ℕ) (a : NodeAddr) (rs : List Row) → AllStay kind time a 0 rs
+pub stay-start : {kind time : ℕ} {a : NodeAddr} {n : ℕ} {l : List ℕ} → AllStay kind time a n 0 l
 unfolding keptRows keepRows
-stay-start kind time a rs = refl
+stay-start = record { same = refl }
 
-pub stay-turn : (kind time : ℕ) (a : NodeAddr) (i : ℕ) (rs : List Row) → i < length rs → sweepTest kind time a (rowAt i rs) ≡ false → AllStay kind time a i rs → AllStay kind time a (i + 1) rs
-stay-turn kind time a i rs h e s =
-    let q : take (i + 1) rs ≡ take i rs ++ (rowAt i rs ∷ []) = ap (λ (k : ℕ). take k rs) (add-one i) ∙ take-suc rs i blankRow h in
-    kept-next kind time a i rs false h e ∙ ap (λ (xs : List Row). xs ++ (rowAt i rs ∷ [])) s ∙ sym q
+module _ {kind time : ℕ} {a : NodeAddr} {n i : ℕ} {l : List ℕ} (s : AllStay kind time a n i l) where
+  pub stay-turn : {b : Bool} → i < n → b ≡ sweepTest kind time a (rowAt i (viewRows n l .rows)) → b ≡ false → AllStay kind time a n (i + 1) l
+  stay-turn h t f =
+      let rs = viewRows n l .rows in
+      let k : i < length rs = omega (arith, view-length n l) in
+      let q : take (i + 1) rs ≡ take i rs ++ (rowAt i rs ∷ []) = ap (λ (x : ℕ). take x rs) (add-one i) ∙ take-suc rs i blankRow k in
+      record { same = kept-next kind time a i rs false k (sym t ∙ f) ∙ ap (λ (xs : List Row). xs ++ (rowAt i rs ∷ [])) (s .same) ∙ sym q }
 
-pub stay-end : (kind time : ℕ) (a : NodeAddr) (n i : ℕ) (l : List ℕ) → n ≤ i → AllStay kind time a i (viewRows n l .rows) → keptRows kind time a (viewRows n l .rows) ≡ viewRows n l .rows
-stay-end kind time a n i l h s =
-    let q : take i (viewRows n l .rows) ≡ viewRows n l .rows = take-all i (viewRows n l .rows) (omega (arith, view-length n l)) in
-    subst (λ (xs : List Row). keptRows kind time a xs ≡ xs) q s
+  pub stay-end : n ≤ i → keptRows kind time a (viewRows n l .rows) ≡ viewRows n l .rows
+  stay-end h =
+      let q : take i (viewRows n l .rows) ≡ viewRows n l .rows = take-all i (viewRows n l .rows) (omega (arith, view-length n l)) in
+      subst (λ (xs : List Row). keptRows kind time a xs ≡ xs) q (s .same)
 
 pub of-kind : (k kind time : ℕ) (a : NodeAddr) (rs : List Row) → kind ≡ k → keptRows k time a rs ≡ rs → keptRows kind time a rs ≡ rs
 of-kind k kind time a rs e h = rw e h
 
-pub only-rows : (rs : List Row) (s : State) → length rs ≡ length (s .rows) → s .storedWeight ≡ weighRows inMain rs → s .rowCount ≡ length (s .rows) → withRows rs s ≡ withOnlyRows rs s
+pub only-rows : (rs : List Row) (s : State) → length rs ≡ length (s .rows) → s .storedWeight ≡ weighRows inMain rs → s .rowCount ≡ length (s .rows) →
+    withRows rs s ≡ withOnlyRows rs s
 unfolding withRows withOnlyRows zeroRows
 only-rows rs s l w c = let z : length (s .rows) - length rs ≡ 0 = omega arith in rw (z, ← w, l, ← c)
 
@@ -182,8 +205,9 @@ pub rows-same : (s : State) → withRows (s .rows) s ≡ s
 unfolding withRows
 rows-same s = refl
 
-pub unswept : (kind time : ℕ) (a : NodeAddr) (n : ℕ) (l : List ℕ) → viewRows n l .rowCount ≡ n → viewRows n l .storedWeight ≡ mainWeight (viewRows n l) → keptRows kind time a (viewRows n l .rows) ≡ viewRows n l .rows
-    → (n ≤ n) × (n ≡ length (keptRows kind time a (viewRows n l .rows))) × (viewRows n l ≡ withOnlyRows (keptRows kind time a (viewRows n l .rows)) (viewRows n l))
+pub unswept : (kind time : ℕ) (a : NodeAddr) (n : ℕ) (l : List ℕ) → viewRows n l .rowCount ≡ n → viewRows n l .storedWeight ≡ mainWeight (viewRows n l) →
+    keptRows kind time a (viewRows n l .rows) ≡ viewRows n l .rows →
+    (n ≤ n) × (n ≡ length (keptRows kind time a (viewRows n l .rows))) × (viewRows n l ≡ withOnlyRows (keptRows kind time a (viewRows n l .rows)) (viewRows n l))
 unswept kind time a n l c w e =
     let v = view-length n l in
     rw e (omega arith, sym v, sym (sym (only-rows (viewRows n l .rows) (viewRows n l) refl w (c ∙ sym v)) ∙ rows-same (viewRows n l)))

@@ -20,7 +20,7 @@ pub const VIA_NODE: u8 = 1;
 
 pub const OTHER_ROOT: u8 = 2;
 
-pub const ASIDE: u8 = 3;
+pub const SET_ASIDE: u8 = 3;
 
 // Whether row i matches.
 fn row_matches(state: &[u8], n: usize, i: usize, kind: u8, time: u64, addr: NodeAddr) -> bool

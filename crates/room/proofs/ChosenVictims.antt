@@ -2,26 +2,34 @@
 use mathlib.Core.Path.{_≡_, refl, sym, ap, _∙_, subst}
 use Prim.Native.Nat.{ℕ, zero, suc, _+_, _-_, _≤_, _<_, _*_}
 use native.Mathlib.Omega.{arith}
+use mathlib.Core.List.{List}
 use mathlib.Core.Option.{Option, none, some}
 use mathlib.Core.Bool.{Bool, true, false, cond, _&&_}
 use lib.Dec.{ltb, leb}
 use lib.ListN.{length}
-use Rattle.rules.specs.Records.{State, aside, byUse, parked, weightBound, maxRows, weightLimit}
+use Rattle.rules.specs.Records.{Row, State, aside, byUse, parked, weightBound, maxRows, weightLimit}
 use Rattle.rules.specs.Rows.{rowAt, atPlace, inMain, changeRow, lowestStamp, mainCount, mainWeight, total, withRows}
 use Rattle.rules.specs.Sound.{sound}
 use Rattle.rules.specs.Entries.{verified}
 use Rattle.rules.specs.Room.{Walk, Sought, mainVisits, visitsLeft, takeUp, restamp, park, stamp, raised, untouched, stale, returnLapsed, seek, sought, nextVictim, hasRoom, atNewPlace, setAside}
+use Rattle.rules.specs.Memory.{capacity, viewRows}
+use Rattle.rules.specs.Layout.{headSize, rowSize}
 use Rattle.rules.proofs.Addresses.{contradiction}
 use Rattle.rules.proofs.RowLists.{by-cond, by-maybe, lowest-at, total-change}
 use Rattle.rules.proofs.SoundTest.{sound-is}
 use Rattle.rules.proofs.Moves.{ready}
 use Rattle.rules.proofs.Walks.{Ends, Led, next-led, start-led, main-of, next-restamp, next-park, turns-lapsed, turns-last, turns-stale, place-is}
 use Rattle.rules.proofs.Loops.{choosing, choose-done, choose-none, choose-more}
+use Rattle.memory.proofs.Fields.{same-head}
+use Rattle.memory.proofs.RowLaws.{view-length}
 use Rattle.stamps.specs.declared.lowest.Lowest.{Lowest}
 use Rattle.stamps.specs.declared.lowest.Lowest.the-variants.{At, Nothing}
-use Rattle.stamps.specs.declared.walk.Victim.{Victim}
-use Rattle.stamps.specs.Walked.{lowestOf, walkFrom, soughtOf}
+use Rattle.stamps.specs.declared.lowest.LowestOfMain.{LowestOfMain}
+use Rattle.stamps.specs.declared.walk.Victim.{Victim as VictimAnswer}
+use Rattle.stamps.specs.Walked.{lowestOf, walkFrom, soughtOf, MainIs}
+use Rattle.room.specs.Rooms.{LastAside, SetAside}
 use Rattle.room.proofs.ClosedForm.{sound-small}
+use Rattle.room.proofs.RowsAside.{last-start, last-turn}
 use Rattle.room.proofs.WalkCounts.{next-from}
 
 -- ---- what the walk for one victim leaves as it is
@@ -69,7 +77,12 @@ yields-none w = record { same = record { storedWeight = refl; rowCount = refl; w
 
 yields-some : (i : ℕ) (w : Walk) → i < length (w .state .rows) → atPlace byUse (rowAt i (w .state .rows)) ≡ true → Yields w (sought (some i) (takeUp untouched i w))
 unfolding sought takeUp untouched
-yields-some i w l p = record { same = record { storedWeight = refl; rowCount = refl; weights = refl }; there = λ j q. let z : i ≡ j = cc in subst (λ (j : ℕ). (j < length (w .state .rows)) × (atPlace byUse (rowAt j (w .state .rows)) ≡ true)) z (l, p) }
+yields-some i w l p =
+    let rs = w .state .rows in
+    record {
+      same = record { storedWeight = refl; rowCount = refl; weights = refl };
+      there = λ j q. let z : i ≡ j = cc in subst (λ (j : ℕ). (j < length rs) × (atPlace byUse (rowAt j rs) ≡ true)) z (l, p);
+    }
 
 seek-yields : (now n : ℕ) (w : Walk) → Yields w (seek n now w)
 unfolding seek
@@ -97,50 +110,108 @@ next-yields now w =
 
 -- ---- a victim set aside
 
-aside-weight : (w : Walk) (i : ℕ) → i < length (w .state .rows) → atPlace byUse (rowAt i (w .state .rows)) ≡ true → mainWeight (setAside i w .state) + rowAt i (w .state .rows) .weight ≡ mainWeight (w .state)
+aside-weight : (w : Walk) (i : ℕ) → i < length (w .state .rows) → atPlace byUse (rowAt i (w .state .rows)) ≡ true →
+    mainWeight (setAside i w .state) + rowAt i (w .state .rows) .weight ≡ mainWeight (w .state)
 unfolding setAside withRows atNewPlace inMain
 aside-weight w i l h =
     let rs = w .state .rows in
     let p = place-is byUse (rowAt i rs) h in
-    let z : total (λ x. cond (ltb (x .place) 2) (x .weight) 0) (changeRow (atNewPlace aside) i rs) + rowAt i rs .weight ≡ total (λ x. cond (ltb (x .place) 2) (x .weight) 0) rs + 0 = rw p at (total-change (λ x. cond (ltb (x .place) 2) (x .weight) 0) (atNewPlace aside) i rs l) in
+    let f : Row → ℕ = λ x. cond (ltb (x .place) 2) (x .weight) 0 in
+    let z : total f (changeRow (atNewPlace aside) i rs) + rowAt i rs .weight ≡ total f rs + 0 = rw p at (total-change f (atNewPlace aside) i rs l) in
     omega arith
 
 -- ---- choosing, from s on, at v
 
-pub record Choosing (now w : ℕ) (s : State) (count stored : ℕ) (v : Walk) : Type 0 where
-  pub same : choosing now w (walkFrom s 0) ≡ choosing now w v
-  pub led : Led now s v
-  pub mains : count ≡ mainCount (v .state)
-  pub loads : stored ≡ mainWeight (v .state)
-  pub small : stored ≤ maxRows * weightLimit
+record Choosing (now w : ℕ) (s : State) (count stored : ℕ) (v : Walk) : Type 0 where
+  same : choosing now w (walkFrom s 0) ≡ choosing now w v
+  led : Led now s v
+  mains : count ≡ mainCount (v .state)
+  loads : stored ≡ mainWeight (v .state)
+  small : stored ≤ maxRows * weightLimit
 
-pub choosing-start : (now w R count stored : ℕ) (s : State) → sound R s ≡ true → count ≡ mainCount s → stored ≡ s .storedWeight → Choosing now w s count stored (walkFrom s 0)
-choosing-start now w R count stored s h ec es =
-    let d = sound-is R s h in
-    let e = es ∙ d .storedWeight in
-    record { same = refl; led = start-led now s (ready d); mains = ec; loads = e; small = omega (arith, es, sound-small R s h .stored) }
+-- what one call was given, and what it read: max_entries, and how many rows main had at first
+pub record Call : Type 0 where
+  pub now : ℕ
+  pub w : ℕ
+  pub n : ℕ
+  pub memory : List ℕ
+  pub max : ℕ
+  pub mains : ℕ
+
+abbrev given : Call → State
+given q = viewRows (q .n) (q .memory)
 
 -- room for w, as the code tests it
-pub room-test : (now w : ℕ) (s : State) (count stored m : ℕ) (v : Walk) (b : Bool) → Choosing now w s count stored v → m ≡ s .maxEntries → b ≡ ltb count m && leb (stored + w) (weightBound m) → hasRoom w (v .state) ≡ b
-unfolding hasRoom
-room-test now w s count stored m v b g em h = sym (h ∙ rw (g .mains, g .loads, em, ← g .led .maxEntries))
+abbrev pub fits : Call → ℕ → ℕ → Bool
+fits q count stored = ltb count (q .max) && leb (stored + q .w) (weightBound (q .max))
 
-pub chosen-enough : (now w e count stored m : ℕ) (s t : State) (b : Bool) → Choosing now w s count stored (walkFrom t e) → m ≡ s .maxEntries → b ≡ ltb count m && leb (stored + w) (weightBound m) → b ≡ true
-    → choosing now w (walkFrom s 0) ≡ record { made = true; walk = walkFrom t e }
-chosen-enough now w e count stored m s t b g em h q = g .same ∙ choose-done now w (walkFrom t e) (room-test now w s count stored m (walkFrom t e) b g em h ∙ q)
+-- victims were set aside, row i last, and memory m shows the rows then: count rows of main are left, of weight `stored`
+pub record Choice (q : Call) (count stored i e : ℕ) (m : List ℕ) : Type 0 where
+  pub long : length m ≡ length (q .memory)
+  pub size : headSize + q .n * rowSize ≤ length m
+  pub max : q .max ≡ given q .maxEntries
+  pub most : q .max ≤ maxRows
+  pub bound : q .w ≤ weightBound (q .max)
+  pub stamps : given q .seq + total (mainVisits (q .now)) (given q .rows) < 18446744073709551616
+  choosing : Choosing (q .now) (q .w) (given q) count stored (walkFrom (viewRows (q .n) m) e)
+  pub last : LastAside (q .mains) count i (viewRows (q .n) m .rows)
 
--- seq has room for the walk that is left
-pub choosing-seq : (now w count stored : ℕ) (s t : State) (e : ℕ) → Choosing now w s count stored (walkFrom t e) → t .seq + total (mainVisits now) (t .rows) ≤ s .seq + total (mainVisits now) (s .rows)
-choosing-seq now w count stored s t e g = omega (arith, g .led .done, g .led .stamps)
+module _ {q : Call} {count stored i e : ℕ} {m : List ℕ} (k : Choice q count stored i e m) where
+  -- what has_room asks
+  pub choice-asks : (q .max ≤ maxRows) × (stored ≤ maxRows * 256) × (q .w ≤ weightBound (q .max))
+  choice-asks = (k .most, omega (arith, k .choosing .small), k .bound)
 
--- the walk from t came to u, and answered r
-pub record Came (now w : ℕ) (s : State) (count stored e : ℕ) (u : State) (r : Victim) : Type 0 where
-  pub fits : e + r .examined ≤ total (mainVisits now) (s .rows)
-  pub none-left : r .found ≡ Nothing → choosing now w (walkFrom s 0) ≡ record { made = false; walk = walkFrom u (e + r .examined) }
-  pub inside : (i : ℕ) → r .found ≡ At i → i < length (u .rows)
-  pub some-left : (i : ℕ) → r .found ≡ At i → 1 ≤ count
-  pub enough : (i : ℕ) → r .found ≡ At i → rowAt i (u .rows) .weight ≤ stored
-  pub goes : (i : ℕ) → r .found ≡ At i → Choosing now w s (count - 1) (stored - rowAt i (u .rows) .weight) (walkFrom (withRows (changeRow (atNewPlace aside) i (u .rows)) u) (e + r .examined))
+  choice-test : hasRoom (q .w) (viewRows (q .n) m) ≡ fits q count stored
+  unfolding hasRoom
+  choice-test = sym (rw (k .choosing .mains, k .choosing .loads, k .max, ← k .choosing .led .maxEntries))
+
+  -- seq has room for the walk that is left
+  pub choice-seq : viewRows (q .n) m .seq + total (mainVisits (q .now)) (viewRows (q .n) m .rows) < 18446744073709551616
+  choice-seq = omega (arith, k .stamps, k .choosing .led .done, k .choosing .led .stamps)
+
+  pub chosen-enough : {b : Bool} → b ≡ fits q count stored → b ≡ true →
+      record { made = true; walk = walkFrom (viewRows (q .n) m) e } ≡ choosing (q .now) (q .w) (walkFrom (given q) 0)
+  chosen-enough h t = sym (k .choosing .same ∙ choose-done (q .now) (q .w) (walkFrom (viewRows (q .n) m) e) (choice-test ∙ sym h ∙ t))
+
+  pub set-aside : SetAside (q .mains) (record { made = true; left = count; stored = stored; last = i; examined = e }) (viewRows (q .n) m)
+  set-aside = record { mains = k .choosing .mains; weighs = k .choosing .loads; light = k .choosing .small; last = k .last }
+
+pub choice-start : (q : Call) {main : LowestOfMain} {stored i : ℕ} → headSize + q .n * rowSize ≤ length (q .memory) → sound (capacity (q .memory)) (given q) ≡ true →
+    given q .seq + total (mainVisits (q .now)) (given q .rows) < 18446744073709551616 → MainIs main (given q .rows) → q .mains ≡ main .count →
+    q .w ≤ weightBound (given q .maxEntries) → hasRoom (q .w) (given q) ≡ false → q .max ≡ viewRows 0 (q .memory) .maxEntries → stored ≡ viewRows 0 (q .memory) .storedWeight →
+    Choice q (main .count) stored i 0 (q .memory) × MainIs main (given q .rows) × (fits q (main .count) stored ≡ false)
+choice-start q {main} {stored} {i} h z k m c b f em es =
+    let d = sound-is (capacity (q .memory)) (given q) z in
+    let g = sound-small (capacity (q .memory)) (given q) z in
+    let e = es ∙ same-head 0 (q .n) (q .memory) .storedWeight in
+    let x = em ∙ same-head 0 (q .n) (q .memory) .maxEntries in
+    let j : Choice q (main .count) stored i 0 (q .memory) = record {
+      long = refl;
+      size = h;
+      max = x;
+      most = omega (arith, g .max);
+      bound = omega arith;
+      stamps = k;
+      choosing = record { same = refl; led = start-led (q .now) (given q) (ready d); mains = m .count; loads = e ∙ d .storedWeight; small = omega (arith, g .stored) };
+      last = rw c (last-start (main .count) i (given q .rows));
+    } in
+    (j, m, sym (choice-test j) ∙ f)
+
+-- row i of memory y is the victim
+pub record Victim (q : Call) (count stored e i : ℕ) (y : List ℕ) : Type 0 where
+  pub inside : i < q .n
+  pub size : headSize + q .n * rowSize ≤ length y
+  pub some-left : 1 ≤ count
+  pub enough : rowAt i (viewRows (q .n) y .rows) .weight ≤ stored
+  pub goes : {v : ℕ} {x : List ℕ} → v ≡ rowAt i (viewRows (q .n) y .rows) .weight → length x ≡ length y →
+      viewRows (q .n) x ≡ withRows (changeRow (atNewPlace aside) i (viewRows (q .n) y .rows)) (viewRows (q .n) y) → Choice q (count - 1) (stored - v) i e x
+
+-- the walk for one victim came to memory y, and answered r
+pub record Came (q : Call) (count stored e : ℕ) (y : List ℕ) (r : VictimAnswer) : Type 0 where
+  pub long : length y ≡ length (q .memory)
+  pub keys : e + r .examined < 18446744073709551616
+  pub none-left : r .found ≡ Nothing → record { made = false; walk = walkFrom (viewRows (q .n) y) (e + r .examined) } ≡ choosing (q .now) (q .w) (walkFrom (given q) 0)
+  pub victim : {i : ℕ} → r .found ≡ At i → Victim q count stored (e + r .examined) i y
 
 nothing-is : (f : Lowest) → f ≡ Nothing → lowestOf f ≡ none
 unfolding lowestOf
@@ -150,34 +221,57 @@ at-is : (f : Lowest) (i : ℕ) → f ≡ At i → lowestOf f ≡ some i
 unfolding lowestOf
 at-is f i e = rw e
 
-pub came : (now w count stored e m : ℕ) (s t u : State) (b : Bool) (r : Victim) → Choosing now w s count stored (walkFrom t e) → m ≡ s .maxEntries → b ≡ ltb count m && leb (stored + w) (weightBound m) → b ≡ false
-    → soughtOf r u ≡ nextVictim now (walkFrom t 0) → Came now w s count stored e u r
-unfolding sought setAside
-came now w count stored e m s t u b r g em h f q =
-    let v = walkFrom t e in
-    let y = walkFrom u (e + r .examined) in
+pub came : {q : Call} {count stored last e : ℕ} {m y : List ℕ} {r : VictimAnswer} → Choice q count stored last e m → fits q count stored ≡ false → length y ≡ length m →
+    soughtOf r (viewRows (q .n) y) ≡ nextVictim (q .now) (walkFrom (viewRows (q .n) m) 0) → Came q count stored e y r
+unfolding sought setAside withRows
+came {q} {count} {stored} {last} {e} {m} {y} {r} c f len a =
+    let now = q .now in
+    let s = given q in
+    let g = c .choosing in
+    let v = walkFrom (viewRows (q .n) m) e in
+    let u = viewRows (q .n) y in
+    let z = walkFrom u (e + r .examined) in
     let o = lowestOf (r .found) in
-    let n = next-from now e t u r q in
-    let k : Ends now s v (sought o y) = subst (Ends now s v) n (next-led now s v (g .led)) in
-    let z : Yields v (sought o y) = subst (Yields v) n (next-yields now v) in
-    let full = room-test now w s count stored m v b g em h ∙ f in
-    let loss : (i : ℕ) → r .found ≡ At i → mainWeight (setAside i y .state) + rowAt i (u .rows) .weight ≡ mainWeight t = λ i a. let p = z .there i (at-is (r .found) i a) in aside-weight y i (p .0) (p .1) ∙ z .same .weights in
+    let n = next-from now e (viewRows (q .n) m) u r a in
+    let k : Ends now s v (sought o z) = subst (Ends now s v) n (next-led now s v (g .led)) in
+    let j : Yields v (sought o z) = subst (Yields v) n (next-yields now v) in
+    let full = choice-test c ∙ f in
+    let found = ap (λ (x : Sought). x .victim) n in
     record {
-      fits = bound o k refl;
-      none-left = λ a. g .same ∙ choose-none now w v full (ap (λ (x : Sought). x .victim) n ∙ nothing-is (r .found) a) ∙ ap (λ (x : Sought). record { made = false; walk = x .walk }) n;
-      inside = λ i a. z .there i (at-is (r .found) i a) .0;
-      some-left = λ i a. omega (arith, g .mains, k .yields i (at-is (r .found) i a) .1);
-      enough = λ i a. omega (arith, g .loads, loss i a);
-      goes = λ i a. let j = k .yields i (at-is (r .found) i a) in
+      long = len ∙ c .long;
+      keys = bound o refl k;
+      none-left = λ b. sym (g .same ∙ choose-none now (q .w) v full (found ∙ nothing-is (r .found) b) ∙ ap (λ (x : Sought). record { made = false; walk = x .walk }) n);
+      victim = λ {i} b.
+          let h = at-is (r .found) i b in
+          let p = j .there i h in
+          let ends = k .yields i h in
+          let loss = aside-weight z i (p .0) (p .1) ∙ j .same .weights in
           record {
-            same = g .same ∙ choose-more now w s v i (g .led) full (ap (λ (x : Sought). x .victim) n ∙ at-is (r .found) i a) ∙ ap (λ (x : Sought). choosing now w (setAside i (x .walk))) n;
-            led = j .0;
-            mains = omega (arith, g .mains, j .1);
-            loads = omega (arith, g .loads, loss i a);
-            small = omega (arith, g .small);
+            inside = omega (arith, p .0, view-length (q .n) y);
+            size = omega (arith, c .size);
+            some-left = omega (arith, g .mains, ends .1);
+            enough = omega (arith, g .loads, loss);
+            goes = λ ev ex d.
+                record {
+                  long = ex ∙ len ∙ c .long;
+                  size = omega (arith, c .size);
+                  max = c .max;
+                  most = c .most;
+                  bound = c .bound;
+                  stamps = c .stamps;
+                  choosing = rw (d, ev) (record {
+                    same = g .same ∙ choose-more now (q .w) s v i (g .led) full (found ∙ h) ∙ ap (λ (x : Sought). choosing now (q .w) (setAside i (x .walk))) n;
+                    led = ends .0;
+                    mains = omega (arith, g .mains, ends .1);
+                    loads = omega (arith, g .loads, loss);
+                    small = omega (arith, g .small);
+                  });
+                  last = rw d (last-turn (q .mains) count last i (viewRows (q .n) m .rows) (u .rows) (c .last) (p .0));
+                };
           };
     }
   where
-    bound : (o : Option ℕ) → Ends now s (walkFrom t e) (sought (lowestOf (r .found)) (walkFrom u (e + r .examined))) → lowestOf (r .found) ≡ o → e + r .examined ≤ total (mainVisits now) (s .rows)
-    bound none k d = omega (arith, k .ended d .led .done)
-    bound (some i) k d = omega (arith, k .yields i d .0 .done)
+    bound : (o : Option ℕ) → lowestOf (r .found) ≡ o →
+        Ends (q .now) (given q) (walkFrom (viewRows (q .n) m) e) (sought (lowestOf (r .found)) (walkFrom (viewRows (q .n) y) (e + r .examined))) → e + r .examined < 18446744073709551616
+    bound none d k = omega (arith, c .stamps, k .ended d .led .done)
+    bound (some i) d k = omega (arith, c .stamps, k .yields i d .0 .done)

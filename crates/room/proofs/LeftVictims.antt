@@ -22,7 +22,8 @@ use Rattle.room.specs.Rooms.{LeftAt, withoutVictim}
 -- ---- one victim, or none
 
 -- a row of ts that is not in main, where ts has the keys of rs
-pub left-at : (i w : ℕ) (rs ts : List Row) → Rising (cores rs) → cores ts ≡ cores rs → i < length ts → inMain (rowAt i ts) ≡ false → w ≡ weighRows inMain ts → w ≤ maxRows * weightLimit → LeftAt i w rs ts
+pub left-at : (i w : ℕ) (rs ts : List Row) → Rising (cores rs) → cores ts ≡ cores rs → i < length ts → inMain (rowAt i ts) ≡ false →
+    w ≡ weighRows inMain ts → w ≤ maxRows * weightLimit → LeftAt i w rs ts
 left-at i w rs ts r e h m q l =
     let z : _≡_ {A = ℕ} (cond (inMain (rowAt i ts)) (rowAt i ts .weight) 0) 0 = rw m in
     record {
@@ -53,24 +54,30 @@ without-none v s e = rw e
 abbrev asides : List Row → ℕ
 asides rs = countRows (atPlace aside) rs
 
-none-aside : (rs : List Row) → asides rs ≡ 0 → keepRows (λ r. not (atPlace aside r)) rs ≡ rs
+-- the rows that were not set aside
+abbrev pub notAside : List Row → List Row
+notAside rs = keepRows (λ r. not (atPlace aside r)) rs
+
+none-aside : (rs : List Row) → asides rs ≡ 0 → notAside rs ≡ rs
 unfolding total keepRows
 none-aside [] h = refl
 none-aside (r ∷ rs) h = go (atPlace aside r) h (none-aside rs)
   where
-    go : (b : Bool) → cond b 1 0 + asides rs ≡ 0 → (asides rs ≡ 0 → keepRows (λ x. not (atPlace aside x)) rs ≡ rs)
-        → cond (not b) (r ∷ keepRows (λ x. not (atPlace aside x)) rs) (keepRows (λ x. not (atPlace aside x)) rs) ≡ r ∷ rs
+    go : (b : Bool) → cond b 1 0 + asides rs ≡ 0 → (asides rs ≡ 0 → notAside rs ≡ rs)
+        → cond (not b) (r ∷ notAside rs) (notAside rs) ≡ r ∷ rs
     go true c ih = absurd (let z : ⊥ = omega arith in z)
     go false c ih = ap (λ (xs : List Row). r ∷ xs) (ih (omega arith))
 
-pub one-aside : (i : ℕ) (rs : List Row) → i < length rs → atPlace aside (rowAt i rs) ≡ true → countRows (atPlace aside) rs ≡ 1 → keepRows (λ r. not (atPlace aside r)) rs ≡ withoutRow i rs
+pub one-aside : (i : ℕ) (rs : List Row) → i < length rs → atPlace aside (rowAt i rs) ≡ true → countRows (atPlace aside) rs ≡ 1 → notAside rs ≡ withoutRow i rs
 unfolding total keepRows withoutRow
 one-aside i [] h a c = absurd (let z : ⊥ = omega arith in z)
 one-aside zero (r ∷ rs) h a c = let d : 1 + asides rs ≡ 1 = rw a at c in rw a (none-aside rs (omega arith))
-one-aside (suc i) (r ∷ rs) h a c = let d : 1 ≤ asides rs = rw a at (total-some (λ x. cond (atPlace aside x) 1 0) i rs (omega arith)) in go (atPlace aside r) c d (one-aside i rs (omega arith) a)
+one-aside (suc i) (r ∷ rs) h a c =
+    let d : 1 ≤ asides rs = rw a at (total-some (λ x. cond (atPlace aside x) 1 0) i rs (omega arith)) in
+    go (atPlace aside r) c d (one-aside i rs (omega arith) a)
   where
-    go : (b : Bool) → cond b 1 0 + asides rs ≡ 1 → 1 ≤ asides rs → (asides rs ≡ 1 → keepRows (λ x. not (atPlace aside x)) rs ≡ withoutRow i rs)
-        → cond (not b) (r ∷ keepRows (λ x. not (atPlace aside x)) rs) (keepRows (λ x. not (atPlace aside x)) rs) ≡ r ∷ withoutRow i rs
+    go : (b : Bool) → cond b 1 0 + asides rs ≡ 1 → 1 ≤ asides rs → (asides rs ≡ 1 → notAside rs ≡ withoutRow i rs)
+        → cond (not b) (r ∷ notAside rs) (notAside rs) ≡ r ∷ withoutRow i rs
     go true d m ih = absurd (let z : ⊥ = omega arith in z)
     go false d m ih = ap (λ (xs : List Row). r ∷ xs) (ih (omega arith))
 

@@ -1,26 +1,38 @@
 -- Room in probation, turn by turn and without fuel.
-use mathlib.Core.Path.{_≡_, refl, sym, _∙_}
-use Prim.Native.Nat.{ℕ, zero, suc, _+_, _≤_, _<_}
+use mathlib.Core.Path.{_≡_, refl, sym, ap, _∙_}
+use Prim.Native.Nat.{ℕ, zero, suc, _+_, _*_, _≤_, _<_}
 use native.Mathlib.Omega.{arith}
+use mathlib.Core.List.{List}
 use mathlib.Core.Option.{none, some}
 use mathlib.Core.Bool.{Bool, true, false, cond}
 use lib.Dec.{ltb}
 use lib.ListN.{length}
 use borrow.Author.Tests.{eqb-true, lt-ltb, le-ltb}
-use Rattle.rules.specs.Records.{Row, State, probation, probationBound}
+use Rattle.rules.specs.Records.{Row, State, probation, probationBound, maxRows, weightLimit}
 use Rattle.rules.specs.Rows.{rowAt, atPlace, inMain, inProbation, changeRow, withoutRow, lowestStamp, probationCount, total, withRows, withOnlyRows}
 use Rattle.rules.specs.Sound.{sound}
 use Rattle.rules.specs.Room.{Walk, takeUp, takeOut, restamp, stamp, raised, refiled, stale, probationVisits, evictProbation, makeProbationRoom}
+use Rattle.rules.specs.Memory.{capacity, viewRows}
+use Rattle.rules.specs.Layout.{headSize, rowSize}
 use Rattle.rules.proofs.RowLists.{core, cores, change-cores, lowest-at, total-change, total-some, total-without}
 use Rattle.rules.proofs.SoundTest.{Sound, sound-is}
 use Rattle.rules.proofs.Moves.{restamp-sound, visits-of, visits-restamped}
-use Rattle.stamps.specs.Walked.{walkFrom}
-use Rattle.room.specs.Rooms.{LeftAt}
-use Rattle.room.proofs.ClosedForm.{sound-small}
-use Rattle.room.proofs.LeftVictims.{left-at}
+use Rattle.rules.proofs.Sizes.{few-rows, light}
+use Rattle.memory.proofs.Fields.{same-head}
+use Rattle.memory.proofs.RowLaws.{view-length}
+use Rattle.stamps.specs.declared.lowest.Lowest.{Lowest}
+use Rattle.stamps.specs.declared.lowest.Lowest.the-variants.{At, Nothing}
+use Rattle.stamps.specs.declared.lowest.LowestStamp.{LowestStamp}
+use Rattle.stamps.specs.Walked.{lowestOf, walkFrom, LowestIs}
+use Rattle.stamps.proofs.WalkLaws.{found-at, found-none}
+use Rattle.room.specs.Rooms.{LeftAt, Leaves, withoutVictim}
+use Rattle.room.proofs.LeftVictims.{at-none, at-one, left-at, without-none}
 
 abbrev visits : State → ℕ
 visits s = total probationVisits (s .rows)
+
+abbrev guests : List Row → ℕ
+guests rs = total (λ x. cond (inProbation x) 1 0) rs
 
 abbrev evicting : Walk → Walk
 evicting w = evictProbation (visits (w .state)) w
@@ -55,103 +67,149 @@ evict-none (suc n) w l = rw l (go (ltb (probationCount (w .state)) (probationBou
     go true = refl
     go false = refl
 
-evict-turn : (f : ℕ → State → State) (i n : ℕ) (w : Walk) → ltb (probationCount (w .state)) (probationBound (w .state .maxEntries)) ≡ false → lowestStamp probation (w .state .rows) ≡ some i → cond (stale (rowAt i (w .state .rows))) restamp takeOut ≡ f → visits (w .state) ≡ suc n
-    → evicting w ≡ evictProbation n (takeUp f i w)
+evict-turn : (f : ℕ → State → State) (i n : ℕ) (w : Walk) → ltb (probationCount (w .state)) (probationBound (w .state .maxEntries)) ≡ false →
+    lowestStamp probation (w .state .rows) ≡ some i → cond (stale (rowAt i (w .state .rows))) restamp takeOut ≡ f → visits (w .state) ≡ suc n → evicting w ≡ evictProbation n (takeUp f i w)
 unfolding evictProbation
 evict-turn f i n w h l e v = rw (v, h, l, e)
 
--- ---- from s on, at w, with count rows in probation
+-- ---- from the rows of l to those of m, after e keys; k is the weight that is stored
 
-pub record Evicting (R : ℕ) (s : State) (count : ℕ) (w : Walk) : Type 0 where
-  pub same : evictProbation (total probationVisits (s .rows)) (walkFrom s 0) ≡ evictProbation (total probationVisits (w .state .rows)) w
-  pub left : w .examined + total probationVisits (w .state .rows) ≡ total probationVisits (s .rows)
-  pub stamps : w .state .seq + total probationVisits (w .state .rows) ≤ s .seq + total probationVisits (s .rows)
-  pub guests : count ≡ probationCount (w .state)
-  pub max : w .state .maxEntries ≡ s .maxEntries
-  pub stored : w .state .storedWeight ≡ s .storedWeight
-  pub keys : cores (w .state .rows) ≡ cores (s .rows)
-  pub sound : Sound R (w .state)
+pub record Evicting (n e k : ℕ) (l m : List ℕ) : Type 0 where
+  pub long : length m ≡ length l
+  pub size : headSize + n * rowSize ≤ length m
+  first : sound (capacity l) (viewRows n l) ≡ true
+  sound : Sound (capacity l) (viewRows n m)
+  same : evicting (walkFrom (viewRows n l) 0) ≡ evicting (walkFrom (viewRows n m) e)
+  keys : e + total probationVisits (viewRows n m .rows) < 18446744073709551616
+  stamps : viewRows n m .seq + total probationVisits (viewRows n m .rows) < 18446744073709551616
+  full : probationBound (viewRows n m .maxEntries) ≤ probationCount (viewRows n m)
+  stored : k ≡ viewRows n m .storedWeight
+  cores : cores (viewRows n m .rows) ≡ cores (viewRows n l .rows)
 
-pub evict-start : (R count : ℕ) (s : State) → sound R s ≡ true → count ≡ probationCount s → Evicting R s count (walkFrom s 0)
-evict-start R count s h c = record { same = refl; left = omega arith; stamps = omega arith; guests = c; max = refl; stored = refl; keys = refl; sound = sound-is R s h }
+-- what make_probation_room answers, with the rows that memory m shows
+abbrev pub Evicted : ℕ → Lowest → ℕ → ℕ → List ℕ → List ℕ → Type 0
+Evicted n v k e l m = (walkFrom (withoutVictim v (viewRows n m)) e ≡ makeProbationRoom (viewRows n l)) × Leaves v k (viewRows n l .rows) (viewRows n m .rows)
 
--- there is room
-pub room-free : (count bound : ℕ) (s : State) → bound ≡ probationBound (s .maxEntries) → count ≡ probationCount s → count < bound → walkFrom s 0 ≡ makeProbationRoom s
-unfolding makeProbationRoom
-room-free count bound s b c h = sym (evict-done (visits s) (walkFrom s 0) (rw (← b, ← c) (lt-ltb count bound h)))
+module _ (n : ℕ) (l : List ℕ) {max bound : ℕ} {r : LowestStamp}
+    (em : max ≡ viewRows 0 l .maxEntries) (eb : bound ≡ probationBound max) (c : LowestIs probation r (viewRows n l .rows)) where
+  limit : bound ≡ probationBound (viewRows n l .maxEntries)
+  limit = eb ∙ ap probationBound (em ∙ same-head 0 n l .maxEntries)
+
+  -- there is room
+  pub room-free : {k : ℕ} → r .count < bound → Evicted n Nothing k 0 l l
+  unfolding makeProbationRoom withoutVictim
+  room-free h = (sym (evict-done (visits (viewRows n l)) (walkFrom (viewRows n l) 0) (rw (← limit, ← c .count) (lt-ltb (r .count) bound h))), at-none _ _ refl)
+
+  pub evict-start : {k : ℕ} → headSize + n * rowSize ≤ length l → sound (capacity l) (viewRows n l) ≡ true →
+      viewRows n l .seq + total probationVisits (viewRows n l .rows) < 18446744073709551616 → k ≡ viewRows 0 l .storedWeight → bound ≤ r .count → Evicting n 0 k l l
+  evict-start h z s q b =
+      record {
+        long = refl;
+        size = h;
+        first = z;
+        sound = sound-is (capacity l) (viewRows n l) z;
+        same = refl;
+        keys = omega arith;
+        stamps = s;
+        full = omega (arith, limit, c .count);
+        stored = q ∙ same-head 0 n l .storedWeight;
+        cores = refl;
+      }
 
 -- there is no row to take up
-pub evict-ends : (R count e : ℕ) (s t : State) → lowestStamp probation (t .rows) ≡ none → Evicting R s count (walkFrom t e) → walkFrom t e ≡ makeProbationRoom s
-unfolding makeProbationRoom
-evict-ends R count e s t l g = sym (g .same ∙ evict-none (visits t) (walkFrom t e) l)
+pub evict-ends : {n e k : ℕ} {l m : List ℕ} {v : Lowest} → Evicting n e k l m → lowestOf v ≡ lowestStamp probation (viewRows n m .rows) → v ≡ Nothing →
+    Evicted n v k e l m
+unfolding makeProbationRoom withoutVictim
+evict-ends {n} {e} {m = m} {v = v} g h q =
+    let s = viewRows n m in
+    (ap (λ (x : State). walkFrom x e) (without-none v s q) ∙ sym (g .same ∙ evict-none (visits s) (walkFrom s e) (found-none v _ h q)), at-none _ v q)
 
--- row i is taken up in t
-pub record Taken (R : ℕ) (s : State) (count e : ℕ) (t : State) (i : ℕ) : Type 0 where
-  pub inside : i < length (t .rows)
-  pub fits : e + 1 ≤ total probationVisits (s .rows)
-  pub drawn : t .seq + 1 ≤ s .seq + total probationVisits (s .rows)
-  pub restamped : stale (rowAt i (t .rows)) ≡ true → Evicting R s count (walkFrom (restamp i t) (e + 1))
-  pub yields : stale (rowAt i (t .rows)) ≡ false → walkFrom (takeOut i t) (e + 1) ≡ makeProbationRoom s
-  pub stays : (w : ℕ) → w ≡ s .storedWeight → LeftAt i w (s .rows) (t .rows)
+-- row i is taken up in m
+pub record Taken (n e k i : ℕ) (l m : List ℕ) : Type 0 where
+  lowest : lowestStamp probation (viewRows n m .rows) ≡ some i
+  there : atPlace probation (rowAt i (viewRows n m .rows)) ≡ true
+  visit : 1 ≤ total probationVisits (viewRows n m .rows)
+  pub inside : i < n
+  pub going : Evicting n e k l m
 
-module _ (R count bound e i : ℕ) (s t : State) (b : bound ≡ probationBound (s .maxEntries)) (h : bound ≤ count) (l : lowestStamp probation (t .rows) ≡ some i) (g : Evicting R s count (walkFrom t e)) where
-  full : ltb (probationCount t) (probationBound (t .maxEntries)) ≡ false
-  full = rw (g .max, ← b, ← g .guests) (le-ltb count bound h)
+pub taken : {n e k i : ℕ} {l m : List ℕ} {v : Lowest} → Evicting n e k l m → lowestOf v ≡ lowestStamp probation (viewRows n m .rows) → v ≡ At i → Taken n e k i l m
+taken {n} {i = i} {m = m} {v = v} g h q =
+    let rs = viewRows n m .rows in
+    let d = found-at v i (lowestStamp probation rs) h q in
+    let o = lowest-at probation rs i d in
+    let w = some-visit (rowAt i rs) (stale (rowAt i rs)) refl (o .there) in
+    record { lowest = d; there = o .there; visit = omega (arith, total-some probationVisits i rs (o .inside)); inside = omega (arith, o .inside, view-length n m); going = g }
+  where
+    some-visit : (r : Row) (b : Bool) → stale r ≡ b → atPlace probation r ≡ true → 1 ≤ probationVisits r
+    some-visit r true a p = omega (arith, visits-of r true p a)
+    some-visit r false a p = omega (arith, visits-of r false p a)
 
-  here : i < length (t .rows)
-  here = lowest-at probation (t .rows) i l .inside
+-- it was restamped, and memory x shows the rows then
+pub record Turned (n e k : ℕ) (l m x : List ℕ) : Type 0 where
+  pub less : total probationVisits (viewRows n x .rows) < total probationVisits (viewRows n m .rows)
+  pub going : Evicting n (e + 1) k l x
 
-  there : atPlace probation (rowAt i (t .rows)) ≡ true
-  there = lowest-at probation (t .rows) i l .there
+module _ {n e k i : ℕ} {l m : List ℕ} (u : Taken n e k i l m) where
+  here : i < length (viewRows n m .rows)
+  here = omega (arith, u .inside, view-length n m)
 
-  evict-stale : stale (rowAt i (t .rows)) ≡ true → Evicting R s count (walkFrom (restamp i t) (e + 1))
+  full : ltb (probationCount (viewRows n m)) (probationBound (viewRows n m .maxEntries)) ≡ false
+  full = le-ltb (probationCount (viewRows n m)) (probationBound (viewRows n m .maxEntries)) (u .going .full)
+
+  pub key-fits : e + 1 < 18446744073709551616
+  key-fits = omega (arith, u .visit, u .going .keys)
+
+  -- what restamp asks
+  pub restamp-asks : (i < n) × (headSize + n * rowSize ≤ length m) × (viewRows n m .seq < 18446744073709551615)
+  restamp-asks = (u .inside, u .going .size, omega (arith, u .visit, u .going .stamps))
+
+  pub stale-turn : {b : Bool} {x : List ℕ} → b ≡ stale (rowAt i (viewRows n m .rows)) → b ≡ true → length x ≡ length m → viewRows n x ≡ restamp i (viewRows n m) →
+      Turned n e k l m x
   unfolding takeUp restamp stamp raised withRows
-  evict-stale a =
+  stale-turn h d len z =
+      let a = sym h ∙ d in
+      let g = u .going in
+      let t = viewRows n m in
       let rs = t .rows in
       let r = rowAt i rs in
       let q = t .seq + 1 in
       let f : Row → Row = λ x. refiled q (x .entry) (x .weight) x in
-      let p = still-there q r there in
-      let v : visits t ≡ suc (total probationVisits (changeRow f i rs)) = omega (arith, total-change probationVisits f i rs here, visits-restamped q r there, visits-of r true there a) in
-      let c : total (λ x. cond (inProbation x) 1 0) (changeRow f i rs) + 1 ≡ total (λ x. cond (inProbation x) 1 0) rs + 1 = rw (there, p) at (total-change (λ x. cond (inProbation x) 1 0) f i rs here) in
+      let p = still-there q r (u .there) in
+      let o = visits-of r true (u .there) a in
+      let v : visits t ≡ suc (total probationVisits (changeRow f i rs)) = omega (arith, total-change probationVisits f i rs here, visits-restamped q r (u .there)) in
+      let c : guests (changeRow f i rs) + 1 ≡ guests rs + 1 = rw (u .there, p) at (total-change (λ x. cond (inProbation x) 1 0) f i rs here) in
       record {
-        same = g .same ∙ evict-turn restamp i (total probationVisits (changeRow f i rs)) (walkFrom t e) full l (rw a) v;
-        left = omega (arith, g .left);
-        stamps = omega (arith, g .stamps);
-        guests = omega (arith, g .guests);
-        max = g .max;
-        stored = g .stored;
-        keys = change-cores f i rs (same-core q r there) ∙ g .keys;
-        sound = restamp-sound R i t (g .sound) here there;
+        less = rw z (omega arith);
+        going = record {
+          long = len ∙ g .long;
+          size = omega (arith, g .size);
+          first = g .first;
+          sound = rw z (restamp-sound (capacity l) i t (g .sound) here (u .there));
+          same = rw z (g .same ∙ evict-turn restamp i (total probationVisits (changeRow f i rs)) (walkFrom t e) full (u .lowest) (rw a) v);
+          keys = rw z (omega (arith, g .keys));
+          stamps = rw z (omega (arith, g .stamps));
+          full = rw z (omega (arith, g .full));
+          stored = rw z (g .stored);
+          cores = rw z (change-cores f i rs (same-core q r (u .there)) ∙ g .cores);
+        };
       }
 
   -- without the victim probation is not full, as it was not over the bound
-  evict-fresh : stale (rowAt i (t .rows)) ≡ false → walkFrom (takeOut i t) (e + 1) ≡ makeProbationRoom s
-  unfolding makeProbationRoom takeUp takeOut withOnlyRows
-  evict-fresh a =
+  pub fresh-yields : {b : Bool} → b ≡ stale (rowAt i (viewRows n m .rows)) → b ≡ false → Evicted n (At i) k (e + 1) l m
+  unfolding makeProbationRoom takeUp takeOut withOnlyRows withoutVictim
+  fresh-yields h o =
+      let a = sym h ∙ o in
+      let g = u .going in
+      let t = viewRows n m in
       let rs = t .rows in
       let r = rowAt i rs in
-      let v : visits t ≡ suc (total probationVisits (withoutRow i rs)) = omega (arith, total-without probationVisits i rs here, visits-of r false there a) in
-      let c : total (λ x. cond (inProbation x) 1 0) (withoutRow i rs) + 1 ≡ total (λ x. cond (inProbation x) 1 0) rs = rw there at (total-without (λ x. cond (inProbation x) 1 0) i rs here) in
+      let j = total probationVisits (withoutRow i rs) in
+      let v : visits t ≡ suc j = omega (arith, total-without probationVisits i rs here, visits-of r false (u .there) a) in
+      let c : guests (withoutRow i rs) + 1 ≡ guests rs = rw (u .there) at (total-without (λ x. cond (inProbation x) 1 0) i rs here) in
       let d : probationCount (takeOut i t) < probationBound (t .maxEntries) = omega (arith, g .sound .probations) in
-      sym (g .same ∙ evict-turn takeOut i (total probationVisits (withoutRow i rs)) (walkFrom t e) full l (rw a) v ∙ evict-done (total probationVisits (withoutRow i rs)) (walkFrom (takeOut i t) (e + 1)) (lt-ltb (probationCount (takeOut i t)) (probationBound (t .maxEntries)) d))
-
-  some-visit : 1 ≤ probationVisits (rowAt i (t .rows))
-  some-visit = go (stale (rowAt i (t .rows))) refl
-    where
-      go : (b : Bool) → stale (rowAt i (t .rows)) ≡ b → 1 ≤ probationVisits (rowAt i (t .rows))
-      go true a = omega (arith, visits-of (rowAt i (t .rows)) true there a)
-      go false a = omega (arith, visits-of (rowAt i (t .rows)) false there a)
-
-  pub taken : sound R s ≡ true → Taken R s count e t i
-  taken z =
-      let v = total-some probationVisits i (t .rows) here in
-      let w = some-visit in
-      record {
-        inside = here;
-        fits = omega (arith, g .left);
-        drawn = omega (arith, g .stamps);
-        restamped = evict-stale;
-        yields = evict-fresh;
-        stays = λ x d. left-at i x (s .rows) (t .rows) (sound-is R s z .rising) (g .keys) here (not-main (rowAt i (t .rows)) there) (d ∙ sym (g .stored) ∙ g .sound .storedWeight) (omega (arith, sound-small R s z .stored));
-      }
+      let z = evict-done j (walkFrom (takeOut i t) (e + 1)) (lt-ltb (probationCount (takeOut i t)) (probationBound (t .maxEntries)) d) in
+      let y = light (t .seq) rs (g .sound .each) in
+      let small : k ≤ maxRows * weightLimit = omega (arith, g .stored, g .sound .storedWeight, few-rows (capacity l) t (g .sound), g .sound .small) in
+      let rising = sound-is (capacity l) (viewRows n l) (g .first) .rising in
+      let x = left-at i k (viewRows n l .rows) rs rising (g .cores) here (not-main r (u .there)) (g .stored ∙ g .sound .storedWeight) small in
+      (sym (g .same ∙ evict-turn takeOut i j (walkFrom t e) full (u .lowest) (rw a) v ∙ z), at-one (λ y. LeftAt y k (viewRows n l .rows) rs) _ _ refl x)

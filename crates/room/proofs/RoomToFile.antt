@@ -8,10 +8,10 @@ use lib.ListN.{length}
 use Rattle.types.specs.declared.node_addr.NodeAddr.{NodeAddr}
 use Rattle.rules.specs.Records.{Entry, State, mainBound, probationBound, maxRows}
 use Rattle.rules.specs.Rows.{mainCount, probationCount}
-use Rattle.rules.specs.Sound.{sound}
+use Rattle.rules.specs.Sound.{ascends, sound}
 use Rattle.rules.specs.Room.{fileNew}
 use Rattle.rules.specs.Memory.{capacity, viewRows}
-use Rattle.rules.proofs.SoundTest.{Sound, sound-is, is-sound}
+use Rattle.rules.proofs.SoundTest.{Sound, ascends-test, sound-is, is-sound}
 use Rattle.rules.proofs.SoundKept.{both-segments}
 use Rattle.rules.proofs.RowLists.{find-none}
 use Rattle.rules.proofs.Sizes.{length-insert}
@@ -19,7 +19,7 @@ use Rattle.rules.proofs.GotPart.{find-gone}
 use Rattle.rules.proofs.LentMemory.{capacity-same}
 use Rattle.rules.proofs.Moves.{Gone}
 use Rattle.rules.specs.Layout.{headSize, rowSize}
-use Rattle.memory.proofs.RowLaws.{view-length}
+use Rattle.rules.proofs.Foreign.{view-length}
 use Rattle.room.specs.Rooms.{Without}
 
 -- ---- a sound state in memory
@@ -34,6 +34,9 @@ both n l s = both-segments (viewRows n l .seq) (viewRows n l .rows) (s .each) �
 pub laid-out : (n : ℕ) (l : List ℕ) → sound (capacity l) (viewRows n l) ≡ true → headSize + n * rowSize ≤ length l
 unfolding capacity
 laid-out n l h = let s = shown n l h in omega (arith, both n l s, s .mains, s .probations, s .space)
+
+pub rows-searchable : (n : ℕ) (l : List ℕ) → sound (capacity l) (viewRows n l) ≡ true → (ascends (viewRows n l .rows) ≡ true) × (headSize + n * rowSize ≤ length l)
+rows-searchable n l h = (ascends-test (viewRows n l .rows) (shown n l h .rising), laid-out n l h)
 
 pub few : (n : ℕ) (l : List ℕ) → sound (capacity l) (viewRows n l) ≡ true → n ≤ maxRows
 few n l h = let s = shown n l h in omega (arith, both n l s, s .mains, s .probations, s .space, s .small)
@@ -68,7 +71,8 @@ unfolding fileNew
 filed-length k e w p s = omega (arith, length-insert (record { key = k; entry = e; place = p; stampFirst = e .lastUsed; stampSeq = s .seq + 1; weight = w }) (s .rows))
 
 -- the state that is there once a row was filed into state s
-pub filed : (k : NodeAddr) (e x : Entry) (w v p n : ℕ) (l m : List ℕ) (s : State) → viewRows n l ≡ s → x ≡ e → v ≡ w → viewRows (n + 1) m ≡ fileNew k x v p (viewRows n l) → viewRows (length (fileNew k e w p s .rows)) m ≡ fileNew k e w p s
+pub filed : (k : NodeAddr) (e x : Entry) (w v p n : ℕ) (l m : List ℕ) (s : State) → viewRows n l ≡ s → x ≡ e → v ≡ w → viewRows (n + 1) m ≡ fileNew k x v p (viewRows n l) →
+    viewRows (length (fileNew k e w p s .rows)) m ≡ fileNew k e w p s
 filed k e x w v p n l m s a b c d =
     let z : length (fileNew k e w p s .rows) ≡ n + 1 = filed-length k e w p s ∙ ap (λ (y : State). length (y .rows) + 1) (sym a) ∙ ap (λ (y : ℕ). y + 1) (view-length n l) in
     ap (λ (y : ℕ). viewRows y m) z ∙ d ∙ rw (a, b, c)

@@ -1,6 +1,6 @@
 -- Rows set aside and put back.
 use mathlib.Core.Path.{_≡_, refl, sym, ap, _∙_}
-use Prim.Native.Nat.{ℕ, zero, suc, _+_, _-_, _<_}
+use Prim.Native.Nat.{ℕ, zero, suc, _+_, _-_, _≤_, _<_}
 use native.Mathlib.Omega.{arith}
 use native.Mathlib.Numerals.{add-one}
 use mathlib.Core.List.{List, [], _∷_, map}
@@ -11,6 +11,9 @@ use Rattle.rules.specs.Records.{Row, State, aside}
 use Rattle.rules.specs.Rows.{rowAt, atPlace, changeRow, withRows}
 use Rattle.rules.specs.Room.{atNewPlace, putBack}
 use Rattle.rules.proofs.RowLists.{change-at, change-none, length-change}
+use Rattle.rules.specs.Memory.{viewRows}
+use Rattle.memory.proofs.RowLaws.{view-length}
+use Rattle.retention.proofs.KeptRows.{rows-same}
 use Rattle.memory.specs.Edits.{stampedAs}
 use Rattle.room.specs.Rooms.{LastAside}
 
@@ -20,8 +23,10 @@ own-stamp : (p f q : ℕ) (r : Row) → f ≡ r .stampFirst → q ≡ r .stampSe
 unfolding stampedAs atNewPlace
 own-stamp p f q r ef eq = rw (ef, eq)
 
-pub placed : (i p f q : ℕ) (s x : State) → f ≡ rowAt i (s .rows) .stampFirst → q ≡ rowAt i (s .rows) .stampSeq → x ≡ withRows (changeRow (stampedAs p f q) i (s .rows)) s → x ≡ withRows (changeRow (atNewPlace p) i (s .rows)) s
-placed i p f q s x ef eq ex = ex ∙ ap (λ (rs : List Row). withRows rs s) (change-at (stampedAs p f q) (atNewPlace p) i (s .rows) (own-stamp p f q (rowAt i (s .rows)) ef eq))
+pub placed : (i p f q : ℕ) (s x : State) → f ≡ rowAt i (s .rows) .stampFirst → q ≡ rowAt i (s .rows) .stampSeq →
+    x ≡ withRows (changeRow (stampedAs p f q) i (s .rows)) s → x ≡ withRows (changeRow (atNewPlace p) i (s .rows)) s
+placed i p f q s x ef eq ex =
+    ex ∙ ap (λ (rs : List Row). withRows rs s) (change-at (stampedAs p f q) (atNewPlace p) i (s .rows) (own-stamp p f q (rowAt i (s .rows)) ef eq))
 
 -- ---- the row that was set aside last
 
@@ -42,10 +47,6 @@ last-turn count left i j rs ts l h = record { few = omega (arith, l .few); insid
 pub back-here : (i : ℕ) (s x : State) → rowAt i (s .rows) .place ≡ 3 → x ≡ withRows (changeRow (atNewPlace 0) i (s .rows)) s → x ≡ withRows (changeRow putBack i (s .rows)) s
 unfolding putBack atPlace
 back-here i s x p e = e ∙ ap (λ (rs : List Row). withRows rs s) (change-at (atNewPlace 0) putBack i (s .rows) (rw (eq-eqb (rowAt i (s .rows) .place) 3 p)))
-
-rows-same : (s : State) → withRows (s .rows) s ≡ s
-unfolding withRows
-rows-same s = refl
 
 pub back-not-here : (i : ℕ) (s : State) → (rowAt i (s .rows) .place ≡ 3 → ⊥) → s ≡ withRows (changeRow putBack i (s .rows)) s
 unfolding putBack atPlace
@@ -73,19 +74,26 @@ back-all (suc i) [] e = refl
 back-all zero (r ∷ rs) e = absurd (let z : ⊥ = omega arith in z)
 back-all (suc i) (r ∷ rs) e = ap (λ (xs : List Row). putBack r ∷ xs) (back-all i rs (omega arith))
 
-pub record Backed (i : ℕ) (s x : State) : Type 0 where
-  pub same : x ≡ withRows (backTo i (s .rows)) s
+-- of n rows; memory x shows them, from memory l
+pub record Backed (n i : ℕ) (l x : List ℕ) : Type 0 where
+  pub within : i ≤ n
+  pub long : length x ≡ length l
+  same : viewRows n x ≡ withRows (backTo i (viewRows n l .rows)) (viewRows n l)
 
-pub backed-start : (s : State) → Backed 0 s s
+pub backed-start : {n : ℕ} {l : List ℕ} → Backed n 0 l l
 unfolding backTo
-backed-start s = record { same = sym (rows-same s) }
+backed-start {n} {l} = record { within = omega arith; long = refl; same = sym (rows-same (viewRows n l)) }
 
 rows-twice : (f : List Row → List Row) (rs : List Row) (s : State) → withRows (f (withRows rs s .rows)) (withRows rs s) ≡ withRows (f rs) s
 unfolding withRows
 rows-twice f rs s = refl
 
-pub backed-turn : (i : ℕ) (s x y : State) → Backed i s x → y ≡ withRows (changeRow putBack i (x .rows)) x → Backed (i + 1) s y
-backed-turn i s x y b e = record { same = e ∙ ap (λ (z : State). withRows (changeRow putBack i (z .rows)) z) (b .same) ∙ rows-twice (changeRow putBack i) (backTo i (s .rows)) s ∙ ap (λ (rs : List Row). withRows rs s) (back-step i (s .rows)) ∙ rw add-one refl }
+module _ {n i : ℕ} {l x : List ℕ} (b : Backed n i l x) where
+  pub backed-turn : {y : List ℕ} → i < n → length y ≡ length x → viewRows n y ≡ withRows (changeRow putBack i (viewRows n x .rows)) (viewRows n x) → Backed n (i + 1) l y
+  backed-turn h k e =
+      let s = viewRows n l in
+      let q = ap (λ (z : State). withRows (changeRow putBack i (z .rows)) z) (b .same) ∙ rows-twice (changeRow putBack i) (backTo i (s .rows)) s in
+      record { within = omega arith; long = k ∙ b .long; same = e ∙ q ∙ ap (λ (rs : List Row). withRows rs s) (back-step i (s .rows)) ∙ rw add-one refl }
 
-pub backed-end : (i : ℕ) (s x : State) → i ≡ length (s .rows) → Backed i s x → x ≡ withRows (map putBack (s .rows)) s
-backed-end i s x e b = b .same ∙ ap (λ (rs : List Row). withRows rs s) (back-all i (s .rows) e)
+  pub backed-end : n ≤ i → viewRows n x ≡ withRows (map putBack (viewRows n l .rows)) (viewRows n l)
+  backed-end h = b .same ∙ ap (λ (rs : List Row). withRows rs (viewRows n l)) (back-all i (viewRows n l .rows) (omega (arith, b .within, view-length n l)))

@@ -38,18 +38,22 @@ lapsed-later now (suc n) e w = go (lowestStamp parked (w .state .rows)) (lapsed-
         pick true = ap (returnLapsed n now) (take-later restamp i e w) ∙ ih (takeUp restamp i w)
         pick false = refl
 
+-- row i is taken up: restamped, parked or yielded
+abbrev met : ℕ → ℕ → Walk → ℕ → Bool → Bool → Sought
+met now n w i b v = cond b (seek n now (takeUp restamp i w)) (cond v (seek n now (takeUp park i w)) (sought (some i) (takeUp untouched i w)))
+
 seek-later : (now n e : ℕ) (w : Walk) → seek n now (later e w) ≡ laterSought e (seek n now w)
 unfolding seek sought
 seek-later now zero e w = refl
 seek-later now (suc n) e w = go (lowestStamp byUse (w .state .rows)) (seek-later now n e)
   where
-    go : (o : Option ℕ) → ((x : Walk) → seek n now (later e x) ≡ laterSought e (seek n now x))
-        → maybe o (sought none (later e w)) (λ i. cond (stale (rowAt i (w .state .rows))) (seek n now (takeUp restamp i (later e w))) (cond (verified now (rowAt i (w .state .rows) .entry)) (seek n now (takeUp park i (later e w))) (sought (some i) (takeUp untouched i (later e w)))))
-        ≡ laterSought e (maybe o (sought none w) (λ i. cond (stale (rowAt i (w .state .rows))) (seek n now (takeUp restamp i w)) (cond (verified now (rowAt i (w .state .rows) .entry)) (seek n now (takeUp park i w)) (sought (some i) (takeUp untouched i w)))))
+    go : (o : Option ℕ) → ((x : Walk) → seek n now (later e x) ≡ laterSought e (seek n now x)) →
+        maybe o (sought none (later e w)) (λ i. met now n (later e w) i (stale (rowAt i (w .state .rows))) (verified now (rowAt i (w .state .rows) .entry)))
+        ≡ laterSought e (maybe o (sought none w) (λ i. met now n w i (stale (rowAt i (w .state .rows))) (verified now (rowAt i (w .state .rows) .entry))))
     go none ih = refl
     go (some i) ih = pick (stale (rowAt i (w .state .rows))) (verified now (rowAt i (w .state .rows) .entry))
       where
-        pick : (b v : Bool) → cond b (seek n now (takeUp restamp i (later e w))) (cond v (seek n now (takeUp park i (later e w))) (sought (some i) (takeUp untouched i (later e w)))) ≡ laterSought e (cond b (seek n now (takeUp restamp i w)) (cond v (seek n now (takeUp park i w)) (sought (some i) (takeUp untouched i w))))
+        pick : (b v : Bool) → met now n (later e w) i b v ≡ laterSought e (met now n w i b v)
         pick true v = ap (seek n now) (take-later restamp i e w) ∙ ih (takeUp restamp i w)
         pick false true = ap (seek n now) (take-later park i e w) ∙ ih (takeUp park i w)
         pick false false = ap (sought (some i)) (take-later untouched i e w)
@@ -61,7 +65,8 @@ next-later now e w =
     ap (λ (x : Walk). seek (visitsLeft now x) now x) (lapsed-later now (visitsLeft now w) e w) ∙ seek-later now (visitsLeft now v) e v
 
 -- what next_victim answers from s to t, where e keys were taken up before
-pub next-from : (now e : ℕ) (s t : State) (r : Victim) → soughtOf r t ≡ nextVictim now (walkFrom s 0) → nextVictim now (walkFrom s e) ≡ sought (lowestOf (r .found)) (walkFrom t (e + r .examined))
+pub next-from : (now e : ℕ) (s t : State) (r : Victim) → soughtOf r t ≡ nextVictim now (walkFrom s 0) →
+    nextVictim now (walkFrom s e) ≡ sought (lowestOf (r .found)) (walkFrom t (e + r .examined))
 unfolding soughtOf sought
 next-from now e s t r h =
     let z : e ≡ e + 0 = omega arith in

@@ -1,4 +1,5 @@
-// Main counted and weighed: whether it has room, and whether room can be made.
+// Main counted and weighed: whether it has room, which room::victims and verification ask; and the closed form, whether room can be made,
+// which is asked for number 4 alone.
 use entries::times::is_verified;
 use memory::codes::PROBATION;
 use types::coord::ADDRS_PER_ENTRY;

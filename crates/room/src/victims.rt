@@ -129,7 +129,7 @@ fn drop_aside(state: &mut [u8], n: usize) -> usize
     ensures { λ r. ⌜ (r ≤ n) × (viewRows r (now (state .exit)) ≡ withOnlyRows (keepRows (λ x. not (atPlace aside x)) (viewRows n (now (state .entry)) .rows)) (viewRows n (now (state .entry)))) ⌝ }
 {
     let none = NodeAddr([0u8; 16]);
-    retention::rows::retain_rows(state, n, retention::rows::ASIDE, 0, none)
+    retention::rows::retain_rows(state, n, retention::rows::SET_ASIDE, 0, none)
 }
 
 // There is room: no victim is sought.

@@ -1,60 +1,18 @@
 -- An exchange of rows, in the view.
 use mathlib.Core.Path.{_≡_, refl, sym, ap, _∙_}
-use mathlib.Core.List.{List, [], _∷_, _++_, append-assoc, append-nil}
+use mathlib.Core.List.{List, [], _∷_, _++_, append-nil}
 use Prim.Native.Nat.{ℕ, zero, suc, _+_, _*_, _-_, _≤_, _<_}
 use native.Mathlib.Omega.{arith}
-use lib.ListN.{length, take, drop, length-append, length-drop}
-use lib.Seq.{sets, sets-eq, slice, length-slice, length-take-le, take-at, take-take, take-append-le, drop-append-le, drop-append-add, drop-drop, drop-length}
+use lib.ListN.{length, take, drop}
+use lib.Seq.{sets, sets-eq, slice, length-take-le, take-at, drop-append-add, drop-drop, drop-length}
 use Rattle.rules.specs.Records.{Row, State}
 use Rattle.rules.specs.Rows.{changeRow, withoutRow, withRows}
-use Rattle.rules.specs.Memory.{cut, rowOf, rowsOf, viewRows}
-use Rattle.rules.specs.Layout.{headSize, rowCountOffset, rowSize}
+use Rattle.rules.specs.Memory.{rowOf, viewRows}
+use Rattle.rules.specs.Layout.{headSize, rowSize}
 use Rattle.memory.proofs.Fields.{row-store}
-use Rattle.memory.proofs.RowBlocks.{rows-append, rows-cut, rows-drop, rows-take, without-eq, drop-take-add}
-use Rattle.memory.proofs.RowLaws.{head-cut, view-length}
+use Rattle.memory.proofs.RowBlocks.{without-eq}
+use Rattle.memory.proofs.RowLaws.{parts-view, view-length}
 use Rattle.rows.specs.Insertions.{exchanged, Opened}
-
--- ---- p rows, the rows from a up to e, and the rows from s on are n rows again
-
-module _ (n p a e s : ℕ) (f : p ≤ n) (h : a ≤ e) (g : e ≤ n) (u : s ≤ n) (w : p + (e - a + (n - s)) ≡ n) where
-  parts-rows : (b : List ℕ) → n * rowSize ≤ length b
-      → rowsOf n (take (p * rowSize) b ++ (slice (a * rowSize) (e * rowSize) b ++ drop (s * rowSize) b)) ≡ take p (rowsOf n b) ++ (drop a (take e (rowsOf n b)) ++ drop s (rowsOf n b))
-  parts-rows b k =
-      let lp : length (take (p * rowSize) b) ≡ p * rowSize = length-take-le (p * rowSize) b (omega arith) in
-      let ls : length (slice (a * rowSize) (e * rowSize) b) ≡ (e - a) * rowSize = length-slice (a * rowSize) (e * rowSize) b (omega arith) ∙ omega arith in
-      let front : (i : ℕ) → i ≤ n → rowsOf i (take (i * rowSize) b) ≡ take i (rowsOf n b) =
-      λ i q. let z : i + (n - i) ≡ n = omega arith in rows-cut i b (omega arith) ∙ rw z at (rows-take i (n - i) b) in
-      let za : a + (e - a) ≡ e = omega arith in
-      let zs : s + (n - s) ≡ n = omega arith in
-      let middle : rowsOf (e - a) (slice (a * rowSize) (e * rowSize) b) ≡ drop a (take e (rowsOf n b)) = rw za at (rows-drop a (e - a) (take (e * rowSize) b)) ∙ ap (drop a) (front e g) in
-      let last : rowsOf (n - s) (drop (s * rowSize) b) ≡ drop s (rowsOf n b) = rw zs at (rows-drop s (n - s) b) in
-      ap (λ (m : ℕ). rowsOf m (take (p * rowSize) b ++ (slice (a * rowSize) (e * rowSize) b ++ drop (s * rowSize) b))) (sym w) ∙ rows-append (take (p * rowSize) b) _ p (e - a + (n - s)) lp
-      ∙ rw (rows-append (slice (a * rowSize) (e * rowSize) b) (drop (s * rowSize) b) (e - a) (n - s) ls, front p f, middle, last)
-
-  pub parts-view : (l : List ℕ) → headSize + n * rowSize ≤ length l
-      → viewRows n (take (headSize + p * rowSize) l ++ (slice (headSize + a * rowSize) (headSize + e * rowSize) l ++ drop (headSize + s * rowSize) l))
-      ≡ withRows (take p (viewRows n l .rows) ++ (drop a (take e (viewRows n l .rows)) ++ drop s (viewRows n l .rows))) (viewRows n l)
-  unfolding viewRows withRows
-  parts-view l k =
-      let x : List ℕ = take (headSize + p * rowSize) l in
-      let y : List ℕ = slice (headSize + a * rowSize) (headSize + e * rowSize) l in
-      let z : List ℕ = drop (headSize + s * rowSize) l in
-      let m : List ℕ = x ++ (y ++ z) in
-      let lx : length x ≡ headSize + p * rowSize = length-take-le (headSize + p * rowSize) l (omega arith) in
-      let ly : length y ≡ (e - a) * rowSize = length-slice (headSize + a * rowSize) (headSize + e * rowSize) l (omega arith) ∙ omega arith in
-      let lxy : length (x ++ y) ≡ headSize + p * rowSize + (e - a) * rowSize = length-append x y ∙ omega arith in
-      let hd : take headSize m ≡ take headSize l = take-append-le headSize x (y ++ z) (omega arith) ∙ take-take headSize (headSize + p * rowSize) l (omega arith) in
-      let cu : (o v : ℕ) → o + v ≤ headSize → cut o v m ≡ cut o v l = λ o v q. head-cut o v l m q hd in
-      let d : drop headSize m ≡ take (p * rowSize) (drop headSize l) ++ (slice (a * rowSize) (e * rowSize) (drop headSize l) ++ drop (s * rowSize) (drop headSize l)) =
-      drop-append-le headSize x (y ++ z) (omega arith)
-      ∙ rw (drop-take-add headSize (p * rowSize) l, ← drop-drop (a * rowSize) headSize (take (headSize + e * rowSize) l), drop-take-add headSize (e * rowSize) l, ← drop-drop (s * rowSize) headSize l) in
-      let rs = ap (rowsOf n) d ∙ parts-rows (drop headSize l) (rw length-drop (omega arith)) in
-      let en : headSize + n * rowSize ≡ length (x ++ y) + (n - s) * rowSize = omega arith in
-      let es : headSize + s * rowSize + (n - s) * rowSize ≡ headSize + n * rowSize = omega arith in
-      let rt : drop (headSize + n * rowSize) m ≡ drop (headSize + n * rowSize) l =
-      ap (drop (headSize + n * rowSize)) (sym (append-assoc x y z)) ∙ ap (λ (o : ℕ). drop o ((x ++ y) ++ z)) en ∙ drop-append-add (x ++ y) z ((n - s) * rowSize)
-      ∙ drop-drop ((n - s) * rowSize) (headSize + s * rowSize) l ∙ ap (λ (o : ℕ). drop o l) es in
-      rw (cu 0 8 (omega arith), cu 8 8 (omega arith), cu 16 8 (omega arith), cu 24 8 (omega arith), cu rowCountOffset 8 (omega arith), rs, rt)
 
 -- ---- a place opened
 
@@ -116,7 +74,8 @@ unfolding exchanged withRows
 place-filled i j r s t h o = rw (change-all r j (t .rows) h, o .before, o .behind) (ap (λ (x : State). withRows (take j (withoutRow i (s .rows)) ++ r ∷ drop j (withoutRow i (s .rows))) x) (o .others))
 
 -- c is stored as row j
-pub exchange-view : (l m c : List ℕ) (n i j : ℕ) → j < n → headSize + n * rowSize ≤ length m → length c ≡ rowSize → Opened i j (viewRows n l) (viewRows n m) → viewRows n (sets m (headSize + j * rowSize) c) ≡ exchanged i j (rowOf c) (viewRows n l)
-exchange-view l m c n i j h k w o =
+pub exchange-view : (s : State) (m c : List ℕ) (n i j : ℕ) → j < n → headSize + n * rowSize ≤ length m → length c ≡ rowSize → Opened i j s (viewRows n m)
+    → viewRows n (sets m (headSize + j * rowSize) c) ≡ exchanged i j (rowOf c) s
+exchange-view s m c n i j h k w o =
     let z : headSize + j * rowSize + 0 ≡ headSize + j * rowSize = omega arith in
-    rw z at (row-store (λ _. rowOf c) 0 c (omega arith) (λ x q. ap rowOf (stored-all x c w q)) n j m h k) ∙ place-filled i j (rowOf c) (viewRows n l) (viewRows n m) (omega (arith, view-length n m)) o
+    rw z at (row-store (λ _. rowOf c) 0 c (omega arith) (λ x q. ap rowOf (stored-all x c w q)) n j m h k) ∙ place-filled i j (rowOf c) s (viewRows n m) (omega (arith, view-length n m)) o

@@ -1,4 +1,3 @@
-pub mod StoreRuns
 pub mod PathLaws
 pub mod RowImage
 pub mod InsertLaws

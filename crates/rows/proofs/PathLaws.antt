@@ -5,24 +5,24 @@ use mathlib.Core.List.{List, [], _∷_, _++_, append-assoc}
 use Prim.Native.Nat.{ℕ, zero, suc, _+_, _*_, _-_, _≤_, _<_}
 use native.Mathlib.Omega.{arith}
 use native.Mathlib.Numerals.{add-one}
-use lib.ListN.{length, take, drop, getD, replicate, length-append, length-replicate, replicate-append-replicate}
-use lib.Seq.{sets, sets-eq, take-suc, take-at, take-all, drop-at, drop-drop, length-take-le}
+use lib.ListN.{length, take, drop, getD, replicate, length-append, replicate-append-replicate}
+use lib.Seq.{sets, sets-eq, take-suc, take-at, drop-at, length-take-le}
 use Rattle.types.specs.declared.coord.CoordEntry.{CoordEntry}
 use Rattle.types.specs.declared.coord.Path.{Path}
 use Rattle.types.specs.Paths.{zeroEntry, elements, asWritten, pathPlaces}
 use Rattle.types.proofs.PathLaws.{noEntry}
-use Rattle.rules.specs.Cases.{Every}
 use Rattle.rules.specs.Lookups.{rewrite}
-use Rattle.rules.specs.Memory.{cut, leNumber, leBytes, addrBytes, coordEntriesBytes, coordEntryOf, coordEntriesOf, pathOf, entryOf, viewRows}
+use Rattle.rules.specs.Memory.{cut, leNumber, leBytes, coordEntriesBytes, coordEntriesOf, pathOf, entryOf, viewRows}
 use Rattle.rules.specs.Lent.{CoordEntryFits, PathFits}
-use Rattle.rules.proofs.ViewLaws.{num-le, length-le}
-use Rattle.rules.proofs.MemoryLaws.{entries-cons}
-use Rattle.rules.proofs.Sizes.{small1, copies-bytes}
+use Rattle.rules.proofs.RowLists.{every-take}
+use Rattle.rules.proofs.ViewLaws.{num-le, length-le, elements-length, elements-view}
+use Rattle.rules.proofs.Sizes.{small1}
+use Rattle.rules.proofs.Fitting.{written-fits}
 use Rattle.rules.specs.Layout.{coordEntrySize, createdAtOffset, entryOffset, entrySize, expiresAtOffset, headSize, lastUsedOffset, mtuMarkOffset, mtuOffset, pathSize, rowSize, sourceOffset, verifiedUntilOffset}
 use Rattle.raw.proofs.StoreLaws.{cut-else}
 use Rattle.memory.proofs.Fields.{entry-store}
 use Rattle.rows.specs.Insertions.{pathBytes, withPath}
-use Rattle.rows.proofs.StoreRuns.{behind, three}
+use Rattle.memory.proofs.StoreRuns.{behind, three}
 
 -- ---- the bytes of elements
 
@@ -31,11 +31,6 @@ unfolding coordEntriesBytes
 entries-append [] ys = refl
 entries-append (x ∷ xs) ys = rw (entries-append xs ys) (simp append-assoc)
 
-entries-length : (xs : List CoordEntry) → Every CoordEntryFits xs → length (coordEntriesBytes xs) ≡ length xs * coordEntrySize
-unfolding coordEntriesBytes
-entries-length [] h = refl
-entries-length (x ∷ xs) h = simp (length-append, length-le) (omega (arith, h .0 .address .size, entries-length xs (h .1)))
-
 entries-zero : (k : ℕ) → coordEntriesBytes (replicate k zeroEntry) ≡ replicate (k * coordEntrySize) 0
 unfolding coordEntriesBytes zeroEntry leBytes
 entries-zero zero = refl
@@ -43,41 +38,17 @@ entries-zero (suc k) =
     let e : suc k * coordEntrySize ≡ coordEntrySize + k * coordEntrySize = omega arith in
     rw (entries-zero k, e) (replicate-append-replicate {A = ℕ} coordEntrySize (k * coordEntrySize) 0)
 
-every-take : (n : ℕ) (xs : List CoordEntry) → Every CoordEntryFits xs → Every CoordEntryFits (take n xs)
-every-take zero xs h = tt
-every-take (suc n) [] h = tt
-every-take (suc n) (x ∷ xs) h = (h .0, every-take n xs (h .1))
-
-every-append : (xs ys : List CoordEntry) → Every CoordEntryFits xs → Every CoordEntryFits ys → Every CoordEntryFits (xs ++ ys)
-every-append [] ys h g = g
-every-append (x ∷ xs) ys h g = (h .0, every-append xs ys (h .1) g)
-
-every-zero : (k : ℕ) → Every CoordEntryFits (replicate k zeroEntry)
-unfolding zeroEntry
-every-zero zero = tt
-every-zero (suc k) = (record { address = record { size = refl; bytes = copies-bytes 16 }; sequence = omega arith; timestamp = omega arith }, every-zero k)
-
--- what is written fits where what is given does
-pub written-fits : (p : Path) → PathFits p → p .len ≤ pathPlaces → PathFits (asWritten p)
-unfolding asWritten elements
-written-fits p f h =
-    let n = f .places in
-    record {
-      places = rw (length-append, length-take-le (p .len) (p .entries) (omega arith), length-replicate) (omega arith);
-      each = every-append (take (p .len) (p .entries)) (replicate (pathPlaces - p .len) zeroEntry) (every-take (p .len) (p .entries) (f .each)) (every-zero (pathPlaces - p .len));
-    }
-
 pub path-length : (p : Path) → PathFits p → p .len ≤ pathPlaces → length (pathBytes p) ≡ pathSize
 path-length p f h =
     let w = written-fits p f h in
-    rw (length-append, length-le, entries-length (asWritten p .entries) (w .each), w .places)
+    rw (length-append, length-le, elements-length (asWritten p .entries) (w .each), w .places)
 
 -- ---- the stores of a path
 
 front-length : (p : Path) (i : ℕ) → PathFits p → i ≤ pathPlaces → length (coordEntriesBytes (take i (p .entries))) ≡ i * coordEntrySize
 front-length p i f h =
     let n = f .places in
-    entries-length (take i (p .entries)) (every-take i (p .entries) (f .each)) ∙ ap (λ (x : ℕ). x * coordEntrySize) (length-take-le i (p .entries) (omega arith))
+    elements-length (take i (p .entries)) (every-take CoordEntryFits i (p .entries) (f .each)) ∙ ap (λ (x : ℕ). x * coordEntrySize) (length-take-le i (p .entries) (omega arith))
 
 -- a turn of the loop
 pub entries-turn : (l s t : List ℕ) (at i : ℕ) (p : Path) → PathFits p → i < p .len → p .len ≤ pathPlaces → s ≡ sets l at (coordEntriesBytes (take i (p .entries)))
@@ -106,27 +77,6 @@ path-stored l at p f h =
 
 -- ---- what a path's bytes are read as
 
-element-view : (x : CoordEntry) → CoordEntryFits x → coordEntryOf (addrBytes (x .«node_addr») ++ (leBytes 8 (x .sequence) ++ leBytes 8 (x .timestamp))) ≡ x
-unfolding coordEntryOf
-element-view x h =
-    let a = x .«node_addr» .0 in
-    let s = leBytes 8 (x .sequence) in
-    let t = leBytes 8 (x .timestamp) in
-    let c = a ++ (s ++ t) in
-    let d : drop 16 c ≡ s ++ t = drop-at a (s ++ t) 16 (h .address .size) in
-    let e : drop 24 c ≡ t = sym (drop-drop 8 16 c) ∙ ap (drop 8) d ∙ drop-at s t 8 (length-le 8 (x .sequence)) in
-    rw (take-at a (s ++ t) 16 (h .address .size), d, e, take-at s t 8 (length-le 8 (x .sequence)), take-all 8 t (omega (arith, length-le 8 (x .timestamp))), num-le 8 (x .sequence) (h .sequence), num-le 8 (x .timestamp) (h .timestamp))
-
-entries-view : (n : ℕ) (xs : List CoordEntry) (t : List ℕ) → length xs ≡ n → Every CoordEntryFits xs → coordEntriesOf n (coordEntriesBytes xs ++ t) ≡ xs
-unfolding coordEntriesOf
-entries-view zero [] t l h = refl
-entries-view zero (x ∷ xs) t l h = absurd (let z : ⊥ = omega arith in z)
-entries-view (suc n) [] t l h = absurd (let z : ⊥ = omega arith in z)
-entries-view (suc n) (x ∷ xs) t l h =
-    let c = addrBytes (x .«node_addr») ++ (leBytes 8 (x .sequence) ++ leBytes 8 (x .timestamp)) in
-    let k : length c ≡ coordEntrySize = simp (length-append, length-le) (omega (arith, h .0 .address .size)) in
-    rw (entries-cons x xs, append-assoc c (coordEntriesBytes xs) t, take-at c (coordEntriesBytes xs ++ t) coordEntrySize k, drop-at c (coordEntriesBytes xs ++ t) coordEntrySize k, element-view x (h .0), entries-view n xs t (omega arith) (h .1))
-
 path-entry : (p : Path) → PathFits p → p .len ≤ pathPlaces → (e : List ℕ) → length e ≡ entrySize → entryOf (sets e 0 (pathBytes p)) ≡ withPath p (entryOf e)
 unfolding entryOf pathOf withPath asWritten
 path-entry p f h e k =
@@ -137,7 +87,7 @@ path-entry p f h e k =
     let n : length vs ≡ pathSize = path-length p f h in
     let s : sets e 0 vs ≡ b ++ (coordEntriesBytes xs ++ drop (0 + length vs) e) = sets-eq vs e 0 (omega arith) ∙ append-assoc b (coordEntriesBytes xs) _ in
     let l : leNumber (cut 0 1 (sets e 0 vs)) ≡ p .len = rw (s, take-at b (coordEntriesBytes xs ++ drop (0 + length vs) e) 1 (length-le 1 (p .len))) (num-le 1 (p .len) (small1 (p .len) (omega arith))) in
-    let d : coordEntriesOf pathPlaces (drop 1 (sets e 0 vs)) ≡ xs = rw (s, drop-at b (coordEntriesBytes xs ++ drop (0 + length vs) e) 1 (length-le 1 (p .len))) (entries-view pathPlaces xs _ (w .places) (w .each)) in
+    let d : coordEntriesOf pathPlaces (drop 1 (sets e 0 vs)) ≡ xs = rw (s, drop-at b (coordEntriesBytes xs ++ drop (0 + length vs) e) 1 (length-le 1 (p .len))) (elements-view pathPlaces xs _ (w .places) (w .each)) in
     let a : (o m : ℕ) → createdAtOffset ≤ o → cut o m (sets e 0 vs) ≡ cut o m e = λ o m q. cut-else e vs 0 o m (inr (omega arith)) in
     rw (l, d, a createdAtOffset 8 (omega arith), a lastUsedOffset 8 (omega arith), a expiresAtOffset 8 (omega arith), a mtuMarkOffset 1 (omega arith), a mtuOffset 2 (omega arith), a sourceOffset 1 (omega arith), a verifiedUntilOffset 8 (omega arith))
 

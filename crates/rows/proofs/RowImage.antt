@@ -15,8 +15,9 @@ use Rattle.rules.proofs.Sizes.{small1}
 use Rattle.rules.specs.Layout.{createdAtInRow, entryOffset, headSize, memorySize, mtuMarkInRow, placeOffset, rowSize}
 use Rattle.rows.specs.declared.row.NewRow.{NewRow}
 use Rattle.rows.specs.Insertions.{pathBytes, rowFrom}
-use Rattle.rows.proofs.StoreRuns.{five}
-use Rattle.rows.proofs.PathLaws.{written-fits, path-length}
+use Rattle.memory.proofs.StoreRuns.{five}
+use Rattle.rows.proofs.PathLaws.{path-length}
+use Rattle.rules.proofs.Fitting.{written-fits}
 
 -- ---- a row by value
 

@@ -1,4 +1,5 @@
-// A row by value, and its bytes. The offsets are raw::layout's (docs/PACKING.md).
+// A row by value, and its bytes. Groups of fields start at raw::layout's offsets; within a group they follow by their widths
+// (docs/PACKING.md).
 use crate::values;
 use raw::layout;
 use types::coord::Path;
@@ -64,7 +65,7 @@ fn write_stamp(s: &mut [u8], at: usize, place: u8, first: u64, seq: u64, weight:
 }
 
 // All bytes of a row.
-pub fn write_row(s: &mut [u8], at: usize, r: NewRow)
+pub(crate) fn write_row(s: &mut [u8], at: usize, r: NewRow)
     requires { ⌜ (at + rowSize ≤ length (now s)) × (r .path .len ≤ pathPlaces) ⌝ }
     ensures { λ _. ⌜ now (s .exit) ≡ sets (now (s .entry)) at (rowBytes (rowFrom r)) ⌝ }
     ensures { λ _. ⌜ RowFits (rowFrom r) ⌝ }

@@ -1,12 +1,10 @@
-// A row that goes in again with the bytes that it had.
+// A row's bytes, copied out, and put in again.
 use memory::head;
 use raw::layout::HEAD;
 use raw::layout::ROW;
 ghost use mathlib.Core.Path.{_≡_};
-ghost use Prim.Native.Nat.{_+_, _*_, _≤_};
 ghost use lib.ListN.{length};
 ghost use lib.Seq.{sets};
-ghost use Rattle.rules.specs.Memory.{rowOf, viewRows};
 ghost use Rattle.rules.specs.Layout.{headSize, rowSize};
 ghost use Rattle.rows.specs.Insertions.{inserted};
 ghost use Prim.Native.Nat.{_+_, _*_, _≤_, _<_};

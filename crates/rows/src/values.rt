@@ -18,7 +18,7 @@ ghost use Rattle.rules.specs.Lent.{AddrFits, CoordEntryFits, PathFits};
 ghost use Rattle.rules.specs.Layout.{addressSize, coordEntrySize, pathSize};
 ghost use Rattle.rows.specs.Insertions.{pathBytes};
 
-pub fn store_addr(s: &mut [u8], at: usize, a: NodeAddr)
+pub(crate) fn store_addr(s: &mut [u8], at: usize, a: NodeAddr)
     requires { ⌜ at + addressSize ≤ length (now s) ⌝ }
     ensures { λ _. ⌜ now (s .exit) ≡ sets (now (s .entry)) at (addrBytes a) ⌝ }
     ensures { λ _. ⌜ AddrFits a ⌝ }
@@ -31,7 +31,7 @@ pub fn store_addr(s: &mut [u8], at: usize, a: NodeAddr)
     }
 }
 
-pub fn store_coord_entry(s: &mut [u8], at: usize, e: CoordEntry)
+fn store_coord_entry(s: &mut [u8], at: usize, e: CoordEntry)
     requires { ⌜ at + coordEntrySize ≤ length (now s) ⌝ }
     ensures { λ _. ⌜ now (s .exit) ≡ sets (now (s .entry)) at (coordEntriesBytes (e ∷ [])) ⌝ }
     ensures { λ _. ⌜ CoordEntryFits e ⌝ }

@@ -1,10 +1,10 @@
 -- Laws of addresses: equality and order, byte by byte.
-use Prim.Native.Nat.{ℕ, _<_}
+use Prim.Native.Nat.{ℕ}
 use mathlib.Core.Path.{_≡_, refl, sym, _∙_, ap}
 use mathlib.Core.List.{List, [], _∷_}
-use mathlib.Core.Bool.{Bool, true, false, _&&_, _||_}
+use mathlib.Core.Bool.{Bool, true, false, _&&_, _||_, or-true}
 use lib.Dec.{ltb, eqb}
-use borrow.Author.Tests.{eq-eqb, ne-eqb, eqb-true, eqb-false, ltb-true, ltb-false, lt-ltb, le-ltb}
+use borrow.Author.Tests.{eq-eqb, eqb-true, eqb-false, ltb-true, ltb-false, lt-ltb}
 use native.Mathlib.Omega.{arith}
 use Rattle.types.specs.declared.node_addr.NodeAddr.{NodeAddr}
 use Rattle.types.specs.Addresses.{addrBefore, bytesBefore, sameAddr, sameBytes}
@@ -47,10 +47,6 @@ bytes-before-total (a ∷ as′) (b ∷ bs) h n = go (ltb a b) refl (eqb a b) re
     go : (s : Bool) → ltb a b ≡ s → (t : Bool) → eqb a b ≡ t → s || (t && bytesBefore as′ bs) ≡ false → (bytesBefore as′ bs ≡ false → (as′ ≡ bs → ⊥) → bytesBefore bs as′ ≡ true) → ltb b a || (eqb b a && bytesBefore bs as′) ≡ true
     go true p t q g ih = contradiction {b = true} refl g
     go false p true q g ih = let z = eqb-true a b q in rw (eq-eqb b a (sym z), ih g (λ w. n (cc))) (or-true (ltb b a))
-      where
-        or-true : (x : Bool) → x || true ≡ true
-        or-true true = refl
-        or-true false = refl
     go false p false q g ih = rw (lt-ltb b a (omega (arith, ltb-false a b p, eqb-false a b q)))
 
 pub bytes-before-trans : (a b c : List ℕ) → bytesBefore a b ≡ true → bytesBefore b c ≡ true → bytesBefore a c ≡ true
@@ -69,10 +65,6 @@ bytes-before-trans (a ∷ as′) (b ∷ bs) (c ∷ cs) h g = go (ltb a b) refl (
     go true p t q false r false z x y ih = contradiction {b = false} y refl
     go false p true q true r w z x y ih = rw (lt-ltb a c (omega (arith, eqb-true a b q, ltb-true b c r)))
     go false p true q false r true z x y ih = rw (eq-eqb a c (eqb-true a b q ∙ eqb-true b c z), ih x y) (or-true (ltb a c))
-      where
-        or-true : (v : Bool) → v || true ≡ true
-        or-true true = refl
-        or-true false = refl
     go false p true q false r false z x y ih = contradiction {b = false} y refl
     go false p false q u r w z x y ih = contradiction {b = false} x refl
 
@@ -110,3 +102,10 @@ before-total a b h n = bytes-before-total (a .0) (b .0) h (λ e. n (ap (λ (x : 
 pub before-trans : (a b c : NodeAddr) → addrBefore a b ≡ true → addrBefore b c ≡ true → addrBefore a c ≡ true
 unfolding addrBefore
 before-trans a b c = bytes-before-trans (a .0) (b .0) (c .0)
+
+pub before-not-behind : (a b : NodeAddr) → addrBefore a b ≡ true → addrBefore b a ≡ false
+before-not-behind a b h = go (addrBefore b a) refl
+  where
+    go : (t : Bool) → addrBefore b a ≡ t → t ≡ false
+    go true e = contradiction (before-trans a b a h e) (before-irrefl a)
+    go false e = refl

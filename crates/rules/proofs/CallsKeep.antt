@@ -1,12 +1,12 @@
 -- Each call on a sound state: it stays sound; accounts, funding, and what it spares; stamps drawn and keys examined.
-use Prim.Native.Nat.{ℕ, zero, suc, _+_, _-_, _*_, _<_, _≤_, min, max}
+use Prim.Native.Nat.{ℕ, _+_, _-_, _*_, _<_, _≤_}
 use mathlib.Core.Path.{_≡_, refl, sym, _∙_, ap, subst}
-use mathlib.Core.List.{List, [], _∷_}
+use mathlib.Core.List.{List, []}
 use mathlib.Core.Option.{Option, none, some}
-use mathlib.Core.Bool.{Bool, true, false, cond, _&&_, _||_, not}
+use mathlib.Core.Bool.{Bool, true, false, _&&_, _||_, not}
 use lib.Dec.{ltb, leb, eqb, leb·zero}
 use lib.ListN.{length}
-use borrow.Author.Tests.{eq-eqb, ne-eqb, eqb-true, eqb-false, ltb-true, ltb-false, leb-true, leb-false, not-true}
+use borrow.Author.Tests.{eq-eqb, eqb-false, ltb-false, leb-false, not-true}
 use native.Mathlib.Omega.{arith}
 use Rattle.types.specs.declared.coord.Path.{Path}
 use Rattle.types.specs.declared.node_addr.NodeAddr.{NodeAddr}

@@ -8,6 +8,7 @@ use native.Mathlib.Omega.{arith}
 use lib.Dec.{ltb, leb, eqb}
 use lib.ListN.{length, take, drop, set, length-drop}
 use borrow.Author.Tests.{eqb-false, eqb-true, le-ltb, leb-false, leb-true, lt-ltb}
+use Rattle.types.specs.declared.coord.CoordEntry.{CoordEntry}
 use Rattle.types.specs.declared.coord.Path.{Path}
 use Rattle.types.specs.declared.coord.Appended.{Appended}
 use Rattle.types.specs.Paths.{appended, emptyPath, pathPlaces}
@@ -27,7 +28,7 @@ use Rattle.rules.proofs.Refused.{Iff, refusal-number, refused-one-to-fi
 
 -- ---- what is left of the bytes
 
-left-shorter : (b : ℕ) (bs : List ℕ) (d : Decoded) → decode b bs ≡ some d → length (d .left) ≤ length bs
+pub left-shorter : (b : ℕ) (bs : List ℕ) (d : Decoded) → decode b bs ≡ some d → length (d .left) ≤ length bs
 unfolding decode
 left-shorter b bs d = by-maybe (λ (o : Option Decoded). o ≡ some d → length (d .left) ≤ length bs) (codeOf b codes) (λ e h. nothing h) (λ c e h. whole c (leb (c .width) (length bs)) (c .reads (take (c .width) bs)) h)
   where
@@ -94,7 +95,7 @@ codes-read : Every Reads codes
 unfolding codes code namesKind absent
 codes-read = (λ o. refl, (λ o. refl, (λ o. refl, (λ o. refl, (λ o. kind-read o _, (λ o. kind-read o _, (λ o. refl, (λ o. refl, (λ o. refl, (λ o. refl, (λ o. refl, (λ o. refl, (λ o. refl, (λ o. refl, (λ o. refl, (λ o. refl, (λ o. refl, (λ o. refl, (λ o. refl, tt)))))))))))))))))))
 
-code-found : (P : Code → Type 0) (b : ℕ) (cs : List Code) (c : Code) → Every P cs → codeOf b cs ≡ some c → (b ≡ c .byte) × P c
+pub code-found : (P : Code → Type 0) (b : ℕ) (cs : List Code) (c : Code) → Every P cs → codeOf b cs ≡ some c → (b ≡ c .byte) × P c
 unfolding codeOf
 code-found P b [] c h e = contradiction {b = true} refl (cc)
 code-found P b (x ∷ cs) c h e = cond-some (eqb b (x .byte)) e (λ t p. subst (λ (y : Code). (b ≡ y .byte) × P y) p (eqb-true b (x .byte) t, h .0)) (λ t p. code-found P b cs c (h .1) p)
@@ -134,23 +135,23 @@ reply-number (StatsGiven c) = refl
 reply-number (ExpiryGiven none) = refl
 reply-number (ExpiryGiven (some t)) = refl
 
-served-below-six : (R : ℕ) (s : State) (x : Request) (p : Path) → obeyed (serve R s x) p .reply .refusal ≤ 5
-unfolding obeyed
-served-below-six R s x p = subst (λ (n : ℕ). n ≤ 5) (sym (reply-number (serve R s x .answer) ∙ refusal-number R s x)) (go (refusal R s x) refl)
-  where
-    go : (o : Option ℕ) → refusal R s x ≡ o → maybe o 0 (λ n. n) ≤ 5
-    go none e = omega arith
-    go (some n) e = refused-one-to-five R s x n e .1
+pub answer-below-six : (R : ℕ) (s : State) (x : Request) → reply (serve R s x .answer) .refusal ≤ 5
+answer-below-six R s x = subst (λ (n : ℕ). n ≤ 5) (sym (reply-number (serve R s x .answer) ∙ refusal-number R s x)) (by-maybe (λ (n : ℕ). n ≤ 5) (refusal R s x) (λ e. omega arith) (λ n e. refused-one-to-five R s x n e .1))
 
-obeyed-below-six : (R : ℕ) (s : Session) (c : Command) → obey R s c .reply .refusal ≤ 5
-unfolding obey pended appended says refuses
-obeyed-below-six R s (Element e) = go (ltb (s .pending .len) pathPlaces)
+-- an element that is taken, or has no place
+pub element-below-six : (p : Path) (e : CoordEntry) → let a = appended p e in cond (eqb (a .refusal) 0) (says (a .path .len) 0 0 0 0) (refuses (a .refusal)) .refusal ≤ 5
+unfolding appended says refuses
+element-below-six p e = go (ltb (p .len) pathPlaces)
   where
-    go : (b : Bool) → let a : Appended = cond b (record { refusal = 0; path = record { entries = set (s .pending .entries) (s .pending .len) e; len = s .pending .len + 1 } }) (record { refusal = 2; path = s .pending }) in cond (eqb (a .refusal) 0) (says (a .path .len) 0 0 0 0) (refuses (a .refusal)) .refusal ≤ 5
+    go : (b : Bool) → let a : Appended = cond b (record { refusal = 0; path = record { entries = set (p .entries) (p .len) e; len = p .len + 1 } }) (record { refusal = 2; path = p }) in cond (eqb (a .refusal) 0) (says (a .path .len) 0 0 0 0) (refuses (a .refusal)) .refusal ≤ 5
     go true = omega arith
     go false = omega arith
-obeyed-below-six R s (WithPath f) = served-below-six R (s .state) (Asked (f (s .pending))) emptyPath
-obeyed-below-six R s (Plain x) = served-below-six R (s .state) x (s .pending)
+
+obeyed-below-six : (R : ℕ) (s : Session) (c : Command) → obey R s c .reply .refusal ≤ 5
+unfolding obey obeyed pended
+obeyed-below-six R s (Element e) = element-below-six (s .pending) e
+obeyed-below-six R s (WithPath f) = answer-below-six R (s .state) (Asked (f (s .pending)))
+obeyed-below-six R s (Plain x) = answer-below-six R (s .state) x
 
 -- the number of the first line
 unfoldable pub firstNumber : List Line → ℕ

@@ -1,15 +1,14 @@
 -- Every call keeps a state that fits its memory.
 use mathlib.Core.Path.{_≡_, refl, subst}
-use Prim.Native.Nat.{ℕ, zero, suc, _+_, _*_, _-_, _≤_, _<_, max}
+use Prim.Native.Nat.{ℕ, _+_, _*_, _-_, _≤_, _<_, max}
 use native.Mathlib.Omega.{arith}
-use mathlib.Core.List.{List, [], _∷_, _++_}
+use mathlib.Core.List.{List, []}
 use mathlib.Core.Option.{Option, none, some}
 use mathlib.Core.Bool.{Bool, true, false, _&&_, _||_, not}
 use lib.Dec.{leb}
 use lib.ListN.{length, take, replicate, length-append, length-replicate}
 use lib.Seq.{length-take-le}
 use borrow.Author.Tests.{ltb-false}
-use Rattle.types.specs.declared.coord.CoordEntry.{CoordEntry}
 use Rattle.types.specs.declared.coord.Path.{Path}
 use Rattle.types.specs.declared.node_addr.NodeAddr.{NodeAddr}
 use Rattle.types.specs.Addresses.{sameAddr}
@@ -28,7 +27,7 @@ use Rattle.rules.specs.Calls.{Call, Clear, ClearPathMtu, Demote, Get, Ge
 use Rattle.rules.specs.Refusals.{Step, badPath, fresh, gives, hinted, perform, seqSpent, step, sweeps, verifies}
 use Rattle.rules.specs.Lent.{AddrFits, Bytes, CoordEntryFits, PathFits, Small, Typed, WriteFits}
 use Rattle.rules.proofs.Addresses.{contradiction}
-use Rattle.rules.proofs.RowLists.{by-cond, by-maybe, every-at, find-at}
+use Rattle.rules.proofs.RowLists.{by-cond, by-maybe, every-append, every-at, every-copy, every-take, find-at}
 use Rattle.rules.proofs.SoundTest.{Sound, sound-is}
 use Rattle.rules.proofs.MemoryLaws.{bytes-append}
 use Rattle.rules.proofs.ViewLaws.{EntryFits, Fits}
@@ -41,49 +40,33 @@ use Rattle.rules.specs.Layout.{headSize, rowSize}
 
 -- ---- what is given fits
 
-every-take : (n : ℕ) (xs : List CoordEntry) → Every CoordEntryFits xs → Every CoordEntryFits (take n xs)
-every-take zero xs h = tt
-every-take (suc n) [] h = tt
-every-take (suc n) (x ∷ xs) h = (h .0, every-take n xs (h .1))
-
-every-append : (xs ys : List CoordEntry) → Every CoordEntryFits xs → Every CoordEntryFits ys → Every CoordEntryFits (xs ++ ys)
-every-append [] ys h g = g
-every-append (x ∷ xs) ys h g = (h .0, every-append xs ys (h .1) g)
-
-zero-address : Bytes (replicate 16 0)
-zero-address = copies-bytes 16
-
-zero-fits : CoordEntryFits zeroEntry
+pub zero-fits : CoordEntryFits zeroEntry
 unfolding zeroEntry
-zero-fits = record { address = record { size = refl; bytes = zero-address }; sequence = omega arith; timestamp = omega arith }
+zero-fits = record { address = record { size = refl; bytes = copies-bytes 16 }; sequence = omega arith; timestamp = omega arith }
 
-every-zero : (n : ℕ) → Every CoordEntryFits (replicate n zeroEntry)
-every-zero zero = tt
-every-zero (suc n) = (zero-fits, every-zero n)
+pub zeros-fit : (n : ℕ) → Every CoordEntryFits (replicate n zeroEntry)
+zeros-fit n = every-copy CoordEntryFits n zero-fits
 
-record WrittenFits (p : Path) : Type 0 where
-  len : Small 1 (asWritten p .len)
-  entries : length (asWritten p .entries) ≡ pathPlaces
-  each : Every CoordEntryFits (asWritten p .entries)
-
-written-fits : (p : Path) → PathOk p → PathFits p → WrittenFits p
+-- what is written fits where what is given does
+pub written-fits : (p : Path) → PathFits p → p .len ≤ pathPlaces → PathFits (asWritten p)
 unfolding asWritten elements
-written-fits p o f = record {
-  len = small1 (p .len) (omega (arith, o .short));
-  entries = rw (length-append (take (p .len) (p .entries)) (replicate (pathPlaces - p .len) zeroEntry), length-take-le (p .len) (p .entries) (omega (arith, o .short, f .places)), length-replicate (pathPlaces - p .len) zeroEntry) (omega (arith, o .short));
-  each = every-append (take (p .len) (p .entries)) (replicate (pathPlaces - p .len) zeroEntry) (every-take (p .len) (p .entries) (f .each)) (every-zero (pathPlaces - p .len));
-}
+written-fits p f h =
+    let n = f .places in
+    record {
+      places = rw (length-append, length-take-le (p .len) (p .entries) (omega arith), length-replicate) (omega arith);
+      each = every-append CoordEntryFits (take (p .len) (p .entries)) (replicate (pathPlaces - p .len) zeroEntry) (every-take CoordEntryFits (p .len) (p .entries) (f .each)) (zeros-fit (pathPlaces - p .len));
+    }
 
 zero8 : Small 8 0
 zero8 = small8 0 (omega arith)
 
 new-fits : (p : Path) (now ttl : ℕ) → PathOk p → PathFits p → Small 8 now → EntryFits (newEntry p now ttl)
-unfolding newEntry
-new-fits p now ttl o f n = let t = written-fits p o f in record { len = t .len; entries = t .entries; each = t .each; createdAt = n; lastUsed = n; expiresAt = sum-small now ttl; mtuMark = small1 0 (omega arith); mtu = omega arith; source = small1 1 (omega arith); verifiedUntil = zero8 }
+unfolding newEntry asWritten
+new-fits p now ttl o f n = let t = written-fits p f (o .short) in record { len = small1 (p .len) (omega (arith, o .short)); entries = t .places; each = t .each; createdAt = n; lastUsed = n; expiresAt = sum-small now ttl; mtuMark = small1 0 (omega arith); mtu = omega arith; source = small1 1 (omega arith); verifiedUntil = zero8 }
 
 update-fits : (p : Path) (now ttl : ℕ) (e : Entry) → PathOk p → PathFits p → Small 8 now → EntryFits e → EntryFits (update p now ttl e)
-unfolding update
-update-fits p now ttl e o f n h = let t = written-fits p o f in record { len = t .len; entries = t .entries; each = t .each; createdAt = h .createdAt; lastUsed = n; expiresAt = sum-small now ttl; mtuMark = h .mtuMark; mtu = h .mtu; source = small1 1 (omega arith); verifiedUntil = zero8 }
+unfolding update asWritten
+update-fits p now ttl e o f n h = let t = written-fits p f (o .short) in record { len = small1 (p .len) (omega (arith, o .short)); entries = t .places; each = t .each; createdAt = h .createdAt; lastUsed = n; expiresAt = sum-small now ttl; mtuMark = h .mtuMark; mtu = h .mtu; source = small1 1 (omega arith); verifiedUntil = zero8 }
 
 refresh-fits : (now ttl : ℕ) (e : Entry) → Small 8 now → EntryFits e → EntryFits (refresh now ttl e)
 unfolding refresh

@@ -1,13 +1,14 @@
 -- Any memory of bytes that holds a head: its view fits; and the memory of a state that fits is bytes.
 use mathlib.Core.Path.{_≡_, refl, sym, ap, _∙_, subst}
-use Prim.Native.Nat.{ℕ, zero, suc, _+_, _*_, _-_, _/_, _%_, _≤_, _<_, min}
+use Prim.Native.Nat.{ℕ, zero, suc, _+_, _*_, _-_, _/_, _≤_, _<_}
 use native.Mathlib.Omega.{arith}
 use mathlib.Core.List.{List, [], _∷_, _++_}
 use lib.ListN.{length, take, drop, length-drop}
-use lib.Seq.{length-take-le}
+use lib.Seq.{drop-drop, length-take-le}
 use Rattle.types.specs.declared.coord.CoordEntry.{CoordEntry}
 use Rattle.rules.specs.Cases.{Every}
 use Rattle.rules.specs.Records.{Entry, Row, State}
+use Rattle.rules.specs.Rows.{rowAt}
 use Rattle.rules.specs.Memory.{coordEntriesBytes, coordEntriesOf, coordEntryOf, cut, entryBytes, entryOf, heldRows, leBytes, leNumber, memory, pathOf, rowBytes, rowOf, rowsBytes, rowsOf, view, viewRows}
 use Rattle.rules.specs.Lent.{AddrFits, Bytes, CoordEntryFits, Small}
 use Rattle.rules.proofs.MemoryLaws.{bytes-append, bytes-cut, bytes-drop, bytes-take, held-fits, length-cut}
@@ -17,32 +18,32 @@ use Rattle.types.specs.Paths.{pathPlaces}
 
 -- ---- a number read from n bytes has n bytes
 
-number-small : (c : List ℕ) → Bytes c → Small (length c) (leNumber c)
+pub number-small : (c : List ℕ) → Bytes c → Small (length c) (leNumber c)
 unfolding leNumber
 number-small [] b = refl
 number-small (x ∷ xs) b = let h = b .0 in let d : (x + leNumber xs * 256) / 256 ≡ leNumber xs = omega arith in subst (Small (length xs)) (sym d) (number-small xs (b .1))
 
-cut-small : (k w : ℕ) (c : List ℕ) → k + w ≤ length c → Bytes c → Small w (leNumber (cut k w c))
+pub cut-small : (k w : ℕ) (c : List ℕ) → k + w ≤ length c → Bytes c → Small w (leNumber (cut k w c))
 cut-small k w c h b = subst (λ (n : ℕ). Small n (leNumber (cut k w c))) (length-cut k w c h) (number-small (cut k w c) (bytes-cut k w c b))
 
-address-fits : (k : ℕ) (c : List ℕ) → k + 16 ≤ length c → Bytes c → AddrFits (record { 0 = cut k 16 c })
+pub address-fits : (k : ℕ) (c : List ℕ) → k + 16 ≤ length c → Bytes c → AddrFits (record { 0 = cut k 16 c })
 address-fits k c h b = record { size = length-cut k 16 c h; bytes = bytes-cut k 16 c b }
 
-entry-of-fits : (c : List ℕ) → length c ≡ coordEntrySize → Bytes c → CoordEntryFits (coordEntryOf c)
+pub element-of-fits : (c : List ℕ) → length c ≡ coordEntrySize → Bytes c → CoordEntryFits (coordEntryOf c)
 unfolding coordEntryOf
-entry-of-fits c h b = record { address = address-fits 0 c (omega arith) b; sequence = cut-small 16 8 c (omega arith) b; timestamp = cut-small 24 8 c (omega arith) b }
+element-of-fits c h b = record { address = address-fits 0 c (omega arith) b; sequence = cut-small 16 8 c (omega arith) b; timestamp = cut-small 24 8 c (omega arith) b }
 
-entries-of-length : (n : ℕ) (l : List ℕ) → length (coordEntriesOf n l) ≡ n
+pub elements-of-length : (n : ℕ) (l : List ℕ) → length (coordEntriesOf n l) ≡ n
 unfolding coordEntriesOf
-entries-of-length zero l = refl
-entries-of-length (suc n) l = ap suc (entries-of-length n (drop coordEntrySize l))
+elements-of-length zero l = refl
+elements-of-length (suc n) l = ap suc (elements-of-length n (drop coordEntrySize l))
 
-entries-of-fit : (n : ℕ) (l : List ℕ) → n * coordEntrySize ≤ length l → Bytes l → Every CoordEntryFits (coordEntriesOf n l)
+elements-of-fit : (n : ℕ) (l : List ℕ) → n * coordEntrySize ≤ length l → Bytes l → Every CoordEntryFits (coordEntriesOf n l)
 unfolding coordEntriesOf
-entries-of-fit zero l h b = tt
-entries-of-fit (suc n) l h b =
+elements-of-fit zero l h b = tt
+elements-of-fit (suc n) l h b =
     let d : n * coordEntrySize ≤ length (drop coordEntrySize l) = rw length-drop (omega arith) in
-    (entry-of-fits (take coordEntrySize l) (length-take-le coordEntrySize l (omega arith)) (bytes-take coordEntrySize l b), entries-of-fit n (drop coordEntrySize l) d (bytes-drop coordEntrySize l b))
+    (element-of-fits (take coordEntrySize l) (length-take-le coordEntrySize l (omega arith)) (bytes-take coordEntrySize l b), elements-of-fit n (drop coordEntrySize l) d (bytes-drop coordEntrySize l b))
 
 entry-fits-of : (c : List ℕ) → length c ≡ entrySize → Bytes c → EntryFits (entryOf c)
 unfolding entryOf pathOf
@@ -50,8 +51,8 @@ entry-fits-of c h b =
     let d : pathPlaces * coordEntrySize ≤ length (drop 1 c) = rw length-drop (omega arith) in
     record {
       len = cut-small 0 1 c (omega arith) b;
-      entries = entries-of-length pathPlaces (drop 1 c);
-      each = entries-of-fit pathPlaces (drop 1 c) d (bytes-drop 1 c b);
+      entries = elements-of-length pathPlaces (drop 1 c);
+      each = elements-of-fit pathPlaces (drop 1 c) d (bytes-drop 1 c b);
       createdAt = cut-small createdAtOffset 8 c (omega arith) b;
       lastUsed = cut-small lastUsedOffset 8 c (omega arith) b;
       expiresAt = cut-small expiresAtOffset 8 c (omega arith) b;
@@ -84,6 +85,19 @@ pub rows-of-length : (n : ℕ) (l : List ℕ) → length (rowsOf n l) ≡ n
 unfolding rowsOf
 rows-of-length zero l = refl
 rows-of-length (suc n) l = ap suc (rows-of-length n (drop rowSize l))
+
+-- row i of n rows
+pub row-of-rows : (n i : ℕ) (l : List ℕ) → i < n → rowAt i (rowsOf n l) ≡ rowOf (cut (i * rowSize) rowSize l)
+unfolding rowsOf
+row-of-rows zero i l h = absurd (let z : ⊥ = omega arith in z)
+row-of-rows (suc n) zero l h = refl
+row-of-rows (suc n) (suc i) l h =
+    let e : suc i * rowSize ≡ rowSize + i * rowSize = omega arith in
+    row-of-rows n i (drop rowSize l) (omega arith) ∙ ap (λ (c : List ℕ). rowOf (take rowSize c)) (drop-drop (i * rowSize) rowSize l ∙ ap (λ (k : ℕ). drop k l) (sym e))
+
+pub view-length : (n : ℕ) (l : List ℕ) → length (viewRows n l .rows) ≡ n
+unfolding viewRows
+view-length n l = rows-of-length n (drop headSize l)
 
 -- ANY MEMORY'S VIEW FITS, where the head fits and counts the rows
 pub view-fits : (l : List ℕ) → headSize ≤ length l → Bytes l → view l .rowCount ≡ length (view l .rows) → Fits (length l) (view l)

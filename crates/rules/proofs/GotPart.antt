@@ -4,10 +4,10 @@ use Prim.Native.Nat.{ℕ, zero, suc, _+_, _*_, _-_, _≤_, _<_, min}
 use native.Mathlib.Omega.{arith}
 use mathlib.Core.List.{List, [], _∷_, _++_}
 use mathlib.Core.Option.{Option, none, some}
-use mathlib.Core.Bool.{Bool, true, false, cond}
+use mathlib.Core.Bool.{true, false, cond}
 use lib.ListN.{length, take, drop, length-drop}
 use borrow.Author.Tests.{le-ltb}
-use lib.Seq.{take-take, take-add, take-nil, drop-nil, drop-drop, length-take-le}
+use lib.Seq.{take-add, drop-drop, length-take-le}
 use Rattle.types.specs.declared.node_addr.NodeAddr.{NodeAddr}
 use Rattle.types.specs.declared.coord.Path.{Path}
 use Rattle.types.specs.Paths.{elements, pathPlaces}
@@ -18,38 +18,21 @@ use Rattle.rules.specs.Sound.{sound}
 use Rattle.rules.specs.Entries.{addTimes, expired, lastTime, refresh}
 use Rattle.rules.specs.Room.{takeOut}
 use Rattle.rules.specs.Lookups.{get, rewrite, touched, unexpiredRow, withEntry}
-use Rattle.rules.specs.Calls.{Answer, Call, Done, EntryRemoved, ExpiryGiven, Get, GetAndTouch, Hinted, KeyHeld, PathFound, Refused, RowsRemoved, StatsGiven, VerifiedDone, drawsStamps, pathGiven, verifiedWrite}
+use Rattle.rules.specs.Calls.{Answer, Done, EntryRemoved, ExpiryGiven, Get, GetAndTouch, Hinted, KeyHeld, PathFound, Refused, RowsRemoved, StatsGiven, VerifiedDone, drawsStamps, pathGiven, verifiedWrite}
 use Rattle.rules.specs.Refusals.{Asked, Step, firstGiven, gives, perform, performRequest, reason, reasons, refusal, serve, step}
-use Rattle.rules.specs.Memory.{capacity, coordEntriesBytes, coordEntriesOf, coordEntryOf, cut, entryOf, heldRows, pathOf, rowOf, rowsOf, view, viewRows}
+use Rattle.rules.specs.Memory.{capacity, coordEntriesBytes, coordEntriesOf, coordEntryOf, cut, entryOf, heldRows, pathOf, rowOf, view, viewRows}
 use Rattle.rules.specs.Lent.{Bytes, Typed, call, foundPart, gotPart, lent, pathPart}
 use Rattle.rules.proofs.Addresses.{contradiction, same-ne}
-use Rattle.rules.proofs.RowLists.{by-cond, by-maybe, cores, every-at, find-at, rising-unique}
+use Rattle.rules.proofs.RowLists.{by-cond, by-maybe, cores, every-at, find-at, rising-unique, row-changed}
 use Rattle.rules.proofs.SoundTest.{RowOk, Sound, sound-is}
-use Rattle.rules.proofs.MemoryLaws.{bytes-cut, bytes-drop, bytes-take, elem-memory, entries-cons, held-fits, length-cut, no-entries}
+use Rattle.rules.proofs.MemoryLaws.{bytes-cut, bytes-drop, bytes-take, cut-front, elem-memory, entries-cons, held-fits, length-cut, no-entries}
 use Rattle.rules.proofs.Others.{takeOut-gone}
 use Rattle.rules.proofs.Refused.{allowed}
 use Rattle.rules.proofs.SoundKept.{step-sound}
 use Rattle.rules.proofs.Sizes.{small8-less}
-use Rattle.rules.proofs.Foreign.{rows-of-length}
-use Rattle.rules.proofs.LentMemory.{capacity-same, head-fits, lent-request}
+use Rattle.rules.proofs.Foreign.{row-of-rows, rows-of-length}
+use Rattle.rules.proofs.LentMemory.{answer-is, capacity-same, head-fits, lent-request}
 use Rattle.rules.specs.Layout.{coordEntrySize, entryOffset, entrySize, headSize, placesInRow, rowSize}
-
--- ---- a part of a front is a part of the whole
-
-front-part : (k m n : ℕ) (l : List ℕ) → k + m ≤ n → take m (drop k (take n l)) ≡ take m (drop k l)
-front-part zero m n l h = take-take m n l (omega arith)
-front-part (suc k) m zero l h = absurd (let z : ⊥ = omega arith in z)
-front-part (suc k) m (suc n) [] h = refl
-front-part (suc k) m (suc n) (x ∷ xs) h = front-part k m n xs (omega arith)
-
--- row i of the first n rows
-row-at : (i n : ℕ) (l : List ℕ) → i < n → rowAt i (rowsOf n l) ≡ rowOf (cut (i * rowSize) rowSize l)
-unfolding rowsOf
-row-at i zero l h = absurd (let z : ⊥ = omega arith in z)
-row-at zero (suc n) l h = refl
-row-at (suc i) (suc n) l h =
-    let e : suc i * rowSize ≡ rowSize + i * rowSize = omega arith in
-    row-at i n (drop rowSize l) (omega arith) ∙ ap (λ (c : List ℕ). rowOf (take rowSize c)) (drop-drop (i * rowSize) rowSize l ∙ ap (λ (k : ℕ). drop k l) (sym e))
 
 -- the bytes of the first n of m elements
 entries-front : (n m : ℕ) (l : List ℕ) → n ≤ m → m * coordEntrySize ≤ length l → Bytes l → coordEntriesBytes (take n (coordEntriesOf m l)) ≡ take (n * coordEntrySize) l
@@ -75,7 +58,7 @@ path-in-row n c h g b =
     let k : length e ≡ entrySize = length-cut entryOffset entrySize c (omega arith) in
     let d : pathPlaces * coordEntrySize ≤ length (drop 1 e) = rw length-drop (omega arith) in
     entries-front n pathPlaces (drop 1 e) h d (bytes-drop 1 e (bytes-cut entryOffset entrySize c b))
-    ∙ front-part 1 (n * coordEntrySize) entrySize (drop 16 c) (omega arith)
+    ∙ cut-front 1 (n * coordEntrySize) entrySize (drop 16 c) (omega arith)
     ∙ ap (take (n * coordEntrySize)) (drop-drop 1 16 c)
 
 -- row i's path, in the memory
@@ -88,9 +71,9 @@ path-in-memory i n l h b j m =
     let c = cut (i * rowSize) rowSize (drop headSize l) in
     let g : i * rowSize + rowSize ≤ length (drop headSize l) = rw length-drop (omega arith) in
     let e : headSize + i * rowSize + placesInRow ≡ headSize + (i * rowSize + placesInRow) = omega arith in
-    ap (λ (x : Row). coordEntriesBytes (take n (x .entry .path .entries))) (row-at i r (drop headSize l) u)
+    ap (λ (x : Row). coordEntriesBytes (take n (x .entry .path .entries))) (row-of-rows r i (drop headSize l) u)
     ∙ path-in-row n c m (length-cut (i * rowSize) rowSize (drop headSize l) g) (bytes-cut (i * rowSize) rowSize (drop headSize l) (bytes-drop headSize l b))
-    ∙ front-part placesInRow (n * coordEntrySize) rowSize (drop (i * rowSize) (drop headSize l)) (omega arith)
+    ∙ cut-front placesInRow (n * coordEntrySize) rowSize (drop (i * rowSize) (drop headSize l)) (omega arith)
     ∙ ap (take (n * coordEntrySize)) (drop-drop placesInRow (i * rowSize) (drop headSize l) ∙ drop-drop (i * rowSize + placesInRow) headSize l ∙ ap (λ (k : ℕ). drop k l) (sym e))
 
 -- ---- the part is the answer
@@ -139,20 +122,10 @@ find-change k f i [] h = refl
 find-change k f zero (r ∷ rs) h = rw (h r)
 find-change k f (suc i) (r ∷ rs) h = rw (find-change k f i rs h)
 
-row-change : (f : Row → Row) (i : ℕ) (rs : List Row) → i < length rs → rowAt i (changeRow f i rs) ≡ f (rowAt i rs)
-unfolding changeRow
-row-change f i [] h = absurd (let z : ⊥ = omega arith in z)
-row-change f zero (r ∷ rs) h = refl
-row-change f (suc i) (r ∷ rs) h = row-change f i rs (omega arith)
-
 pub find-gone : (k : NodeAddr) (rs : List Row) → Every (λ y. y .key ≡ k → ⊥) (cores rs) → find k rs ≡ none
 unfolding find nextIndex
 find-gone k [] h = refl
 find-gone k (r ∷ rs) h = rw (same-ne k (r .key) (λ e. h .0 (sym e)), find-gone k rs (h .1))
-
-fresh-after : (now ttl : ℕ) (e : Entry) → now ≤ lastTime → expired now (refresh now ttl e) ≡ false
-unfolding expired refresh addTimes
-fresh-after now ttl e h = le-ltb (min (now + ttl) lastTime) now (omega arith)
 
 get-none : (k : NodeAddr) (now : ℕ) (s : State) → find k (s .rows) ≡ none → get k now s ≡ none
 unfolding get unexpiredRow
@@ -171,8 +144,8 @@ unfolding withEntry
 kept-key f r = refl
 
 entry-fresh : (now ttl : ℕ) (r : Row) → now ≤ lastTime → expired now (withEntry (refresh now ttl (r .entry)) r .entry) ≡ false
-unfolding withEntry
-entry-fresh now ttl r h = fresh-after now ttl (r .entry) h
+unfolding withEntry expired refresh addTimes
+entry-fresh now ttl r h = le-ltb (min (now + ttl) lastTime) now (omega arith)
 
 refreshed-path : (now ttl : ℕ) (r : Row) → withEntry (refresh now ttl (r .entry)) r .entry .path ≡ r .entry .path
 unfolding withEntry refresh
@@ -189,7 +162,7 @@ refreshed-row k now s i h e l =
     let f : Row → Row = λ r. withEntry (refresh now (s .defaultTtl) (r .entry)) r in
     let d = rewrite (refresh now (s .defaultTtl)) i s in
     let rs : d .rows ≡ changeRow f i (s .rows) = rewrite-rows (refresh now (s .defaultTtl)) i s in
-    let r : rowAt i (d .rows) ≡ f (rowAt i (s .rows)) = ap (λ (xs : List Row). rowAt i xs) rs ∙ row-change f i (s .rows) l in
+    let r : rowAt i (d .rows) ≡ f (rowAt i (s .rows)) = ap (λ (xs : List Row). rowAt i xs) rs ∙ row-changed f i (s .rows) l in
     record {
       held = ap (find k) rs ∙ find-change k f i (s .rows) (λ x. kept-key (refresh now (s .defaultTtl)) x) ∙ e;
       unexpired = ap (λ (x : Row). expired now (x .entry)) r ∙ entry-fresh now (s .defaultTtl) (rowAt i (s .rows)) h;
@@ -257,17 +230,13 @@ touch-get R k now s l = go (refusal R s (Asked (GetAndTouch k now))) refl
         ap (λ (x : State). step R x (Get k now) .answer) z ∙ get-answer R k now (touched k now s) q ∙ ap PathFound (get-touched R k now s (sound-is R s (a .sound)) l) ∙ sym (ap (λ (t : Step). t .answer) d ∙ done-answer (PathFound (get k now s)) (touched k now s))
     go (some n) e = touch-refused R k now s n e
 
-lent-answer : (l : List ℕ) (q : Call) → call l q .answer ≡ step (capacity l) (view l) q .answer
-unfolding lent
-lent-answer l q = refl
-
 -- what get_and_touch answers, get answers on the memory after it
 pub got-after-touch : (l : List ℕ) (k : NodeAddr) (now : ℕ) → Bytes l → Typed (GetAndTouch k now) → call (call l (GetAndTouch k now) .memory) (Get k now) .answer ≡ call l (GetAndTouch k now) .answer
 got-after-touch l k now b g =
     let m = call l (GetAndTouch k now) .memory in
     let c = lent-request l (Asked (GetAndTouch k now)) b g in
     let r : capacity m ≡ capacity l = capacity-same l m (c .size) in
-    lent-answer m (Get k now) ∙ ap (λ (s : State). step (capacity m) s (Get k now) .answer) (c .state) ∙ ap (λ (n : ℕ). step n (step (capacity l) (view l) (GetAndTouch k now) .state) (Get k now) .answer) r ∙ touch-get (capacity l) k now (view l) (omega (arith, small8-less now (g .1))) ∙ sym (lent-answer l (GetAndTouch k now))
+    answer-is m (Asked (Get k now)) ∙ ap (λ (s : State). step (capacity m) s (Get k now) .answer) (c .state) ∙ ap (λ (n : ℕ). step n (step (capacity l) (view l) (GetAndTouch k now) .state) (Get k now) .answer) r ∙ touch-get (capacity l) k now (view l) (omega (arith, small8-less now (g .1))) ∙ sym (answer-is l (Asked (GetAndTouch k now)))
 
 -- GET_AND_TOUCH HANDS BACK THE STORED PATH LIKEWISE, as a part of the memory after it
 pub touched-part : (l : List ℕ) (k : NodeAddr) (now : ℕ) → Bytes l → Typed (GetAndTouch k now) → gotPart k now (call l (GetAndTouch k now) .memory) ≡ answerBytes (call l (GetAndTouch k now) .answer)

@@ -1,9 +1,9 @@
 -- The incident: a second write in the same millisecond must not take the entry that the first verified.
 use Prim.Native.Nat.{ℕ, _+_, _≤_, min}
-use mathlib.Core.Path.{_≡_, refl, sym, _∙_, ap, subst}
+use mathlib.Core.Path.{_≡_, refl}
 use mathlib.Core.List.{List, [], _∷_}
-use mathlib.Core.Option.{Option, none, some}
-use mathlib.Core.Bool.{Bool, true, false, _&&_, _||_, not}
+use mathlib.Core.Option.{none, some}
+use mathlib.Core.Bool.{true, false, or-true}
 use lib.Dec.{leb}
 use native.Mathlib.Omega.{arith}
 use borrow.Author.Tests.{le-leb}
@@ -45,17 +45,13 @@ no-sweep (InvalidateOtherRoots a) r x h = absurd (h refl)
 no-sweep (Stats t) r x h = refl
 no-sweep NextExpiry r x h = refl
 
-or-right : (a : Bool) → a || true ≡ true
-or-right true = refl
-or-right false = refl
-
 within-window : (v : VerifiedWrite) → v .time ≤ lastTime → leb (v .time) (verifiedUntilOf v) ≡ true
 unfolding verifiedUntilOf addTimes
 within-window v h = le-leb (v .time) (min (v .time + verifiedTtl) lastTime) (omega arith)
 
 beside-spares : (ttl : ℕ) (v : VerifiedWrite) (q : Call) (m : Answer) → v .time ≤ lastTime → WriteBeside v q → mustSpare ttl v (record { call = q; answer = m }) ≡ true
 unfolding mustSpare notPast
-beside-spares ttl v q m l h = rw (h .other, h .time, within-window v l, no-sweep q (asWritten (v .path)) (expiryOf ttl v) (h .writes)) (or-right (wasRefused m))
+beside-spares ttl v q m l h = rw (h .other, h .time, within-window v l, no-sweep q (asWritten (v .path)) (expiryOf ttl v) (h .writes)) (or-true (wasRefused m))
 
 all-spare : (R ttl : ℕ) (v : VerifiedWrite) → v .time ≤ lastTime → (s : State) (qs : List Call) → Every (WriteBeside v) qs → Every (λ e. mustSpare ttl v e ≡ true) (run R s qs .events)
 unfolding run

@@ -1,10 +1,9 @@
 -- The rules on the lent memory: every request on any memory of bytes, lists of calls, and the third demand of the bytes.
 -- The hypotheses are only the widths of the arguments' types: bytes below 256, addresses of 16 of them, 32 places, numbers of 64 bits, an MTU of 16.
-use mathlib.Core.Path.{_≡_, refl, sym, ap, _∙_, subst}
-use Prim.Native.Nat.{ℕ, zero, suc, _+_, _*_, _-_, _/_, _≤_, _<_, min, max}
+use mathlib.Core.Path.{_≡_, refl, _∙_, subst}
+use Prim.Native.Nat.{ℕ, _+_, _*_, _-_, _≤_}
 use native.Mathlib.Omega.{arith}
-use mathlib.Core.List.{List, [], _∷_, _++_}
-use mathlib.Core.Option.{Option, none, some}
+use mathlib.Core.List.{List, [], _∷_}
 use mathlib.Core.Bool.{Bool, true, false, cond, _||_}
 use lib.Dec.{ltb}
 use lib.ListN.{length, drop, length-drop}
@@ -156,9 +155,9 @@ pub record OnBytesRun (l : List ℕ) (qs : List Call) : Type 0 where
   pub events : calls l qs .events ≡ run (capacity l) (view l) qs .events
   pub state : view (calls l qs .memory) ≡ run (capacity l) (view l) qs .state
 
-answer-is : (l : List ℕ) (q : Call) → call l q .answer ≡ step (capacity l) (view l) q .answer
+pub answer-is : (l : List ℕ) (x : Request) → lent l x .answer ≡ serve (capacity l) (view l) x .answer
 unfolding lent
-answer-is l q = refl
+answer-is l x = refl
 
 -- LISTS OF CALLS RUN ON MEMORY AS THEY RUN ON STATES, from any memory of bytes
 pub calls-run : (l : List ℕ) (qs : List Call) → Bytes l → Every Typed qs → OnBytesRun l qs
@@ -172,7 +171,7 @@ calls-run l (q ∷ qs) b g =
     let r : capacity m ≡ R = capacity-same l m (c .size) in
     let e : calls m qs .events ≡ run R (step R (view l) q .state) qs .events = subst (λ (n : ℕ). calls m qs .events ≡ run n (step R (view l) q .state) qs .events) r (subst (λ (s : State). calls m qs .events ≡ run (capacity m) s qs .events) (c .state) (k .events)) in
     let s : view (calls m qs .memory) ≡ run R (step R (view l) q .state) qs .state = subst (λ (n : ℕ). view (calls m qs .memory) ≡ run n (step R (view l) q .state) qs .state) r (subst (λ (s : State). view (calls m qs .memory) ≡ run (capacity m) s qs .state) (c .state) (k .state)) in
-    record { bytes = k .bytes; size = k .size ∙ c .size; events = cc (answer-is l q, e); state = s }
+    record { bytes = k .bytes; size = k .size ∙ c .size; events = cc (answer-is l (Asked q), e); state = s }
 
 -- ---- from a done fresh
 

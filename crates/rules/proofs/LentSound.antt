@@ -3,7 +3,7 @@ use mathlib.Core.Path.{_≡_, refl, sym, _∙_, ap}
 use Prim.Native.Nat.{ℕ}
 use mathlib.Core.List.{List}
 use mathlib.Core.Option.{none}
-use mathlib.Core.Bool.{Bool, true, false, _||_}
+use mathlib.Core.Bool.{Bool, true, false, _||_, or-false, or-true}
 use lib.Dec.{eqb}
 use Rattle.types.specs.Values.{says, refuses}
 use Rattle.rules.specs.Sound.{sound}
@@ -50,14 +50,6 @@ call-same l q b g false h = rw (unsound-one l q (sym h) .memory) h
 fresh-answer : (l : List ℕ) (m ttl : ℕ) → badSize (capacity l) m ≡ false → lent l (Fresh m ttl) .answer ≡ Done
 unfolding lent serve performRequest gives
 fresh-answer l m ttl h = let e : refusal (capacity l) (view l) (Fresh m ttl) ≡ none = fresh-refusal (capacity l) m ttl (view l) ∙ rw h in rw e
-
-or-false : (f : Bool) → f || false ≡ f
-or-false true = refl
-or-false false = refl
-
-or-true : (f : Bool) → f || true ≡ true
-or-true true = refl
-or-true false = refl
 
 pub fresh-sound : (l : List ℕ) (m ttl : ℕ) → Bytes l → Small 8 m → Small 8 ttl → (f : Bool) → f ≡ sound (capacity l) (view l) → (n : ℕ) → n ≡ refusalOf (lent l (Fresh m ttl) .answer)
     → f || eqb n 0 ≡ sound (capacity (lent l (Fresh m ttl) .memory)) (view (lent l (Fresh m ttl) .memory))

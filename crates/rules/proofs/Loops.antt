@@ -1,20 +1,20 @@
 -- The rules' walks as a loop meets them, without fuel; the lowest stamp and the victims' leaving by index, from the last row down.
-use Prim.Native.Nat.{ℕ, zero, suc, _+_, _-_, _*_, _<_, _≤_, min}
-use mathlib.Core.Path.{_≡_, refl, sym, _∙_, ap, subst}
+use Prim.Native.Nat.{ℕ, zero, suc, _+_, _-_, _<_, _≤_}
+use mathlib.Core.Path.{_≡_, refl, sym, _∙_, ap}
 use mathlib.Core.List.{List, [], _∷_, _++_, append-assoc, append-nil}
 use mathlib.Core.Option.{Option, none, some}
-use mathlib.Core.Bool.{Bool, true, false, cond, _&&_, _||_, not}
-use lib.Dec.{ltb, leb, eqb}
-use lib.ListN.{length, getD, take, drop, drop-of-length-le}
-use lib.Seq.{drop-cons, take-suc, take-all, getD-drop}
+use mathlib.Core.Bool.{Bool, true, false, cond, not}
+use lib.Dec.{ltb}
+use lib.ListN.{length, take, drop, drop-of-length-le}
+use lib.Seq.{drop-at, drop-cons, getD-drop, length-take-le, take-all, take-at, take-suc}
 use native.Mathlib.Omega.{arith}
 use Rattle.rules.specs.Cases.{maybe}
 use Rattle.rules.specs.Records.{Row, State, aside, byUse, parked}
 use Rattle.rules.specs.Rows.{atPlace, blankRow, keepRows, lowerOf, lowestStamp, mainCount, nextIndex, rowAt, stampBefore, withoutRow}
 use Rattle.rules.specs.Entries.{verified}
 use Rattle.rules.specs.Room.{Chosen, Sought, Walk, chooseVictims, hasRoom, mainVisits, nextVictim, park, restamp, returnLapsed, seek, setAside, sought, stale, takeUp, untouched, visitsLeft}
-use Rattle.rules.proofs.RowLists.{lowest-at, total-some}
-use Rattle.rules.proofs.Walks.{Led, main-of, next-led, next-park, next-restamp, turns-lapsed, turns-last, turns-stale}
+use Rattle.rules.proofs.RowLists.{keep-append, length-without, lowest-at, total-some, without-eq}
+use Rattle.rules.proofs.Walks.{Led, main-of, next-led, next-park, next-restamp, stays, turns-lapsed, turns-last, turns-stale}
 
 -- ---- parked rows return
 
@@ -132,37 +132,11 @@ unfoldable pub clearing : ℕ → List Row → List Row
 clearing zero rs = rs
 clearing (suc i) rs = clearing i (cond (atPlace aside (rowAt i rs)) (withoutRow i rs) rs)
 
-abbrev stays : Row → Bool
-stays r = not (atPlace aside r)
+take-without : (i : ℕ) (rs : List Row) → i < length rs → take i (withoutRow i rs) ≡ take i rs
+take-without i rs h = ap (take i) (without-eq i rs) ∙ take-at (take i rs) (drop (suc i) rs) i (length-take-le i rs (omega arith))
 
-keep-end : (rs : List Row) (r : Row) → keepRows stays (rs ++ (r ∷ [])) ≡ keepRows stays rs ++ cond (stays r) (r ∷ []) []
-unfolding keepRows
-keep-end [] r = refl
-keep-end (x ∷ xs) r = go (stays x) (keep-end xs r)
-  where
-    go : (b : Bool) → keepRows stays (xs ++ (r ∷ [])) ≡ keepRows stays xs ++ cond (stays r) (r ∷ []) [] → cond b (x ∷ keepRows stays (xs ++ (r ∷ []))) (keepRows stays (xs ++ (r ∷ []))) ≡ cond b (x ∷ keepRows stays xs) (keepRows stays xs) ++ cond (stays r) (r ∷ []) []
-    go true h = ap (λ (u : List Row). x ∷ u) h
-    go false h = h
-
-take-without : (i : ℕ) (rs : List Row) → take i (withoutRow i rs) ≡ take i rs
-unfolding withoutRow
-take-without zero [] = refl
-take-without (suc i) [] = refl
-take-without zero (r ∷ rs) = refl
-take-without (suc i) (r ∷ rs) = ap (λ (u : List Row). r ∷ u) (take-without i rs)
-
-drop-without : (i : ℕ) (rs : List Row) → drop i (withoutRow i rs) ≡ drop (suc i) rs
-unfolding withoutRow
-drop-without zero [] = refl
-drop-without (suc i) [] = refl
-drop-without zero (r ∷ rs) = refl
-drop-without (suc i) (r ∷ rs) = drop-without i rs
-
-length-without : (i : ℕ) (rs : List Row) → i < length rs → i ≤ length (withoutRow i rs)
-unfolding withoutRow
-length-without i [] h = absurd (let z : ⊥ = omega arith in z)
-length-without zero (r ∷ rs) h = omega arith
-length-without (suc i) (r ∷ rs) h = omega (arith, length-without i rs (omega arith))
+drop-without : (i : ℕ) (rs : List Row) → i < length rs → drop i (withoutRow i rs) ≡ drop (suc i) rs
+drop-without i rs h = ap (drop i) (without-eq i rs) ∙ drop-at (take i rs) (drop (suc i) rs) i (length-take-le i rs (omega arith))
 
 clear-part : (i : ℕ) (rs : List Row) → i ≤ length rs → clearing i rs ≡ keepRows stays (take i rs) ++ drop i rs
 unfolding clearing keepRows
@@ -170,8 +144,8 @@ clear-part zero rs h = refl
 clear-part (suc i) rs h = go (atPlace aside (rowAt i rs)) refl (clear-part i)
   where
     go : (b : Bool) → atPlace aside (rowAt i rs) ≡ b → ((rs : List Row) → i ≤ length rs → clearing i rs ≡ keepRows stays (take i rs) ++ drop i rs) → clearing i (cond b (withoutRow i rs) rs) ≡ keepRows stays (take (suc i) rs) ++ drop (suc i) rs
-    go true e ih = ih (withoutRow i rs) (length-without i rs h) ∙ rw (take-without i rs, drop-without i rs, take-suc rs i blankRow h, keep-end (take i rs) (rowAt i rs), e) (ap (λ (u : List Row). u ++ drop (suc i) rs) (sym (append-nil (keepRows stays (take i rs)))))
-    go false e ih = ih rs (omega arith) ∙ rw (drop-cons rs i blankRow h, take-suc rs i blankRow h, keep-end (take i rs) (rowAt i rs), e) (sym (append-assoc (keepRows stays (take i rs)) (rowAt i rs ∷ []) (drop (suc i) rs)))
+    go true e ih = ih (withoutRow i rs) (omega (arith, length-without i rs h)) ∙ rw (take-without i rs h, drop-without i rs h, take-suc rs i blankRow h, keep-append stays (take i rs) (rowAt i rs ∷ []), e) (ap (λ (u : List Row). u ++ drop (suc i) rs) (sym (append-nil (keepRows stays (take i rs)))))
+    go false e ih = ih rs (omega arith) ∙ rw (drop-cons rs i blankRow h, take-suc rs i blankRow h, keep-append stays (take i rs) (rowAt i rs ∷ []), e) (sym (append-assoc (keepRows stays (take i rs)) (rowAt i rs ∷ []) (drop (suc i) rs)))
 
 pub clearing-keeps : (rs : List Row) → clearing (length rs) rs ≡ keepRows (λ r. not (atPlace aside r)) rs
 clearing-keeps rs = clear-part (length rs) rs (omega arith) ∙ rw (take-all (length rs) rs (omega arith), drop-of-length-le rs (let z : length rs ≤ length rs = omega arith in z)) (append-nil (keepRows stays rs))

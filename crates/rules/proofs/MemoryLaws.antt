@@ -1,13 +1,14 @@
 -- The memory is the memory of its state: an equation of states is an equation of the memory.
-use mathlib.Core.Path.{_≡_, refl, sym, ap, _∙_, subst}
-use Prim.Native.Nat.{ℕ, zero, suc, _+_, _*_, _-_, _/_, _%_, _≤_, _<_, min}
+use mathlib.Core.Path.{_≡_, refl, sym, ap, _∙_}
+use Prim.Native.Nat.{ℕ, zero, suc, _+_, _*_, _-_, _/_, _%_, _≤_, _<_}
 use native.Mathlib.Omega.{arith}
 use mathlib.Core.List.{List, [], _∷_, _++_, append-assoc}
 use lib.ListN.{length, take, drop, getD, length-drop, take-append-drop}
-use lib.Seq.{length-take-le, take-all, drop-drop}
+use lib.Seq.{length-take-le, take-all, take-take, drop-drop}
 use Rattle.types.specs.declared.coord.CoordEntry.{CoordEntry}
 use Rattle.rules.specs.Memory.{addrBytes, capacity, coordEntriesBytes, coordEntriesOf, coordEntryOf, cut, entryBytes, entryOf, heldRows, leBytes, leNumber, memory, pathOf, rowBytes, rowOf, rowsBytes, rowsOf, view, viewRows}
 use Rattle.rules.specs.Lent.{Bytes}
+use Rattle.rules.proofs.RowLists.{every-append, every-drop, every-take}
 use Rattle.rules.specs.Layout.{coordEntrySize, createdAtOffset, entryOffset, entrySize, expiresAtOffset, headSize, lastUsedOffset, mtuMarkOffset, mtuOffset, placeOffset, placesSize, rowCountOffset, rowSize, sourceOffset, stampFirstOffset, stampSeqOffset, verifiedUntilOffset, weightOffset}
 use Rattle.types.specs.Paths.{pathPlaces}
 
@@ -16,24 +17,26 @@ all-bytes [] h = tt
 all-bytes (x ∷ xs) h = (h 0, all-bytes xs (λ i. h (suc i)))
 
 pub bytes-drop : (k : ℕ) (l : List ℕ) → Bytes l → Bytes (drop k l)
-bytes-drop zero l b = b
-bytes-drop (suc k) [] b = tt
-bytes-drop (suc k) (x ∷ xs) b = bytes-drop k xs (b .1)
+bytes-drop = every-drop (λ b. b < 256)
 
 pub bytes-take : (k : ℕ) (l : List ℕ) → Bytes l → Bytes (take k l)
-bytes-take zero l b = tt
-bytes-take (suc k) [] b = tt
-bytes-take (suc k) (x ∷ xs) b = (b .0, bytes-take k xs (b .1))
+bytes-take = every-take (λ b. b < 256)
 
 pub bytes-append : (a b : List ℕ) → Bytes a → Bytes b → Bytes (a ++ b)
-bytes-append [] b h g = g
-bytes-append (x ∷ xs) b h g = (h .0, bytes-append xs b (h .1) g)
+bytes-append = every-append (λ b. b < 256)
 
 pub bytes-cut : (k w : ℕ) (l : List ℕ) → Bytes l → Bytes (cut k w l)
 bytes-cut k w l b = bytes-take w (drop k l) (bytes-drop k l b)
 
 pub length-cut : (k w : ℕ) (l : List ℕ) → k + w ≤ length l → length (cut k w l) ≡ w
 length-cut k w l h = length-take-le w (drop k l) (rw length-drop (omega arith))
+
+-- a part of a front is a part of the whole
+pub cut-front : (k m n : ℕ) (l : List ℕ) → k + m ≤ n → cut k m (take n l) ≡ cut k m l
+cut-front zero m n l h = take-take m n l (omega arith)
+cut-front (suc k) m zero l h = absurd (let z : ⊥ = omega arith in z)
+cut-front (suc k) m (suc n) [] h = refl
+cut-front (suc k) m (suc n) (x ∷ xs) h = cut-front k m n xs (omega arith)
 
 le-num : (c : List ℕ) → Bytes c → leBytes (length c) (leNumber c) ≡ c
 unfolding leBytes leNumber

@@ -1,12 +1,12 @@
 -- The moves on a sound state: rows out, in, and changed in place; room in main and in probation.
-use Prim.Native.Nat.{ℕ, zero, suc, _+_, _-_, _*_, _<_, _≤_, min, max}
+use Prim.Native.Nat.{ℕ, zero, suc, _+_, _-_, _*_, _<_, _≤_}
 use mathlib.Core.Path.{_≡_, refl, sym, _∙_, ap, subst}
 use mathlib.Core.List.{List, [], _∷_}
-use mathlib.Core.Option.{Option, none, some}
-use mathlib.Core.Bool.{Bool, true, false, cond, _&&_, _||_, not}
-use lib.Dec.{ltb, leb, eqb}
+use mathlib.Core.Option.{some}
+use mathlib.Core.Bool.{Bool, true, false, cond}
+use lib.Dec.{ltb, eqb}
 use lib.ListN.{length}
-use borrow.Author.Tests.{eq-eqb, ne-eqb, eqb-true, eqb-false, ltb-true, ltb-false, leb-true, lt-ltb, le-ltb}
+use borrow.Author.Tests.{eq-eqb, ne-eqb, eqb-true, ltb-true, ltb-false}
 use native.Mathlib.Omega.{arith}
 use Rattle.types.specs.declared.node_addr.NodeAddr.{NodeAddr}
 use Rattle.types.specs.Paths.{pathWeight, pathPlaces}
@@ -158,7 +158,7 @@ pub record ProbationEvicted (R : ℕ) (s : State) (w : Walk) : Type 1 where
   pub done : w .examined + total probationVisits (w .state .rows) ≡ total probationVisits (s .rows)
   pub stamps : w .state .seq ≤ s .seq + w .examined
 
-refiled-core : (q : ℕ) (r : Row) → atPlace probation r ≡ true → core (refiled q (r .entry) (r .weight) r) ≡ core r
+pub refiled-core : (q : ℕ) (r : Row) → atPlace probation r ≡ true → core (refiled q (r .entry) (r .weight) r) ≡ core r
 unfolding refiled inMain atPlace
 refiled-core q r p = rw (eqb-true (r .place) 2 p)
 

@@ -1,10 +1,10 @@
 -- The frame of every public call: refused, it leaves the memory; done, the memory that shows the rules' state is the rules' memory.
 use mathlib.Core.Path.{_≡_, refl, sym, ap, _∙_, subst}
-use Prim.Native.Nat.{ℕ, zero, suc, _+_, _*_, _-_, _/_, _≤_, _<_, min}
+use Prim.Native.Nat.{ℕ, _+_, _*_, _-_, _≤_, min}
 use native.Mathlib.Omega.{arith}
-use mathlib.Core.List.{List, [], _∷_}
-use mathlib.Core.Option.{Option, none, some}
-use mathlib.Core.Bool.{Bool, true, false, cond}
+use mathlib.Core.List.{List}
+use mathlib.Core.Option.{none, some}
+use mathlib.Core.Bool.{true, false}
 use lib.ListN.{length, drop}
 use lib.Seq.{drop-drop}
 use Rattle.rules.specs.Cases.{maybe}
@@ -20,7 +20,7 @@ use Rattle.rules.proofs.MemoryLaws.{held-fits, view-memory}
 use Rattle.rules.proofs.Refused.{allowed, done-perform, fresh-refusal, refusal-number, refused-one}
 use Rattle.rules.proofs.SoundKept.{fresh-sound, perform-keeps}
 use Rattle.rules.proofs.Sizes.{few-rows}
-use Rattle.rules.proofs.Foreign.{rows-of-length}
+use Rattle.rules.proofs.Foreign.{rows-of-length, view-length}
 use Rattle.rules.proofs.LentMemory.{capacity-same, head-fits, tailOf}
 use Rattle.rules.specs.Layout.{headSize, rowCountOffset, rowSize}
 
@@ -131,18 +131,14 @@ view-is : (l : List ℕ) → view l ≡ viewRows (heldRows l) l
 unfolding view
 view-is l = refl
 
-shown-length : (n : ℕ) (l : List ℕ) → length (viewRows n l .rows) ≡ n
-unfolding viewRows
-shown-length n l = rows-of-length n (drop headSize l)
-
 pub sound-memory : (l : List ℕ) (n : ℕ) → sound (capacity l) (view l) ≡ true → n ≡ viewRows 0 l .rowCount → SoundMemory l n
 sound-memory l n h e =
     let s = sound-is (capacity l) (view l) h in
     let k : n ≡ heldRows l = e ∙ held-is l (s .counted) in
     let v : viewRows n l ≡ view l = ap (λ (x : ℕ). viewRows x l) k ∙ sym (view-is l) in
-    let f : heldRows l ≤ capacity l = subst (λ (x : ℕ). x ≤ capacity l) (ap (λ (x : State). length (x .rows)) (view-is l) ∙ shown-length (heldRows l) l) (few-rows (capacity l) (view l) s) in
+    let f : heldRows l ≤ capacity l = subst (λ (x : ℕ). x ≤ capacity l) (ap (λ (x : State). length (x .rows)) (view-is l) ∙ view-length (heldRows l) l) (few-rows (capacity l) (view l) s) in
     let g = held-fits l (head-fits l (view l .maxEntries) (s .space)) in
-    record { long = rw k g; same = v; few = omega (arith, s .small); rows = shown-length n l; sound = subst (Sound (capacity l)) (sym v) s }
+    record { long = rw k g; same = v; few = omega (arith, s .small); rows = view-length n l; sound = subst (Sound (capacity l)) (sym v) s }
 
 -- number 1, as the code meets it
 pub unsound-one : (l : List ℕ) (q : Call) → sound (capacity l) (view l) ≡ false → RefusedCall l q 1

@@ -1,10 +1,11 @@
 -- Refusals: each number is given exactly if document 01 says so, and a refusal leaves the state.
-use Prim.Native.Nat.{ℕ, zero, suc, _+_, _<_, _≤_}
-use mathlib.Core.Path.{_≡_, refl, sym, _∙_, ap, subst}
-use mathlib.Core.List.{List, [], _∷_}
+use Prim.Native.Nat.{ℕ, _≤_}
+use mathlib.Core.Path.{_≡_, refl, sym, _∙_, ap}
+use mathlib.Core.List.{[], _∷_}
 use mathlib.Core.Option.{Option, none, some}
-use mathlib.Core.Bool.{Bool, true, false, cond, _&&_, _||_, not}
+use mathlib.Core.Bool.{Bool, true, false, cond, _&&_, not}
 use native.Mathlib.Omega.{arith}
+use borrow.Author.Tests.{not-false, not-true}
 use Rattle.rules.specs.Cases.{maybe}
 use Rattle.rules.specs.Records.{State}
 use Rattle.rules.specs.Sound.{sound}
@@ -21,14 +22,6 @@ pub record Allowed (R : ℕ) (s : State) (q : Call) : Type 0 where
   pub path : maybe (pathGiven q) false badPath ≡ false
   pub stamps : drawsStamps q && seqSpent s ≡ false
   pub place : maybe (verifiedWrite q) false (noPlaceFor R s) ≡ false
-
-not-true-false : (b : Bool) → not b ≡ false → b ≡ true
-not-true-false true h = refl
-not-true-false false h = sym h
-
-not-false-true : (b : Bool) → not b ≡ true → b ≡ false
-not-false-true true h = sym h
-not-false-true false h = refl
 
 -- the first of four reasons: its number, with those before it not given
 record First (a b c d : Bool) (o : Option ℕ) : Type 0 where
@@ -99,7 +92,7 @@ unfolding refusal reasons
 refusal-first R s q = first-of (not (sound R s)) (maybe (pathGiven q) false badPath) (drawsStamps q && seqSpent s) (maybe (verifiedWrite q) false (noPlaceFor R s))
 
 pub allowed : (R : ℕ) (s : State) (q : Call) → refusal R s (Asked q) ≡ none → Allowed R s q
-allowed R s q e = let f = refusal-first R s q .none-given e in record { sound = not-true-false (sound R s) (f .0); path = f .1; stamps = f .2; place = f .3 }
+allowed R s q e = let f = refusal-first R s q .none-given e in record { sound = not-false (sound R s) (f .0); path = f .1; stamps = f .2; place = f .3 }
 
 -- ---- a request is refused, or done
 
@@ -196,10 +189,10 @@ given-exactly R s q =
     let by = refused-by R s (Asked q) in
     let is = gives-number R s (Asked q) in
     record {
-      one = (λ e. not-false-true (sound R s) (f .one .1 (by 1 e)), λ e. is 1 (f .one .0 (rw e)));
-      two = (λ e. let g = f .two .1 (by 2 e) in (not-true-false (sound R s) (g .0), g .1), λ g. is 2 (f .two .0 (ap not (g .0)) (g .1)));
-      three = (λ e. let g = f .three .1 (by 3 e) in (not-true-false (sound R s) (g .0), g .1, g .2), λ g. is 3 (f .three .0 (ap not (g .0)) (g .1) (g .2)));
-      four = (λ e. let g = f .four .1 (by 4 e) in (not-true-false (sound R s) (g .0), g .1, g .2, g .3), λ g. is 4 (f .four .0 (ap not (g .0)) (g .1) (g .2) (g .3)));
+      one = (λ e. not-true (sound R s) (f .one .1 (by 1 e)), λ e. is 1 (f .one .0 (rw e)));
+      two = (λ e. let g = f .two .1 (by 2 e) in (not-false (sound R s) (g .0), g .1), λ g. is 2 (f .two .0 (ap not (g .0)) (g .1)));
+      three = (λ e. let g = f .three .1 (by 3 e) in (not-false (sound R s) (g .0), g .1, g .2), λ g. is 3 (f .three .0 (ap not (g .0)) (g .1) (g .2)));
+      four = (λ e. let g = f .four .1 (by 4 e) in (not-false (sound R s) (g .0), g .1, g .2, g .3), λ g. is 4 (f .four .0 (ap not (g .0)) (g .1) (g .2) (g .3)));
       no-other = λ n e. f .number n (by n e);
     }
 

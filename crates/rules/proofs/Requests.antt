@@ -19,7 +19,7 @@ use Rattle.rules.proofs.Addresses.{contradiction}
 use Rattle.rules.proofs.Refused.{by-step}
 use Rattle.rules.proofs.ThirdDemand.{kept-after}
 use Rattle.rules.proofs.Incident.{WriteBeside, second-write-spares-the-first}
-use Rattle.rules.proofs.LentMemory.{calls-run, capacity-same, lent-request}
+use Rattle.rules.proofs.LentMemory.{answer-is, calls-run, capacity-same, lent-request}
 
 -- ---- lists of requests
 
@@ -28,10 +28,6 @@ pub record OnBytesServing (l : List ℕ) (xs : List Request) : Type 0 where
   pub size : length (requests l xs .memory) ≡ length l
   pub served : requests l xs .served ≡ serveAll (capacity l) (view l) xs .served
   pub state : view (requests l xs .memory) ≡ serveAll (capacity l) (view l) xs .state
-
-answer-is : (l : List ℕ) (x : Request) → lent l x .answer ≡ serve (capacity l) (view l) x .answer
-unfolding lent
-answer-is l x = refl
 
 -- LISTS OF REQUESTS RUN ON MEMORY AS THEY RUN ON STATES, fresh at any place among them, from any memory of bytes
 pub requests-run : (l : List ℕ) (xs : List Request) → Bytes l → Every TypedRequest xs → OnBytesServing l xs

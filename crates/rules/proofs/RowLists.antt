@@ -1,12 +1,12 @@
 -- Cases on tests and options; lists of rows by index, and seen without place and stamp.
 use Prim.Native.Nat.{ℕ, zero, suc, _+_, _*_, _-_, _<_, _≤_}
 use mathlib.Core.Path.{_≡_, refl, sym, _∙_, ap, subst}
-use mathlib.Core.List.{List, [], _∷_, map}
+use mathlib.Core.List.{List, [], _∷_, _++_, map}
 use mathlib.Core.Option.{Option, none, some}
-use mathlib.Core.Bool.{Bool, true, false, cond, _&&_, _||_, not}
-use lib.Dec.{ltb, leb, eqb}
-use lib.ListN.{length}
-use borrow.Author.Tests.{eq-eqb, ne-eqb, ltb-true, ltb-false, eqb-true, eqb-false}
+use mathlib.Core.Bool.{Bool, true, false, cond, _&&_, _||_}
+use lib.Dec.{ltb, eqb}
+use lib.ListN.{length, take, drop, replicate}
+use borrow.Author.Tests.{ltb-true, ltb-false, eqb-true}
 use native.Mathlib.Omega.{arith}
 use Rattle.types.specs.declared.node_addr.NodeAddr.{NodeAddr}
 use Rattle.types.specs.Addresses.{addrBefore, sameAddr}
@@ -22,6 +22,10 @@ by-cond P false f g = g refl
 pub by-maybe {ℓ κ μ} : {A : Type ℓ} {B : Type κ} (P : B → Type μ) (o : Option A) {d : B} {f : A → B} → (o ≡ none → P d) → ((a : A) → o ≡ some a → P (f a)) → P (maybe o d f)
 by-maybe P none f g = f refl
 by-maybe P (some a) f g = g a refl
+
+pub none-unless {ℓ} : {A : Type ℓ} (o : Option A) → ((a : A) → o ≡ some a → ⊥) → o ≡ none
+none-unless none f = refl
+none-unless (some a) f = absurd (f a refl)
 
 -- a first match: at the head, or further on
 pub cond-some {ℓ κ} : {A : Type ℓ} {C : Type κ} (b : Bool) {a x : A} {o : Option A} → cond b (some a) o ≡ some x → (b ≡ true → a ≡ x → C) → (b ≡ false → o ≡ some x → C) → C
@@ -82,6 +86,24 @@ pub every-all {ℓ} : {A : Type ℓ} {P : A → Type 0} → ((x : A) → P x) �
 every-all f [] = tt
 every-all f (x ∷ xs) = (f x, every-all f xs)
 
+pub every-take {ℓ} : {A : Type ℓ} (P : A → Type 0) (n : ℕ) (xs : List A) → Every P xs → Every P (take n xs)
+every-take P zero xs h = tt
+every-take P (suc n) [] h = tt
+every-take P (suc n) (x ∷ xs) h = (h .0, every-take P n xs (h .1))
+
+pub every-drop {ℓ} : {A : Type ℓ} (P : A → Type 0) (n : ℕ) (xs : List A) → Every P xs → Every P (drop n xs)
+every-drop P zero xs h = h
+every-drop P (suc n) [] h = tt
+every-drop P (suc n) (x ∷ xs) h = every-drop P n xs (h .1)
+
+pub every-append {ℓ} : {A : Type ℓ} (P : A → Type 0) (xs ys : List A) → Every P xs → Every P ys → Every P (xs ++ ys)
+every-append P [] ys h g = g
+every-append P (x ∷ xs) ys h g = (h .0, every-append P xs ys (h .1) g)
+
+pub every-copy {ℓ} : {A : Type ℓ} (P : A → Type 0) (n : ℕ) {x : A} → P x → Every P (replicate n x)
+every-copy P zero p = tt
+every-copy P (suc n) p = (p, every-copy P n p)
+
 pub to-cores : (P : Core → Type 0) (rs : List Row) → Every (λ r. P (core r)) rs → Every P (cores rs)
 to-cores P [] h = tt
 to-cores P (r ∷ rs) h = (h .0, to-cores P rs (h .1))
@@ -95,12 +117,6 @@ every-at P i [] l h = absurd (let z : ⊥ = omega arith in z)
 every-at P zero (r ∷ rs) l h = h .0
 every-at P (suc i) (r ∷ rs) l h = every-at P i rs (omega arith) (h .1)
 
-pub every-change : (P : Row → Type 0) (f : Row → Row) (i : ℕ) (rs : List Row) → (P (rowAt i rs) → P (f (rowAt i rs))) → Every P rs → Every P (changeRow f i rs)
-unfolding changeRow
-every-change P f i [] g h = tt
-every-change P f zero (r ∷ rs) g h = (g (h .0), h .1)
-every-change P f (suc i) (r ∷ rs) g h = (h .0, every-change P f i rs g (h .1))
-
 -- another property: each row's, and the changed one's
 pub every-turned : (P Q : Row → Type 0) (f : Row → Row) (i : ℕ) (rs : List Row) → ((r : Row) → P r → Q r) → (P (rowAt i rs) → Q (f (rowAt i rs))) → Every P rs → Every Q (changeRow f i rs)
 unfolding changeRow
@@ -108,22 +124,23 @@ every-turned P Q f i [] k g h = tt
 every-turned P Q f zero (r ∷ rs) k g h = (g (h .0), every-map k rs (h .1))
 every-turned P Q f (suc i) (r ∷ rs) k g h = (k r (h .0), every-turned P Q f i rs k g (h .1))
 
+pub every-change : (P : Row → Type 0) (f : Row → Row) (i : ℕ) (rs : List Row) → (P (rowAt i rs) → P (f (rowAt i rs))) → Every P rs → Every P (changeRow f i rs)
+every-change P f i rs g h = every-turned P P f i rs (λ r p. p) g h
+
 pub every-without : (P : Row → Type 0) (i : ℕ) (rs : List Row) → Every P rs → Every P (withoutRow i rs)
 unfolding withoutRow
 every-without P i [] h = tt
 every-without P zero (r ∷ rs) h = h .1
 every-without P (suc i) (r ∷ rs) h = (h .0, every-without P i rs (h .1))
 
-pub every-keep : (P : Row → Type 0) (p : Row → Bool) (rs : List Row) → Every P rs → Every P (keepRows p rs)
-unfolding keepRows
-every-keep P p [] h = tt
-every-keep P p (r ∷ rs) h = by-cond (Every P) (p r) (λ e. (h .0, every-keep P p rs (h .1))) (λ e. every-keep P p rs (h .1))
-
--- with the test that kept it
+-- with the test that kept each
 pub every-kept : (P : Row → Type 0) (p : Row → Bool) (rs : List Row) → Every (λ r. p r ≡ true → P r) rs → Every P (keepRows p rs)
 unfolding keepRows
 every-kept P p [] h = tt
 every-kept P p (r ∷ rs) h = by-cond (Every P) (p r) (λ e. (h .0 e, every-kept P p rs (h .1))) (λ e. every-kept P p rs (h .1))
+
+pub every-keep : (P : Row → Type 0) (p : Row → Bool) (rs : List Row) → Every P rs → Every P (keepRows p rs)
+every-keep P p rs h = every-kept P p rs (every-map (λ r x e. x) rs h)
 
 pub every-insert : (P : Row → Type 0) (r : Row) (rs : List Row) → P r → Every P rs → Every P (insertInOrder r rs)
 unfolding insertInOrder
@@ -216,6 +233,18 @@ change-at f g i [] e = refl
 change-at f g zero (r ∷ rs) e = ap (λ (x : Row). x ∷ rs) e
 change-at f g (suc i) (r ∷ rs) e = ap (λ (xs : List Row). r ∷ xs) (change-at f g i rs e)
 
+pub change-twice : (f g : Row → Row) (i : ℕ) (rs : List Row) → changeRow g i (changeRow f i rs) ≡ changeRow (λ r. g (f r)) i rs
+unfolding changeRow
+change-twice f g i [] = refl
+change-twice f g zero (r ∷ rs) = refl
+change-twice f g (suc i) (r ∷ rs) = ap (λ (xs : List Row). r ∷ xs) (change-twice f g i rs)
+
+pub row-changed : (f : Row → Row) (i : ℕ) (rs : List Row) → i < length rs → rowAt i (changeRow f i rs) ≡ f (rowAt i rs)
+unfolding changeRow
+row-changed f i [] h = absurd (let z : ⊥ = omega arith in z)
+row-changed f zero (r ∷ rs) h = refl
+row-changed f (suc i) (r ∷ rs) h = row-changed f i rs (omega arith)
+
 pub change-none : (f : Row → Row) (i : ℕ) (rs : List Row) → f (rowAt i rs) ≡ rowAt i rs → changeRow f i rs ≡ rs
 unfolding changeRow
 change-none f i [] e = refl
@@ -227,6 +256,26 @@ unfolding changeRow
 length-change f i [] = refl
 length-change f zero (r ∷ rs) = refl
 length-change f (suc i) (r ∷ rs) = ap suc (length-change f i rs)
+
+-- ---- rows that leave
+
+pub without-eq : (i : ℕ) (rs : List Row) → withoutRow i rs ≡ take i rs ++ drop (suc i) rs
+unfolding withoutRow
+without-eq zero [] = refl
+without-eq (suc i) [] = refl
+without-eq zero (r ∷ rs) = refl
+without-eq (suc i) (r ∷ rs) = ap (λ (x : List Row). r ∷ x) (without-eq i rs)
+
+pub length-without : (i : ℕ) (rs : List Row) → i < length rs → length (withoutRow i rs) ≡ length rs - 1
+unfolding withoutRow
+length-without i [] h = absurd (let z : ⊥ = omega arith in z)
+length-without zero (r ∷ rs) h = omega arith
+length-without (suc i) (r ∷ rs) h = omega (arith, length-without i rs (omega arith))
+
+pub keep-append : (p : Row → Bool) (xs ys : List Row) → keepRows p (xs ++ ys) ≡ keepRows p xs ++ keepRows p ys
+unfolding keepRows
+keep-append p [] ys = refl
+keep-append p (x ∷ xs) ys = by-cond (λ u. u ≡ cond (p x) (x ∷ keepRows p xs) (keepRows p xs) ++ keepRows p ys) (p x) (λ e. rw (e, keep-append p xs ys)) (λ e. rw (e, keep-append p xs ys))
 
 -- ---- keys in order
 

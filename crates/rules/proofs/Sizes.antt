@@ -1,14 +1,11 @@
 -- Every call keeps what fits fitting: the rows' fields, and the number of bytes in all.
-use mathlib.Core.Path.{_≡_, refl, sym, ap, _∙_, subst}
-use Prim.Native.Nat.{ℕ, zero, suc, _+_, _*_, _-_, _/_, _≤_, _<_, min, max}
+use mathlib.Core.Path.{_≡_, refl, ap}
+use Prim.Native.Nat.{ℕ, zero, suc, _+_, _*_, _-_, _/_, _≤_, _<_, min, _^_}
 use native.Mathlib.Omega.{arith}
-use mathlib.Core.List.{List, [], _∷_, _++_, map}
-use mathlib.Core.Option.{Option, none, some}
-use mathlib.Core.Bool.{Bool, true, false, cond, _&&_, _||_, not}
-use lib.Dec.{ltb, leb, eqb}
-use lib.ListN.{length, take, drop, replicate, length-append, length-drop}
-use lib.Seq.{length-take-le}
-use borrow.Author.Tests.{eqb-false, ltb-false}
+use mathlib.Core.List.{List, [], _∷_, map}
+use mathlib.Core.Bool.{Bool, true, false, cond, not}
+use lib.Dec.{ltb}
+use lib.ListN.{length, replicate, length-append, length-drop, length-map, length-replicate}
 use Rattle.types.specs.declared.node_addr.NodeAddr.{NodeAddr}
 use Rattle.types.specs.Addresses.{addrBefore}
 use Rattle.rules.specs.Cases.{Every}
@@ -17,7 +14,7 @@ use Rattle.rules.specs.Rows.{atPlace, changeRow, inMain, insertInOrder, 
 use Rattle.rules.specs.Entries.{addTimes, verified}
 use Rattle.rules.specs.Room.{Chosen, Sought, Walk, atNewPlace, chooseVictims, evictProbation, fileNew, hasRoom, makeProbationRoom, makeRoom, nextVictim, park, parkedAt, probationVisits, putBack, raised, refile, refiled, restamp, returnLapsed, seek, setAside, settled, sought, stale, stamp, takeOut, takeUp, untouched, visitsLeft}
 use Rattle.rules.specs.Lent.{AddrFits, Bytes, Small}
-use Rattle.rules.proofs.RowLists.{by-cond, by-maybe, every-both, every-change, every-insert, every-keep, every-map, every-mapped, every-without, length-change}
+use Rattle.rules.proofs.RowLists.{by-cond, by-maybe, every-both, every-change, every-copy, every-insert, every-keep, every-map, every-mapped, every-without, length-change}
 use Rattle.rules.proofs.SoundTest.{RowOk, Sound}
 use Rattle.rules.proofs.MemoryLaws.{bytes-append, bytes-drop}
 use Rattle.rules.proofs.ViewLaws.{EntryFits, Fits, RowFits}
@@ -26,30 +23,23 @@ use Rattle.rules.specs.Layout.{headSize, rowSize}
 
 -- ---- bounds
 
+-- v has n bytes exactly if it is below 256 to the n
+pub small : (n v : ℕ) → v < 256 ^ n → Small n v
+small zero v h = omega arith
+small (suc n) v h = small n (v / 256) (omega arith)
+
+small-less : (n v : ℕ) → Small n v → v < 256 ^ n
+small-less zero v h = omega arith
+small-less (suc n) v h = let l = small-less n (v / 256) h in omega arith
+
 pub small1 : (v : ℕ) → v < 256 → Small 1 v
-small1 v h = omega arith
+small1 v h = small 1 v h
 
 pub small8 : (v : ℕ) → v < 18446744073709551616 → Small 8 v
-small8 v h =
-    let a : v / 256 < 72057594037927936 = omega arith in
-    let b : v / 256 / 256 < 281474976710656 = omega arith in
-    let c : v / 256 / 256 / 256 < 1099511627776 = omega arith in
-    let d : v / 256 / 256 / 256 / 256 < 4294967296 = omega arith in
-    let e : v / 256 / 256 / 256 / 256 / 256 < 16777216 = omega arith in
-    let f : v / 256 / 256 / 256 / 256 / 256 / 256 < 65536 = omega arith in
-    let g : v / 256 / 256 / 256 / 256 / 256 / 256 / 256 < 256 = omega arith in
-    omega arith
+small8 v h = small 8 v h
 
 pub small8-less : (v : ℕ) → Small 8 v → v < 18446744073709551616
-small8-less v h =
-    let g : v / 256 / 256 / 256 / 256 / 256 / 256 / 256 < 256 = omega arith in
-    let f : v / 256 / 256 / 256 / 256 / 256 / 256 < 65536 = omega arith in
-    let e : v / 256 / 256 / 256 / 256 / 256 < 16777216 = omega arith in
-    let d : v / 256 / 256 / 256 / 256 < 4294967296 = omega arith in
-    let c : v / 256 / 256 / 256 < 1099511627776 = omega arith in
-    let b : v / 256 / 256 < 281474976710656 = omega arith in
-    let a : v / 256 < 72057594037927936 = omega arith in
-    omega arith
+small8-less v h = small-less 8 v h
 
 pub sum-small : (a b : ℕ) → Small 8 (addTimes a b)
 unfolding addTimes
@@ -96,26 +86,17 @@ unfolding keepRows
 length-keep p [] = omega arith
 length-keep p (r ∷ rs) = by-cond (λ (u : List Row). length u ≤ suc (length rs)) (p r) (λ e. omega (arith, length-keep p rs)) (λ e. omega (arith, length-keep p rs))
 
-length-map : (f : Row → Row) (rs : List Row) → length (map f rs) ≡ length rs
-length-map f [] = refl
-length-map f (r ∷ rs) = ap suc (length-map f rs)
-
 pub length-insert : (r : Row) (rs : List Row) → length (insertInOrder r rs) ≡ suc (length rs)
 unfolding insertInOrder
 length-insert r [] = refl
 length-insert r (x ∷ xs) = by-cond (λ (u : List Row). length u ≡ suc (suc (length xs))) (addrBefore (r .key) (x .key)) (λ e. refl) (λ e. ap suc (length-insert r xs))
 
-length-copies : (n : ℕ) → length (replicate {A = ℕ} n 0) ≡ n
-length-copies zero = refl
-length-copies (suc n) = ap suc (length-copies n)
-
 pub zero-length : (n : ℕ) → length (zeroRows n) ≡ n * rowSize
 unfolding zeroRows
-zero-length n = length-copies (n * rowSize)
+zero-length n = length-replicate {A = ℕ} (n * rowSize) 0
 
 pub copies-bytes : (n : ℕ) → Bytes (replicate n 0)
-copies-bytes zero = tt
-copies-bytes (suc n) = (omega arith, copies-bytes n)
+copies-bytes n = every-copy (λ b. b < 256) n (omega arith)
 
 pub zero-bytes : (n : ℕ) → Bytes (zeroRows n)
 unfolding zeroRows
@@ -181,7 +162,7 @@ settled-sized : (B : ℕ) (c : Chosen) → Sized B (c .walk .state) → Sized B 
 unfolding settled
 settled-sized B c h = by-cond (λ (rs : List Row). Sized B (withOnlyRows rs (c .walk .state))) (c .made)
     (λ e. keep-sized B (λ r. not (atPlace aside r)) (c .walk .state) h)
-    (λ e. only-sized B (c .walk .state) (map putBack (c .walk .state .rows)) h (omega (arith, length-map putBack (c .walk .state .rows))) (every-mapped Lasting putBack (c .walk .state .rows) (every-map back-lasts (c .walk .state .rows) (h .lasting))))
+    (λ e. only-sized B (c .walk .state) (map putBack (c .walk .state .rows)) h (omega (arith, length-map (c .walk .state .rows) putBack)) (every-mapped Lasting putBack (c .walk .state .rows) (every-map back-lasts (c .walk .state .rows) (h .lasting))))
 
 pub room-sized : (B now w : ℕ) (s : State) → Sized B s → Sized B (makeRoom now w s .state)
 unfolding makeRoom

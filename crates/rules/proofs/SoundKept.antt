@@ -1,12 +1,11 @@
 -- Every call keeps a sound state sound, and fresh makes one.
-use Prim.Native.Nat.{ℕ, zero, suc, _+_, _-_, _*_, _<_, _≤_}
-use mathlib.Core.Path.{_≡_, refl, sym, _∙_, ap, subst}
-use mathlib.Core.List.{List, [], _∷_, _++_}
-use mathlib.Core.Option.{Option, none, some}
-use mathlib.Core.Bool.{Bool, true, false, cond, _&&_, _||_, not}
-use lib.Dec.{ltb, leb, eqb}
+use Prim.Native.Nat.{ℕ, _+_, _-_, _≤_}
+use mathlib.Core.Path.{_≡_, refl}
+use mathlib.Core.List.{List, [], _∷_}
+use mathlib.Core.Bool.{Bool, true, false, cond, _||_}
+use lib.Dec.{ltb, eqb}
 use lib.ListN.{length}
-use borrow.Author.Tests.{ltb-true, ltb-false, le-leb, le-ltb, lt-ltb, ne-eqb, eqb-true, eqb-false}
+use borrow.Author.Tests.{ltb-true, ltb-false, ne-eqb, eqb-true, eqb-false}
 use native.Mathlib.Omega.{arith}
 use Rattle.types.specs.declared.node_addr.NodeAddr.{NodeAddr}
 use Rattle.rules.specs.Cases.{Every, maybe}
@@ -63,7 +62,7 @@ off-aside : (r : Row) → r .place ≤ 2 → atPlace aside r ≡ false
 unfolding atPlace
 off-aside r l = ne-eqb (r .place) 3 (λ e. let n : ⊥ = omega arith in n)
 
-none-aside : (n : ℕ) (rs : List Row) → Every (RowOk n) rs → countRows (atPlace aside) rs ≡ 0
+pub none-aside : (n : ℕ) (rs : List Row) → Every (RowOk n) rs → countRows (atPlace aside) rs ≡ 0
 unfolding total
 none-aside n [] h = refl
 none-aside n (r ∷ rs) h = rw (off-aside r (h .0 .place)) (omega (arith, none-aside n rs (h .1)))

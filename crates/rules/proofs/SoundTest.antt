@@ -1,12 +1,11 @@
 -- The test of soundness, as a predicate.
-use Prim.Native.Nat.{ℕ, zero, suc, _+_, _-_, _*_, _<_, _≤_, max}
-use mathlib.Core.Path.{_≡_, refl, sym, _∙_, ap, subst}
+use Prim.Native.Nat.{ℕ, _+_, _-_, _≤_}
+use mathlib.Core.Path.{_≡_, refl, ap}
 use mathlib.Core.List.{List, [], _∷_}
-use mathlib.Core.Bool.{Bool, true, false, cond, _&&_, _||_, not}
-use lib.Dec.{ltb, leb, eqb}
+use mathlib.Core.Bool.{Bool, true, false, _&&_, _||_, not}
+use lib.Dec.{eqb}
 use lib.ListN.{length}
-use borrow.Author.Tests.{eq-eqb, eqb-true, eqb-false, leb-true, le-leb}
-use native.Mathlib.Omega.{arith}
+use borrow.Author.Tests.{eq-eqb, eqb-true, leb-true, le-leb, not-true}
 use Rattle.types.specs.declared.node_addr.NodeAddr.{NodeAddr}
 use Rattle.types.specs.Addresses.{addrBefore}
 use Rattle.types.specs.Paths.{pathWeight, pathPlaces}
@@ -40,10 +39,6 @@ implied false b h q = contradiction {b = false} q refl
 implies : (a b : Bool) → (a ≡ true → b ≡ true) → not a || b ≡ true
 implies true b f = f refl
 implies false b f = refl
-
-not-false : (a : Bool) → not a ≡ true → a ≡ false
-not-false true h = sym h
-not-false false h = refl
 
 pub record RowOk (q : ℕ) (r : Row) : Type 0 where
   pub place : r .place ≤ 2
@@ -90,7 +85,7 @@ row-ok q r h =
       light = leb-true _ _ w2;
       stamped = leb-true _ _ n;
       hinted = λ z. eqb-true _ _ (or-left _ _ v1 z);
-      onProbation = λ z. not-false _ (implied _ _ v3 z);
+      onProbation = λ z. not-true _ (implied _ _ v3 z);
       parked = λ z. and-case _ _ (implied _ _ v4 z) (λ a b. (a, eqb-true _ _ b));
     }))))))))))
 

@@ -1,9 +1,8 @@
 -- Table P of document 01, as closed theorems: max 2 and ttl 300000 unless given.
-use Prim.Native.Nat.{ℕ, zero, suc}
+use Prim.Native.Nat.{ℕ}
 use mathlib.Core.Path.{_≡_, refl}
 use mathlib.Core.List.{List, [], _∷_, _++_, map}
-use mathlib.Core.Option.{Option, none, some}
-use mathlib.Core.Bool.{Bool, true, false}
+use mathlib.Core.Bool.{true, false}
 use lib.ListN.{replicate}
 use Rattle.types.specs.Paths.{pathWeight}
 use Rattle.types.specs.declared.placed.Funding.the-variants.{Uncharged, Upto}

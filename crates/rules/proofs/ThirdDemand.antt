@@ -1,12 +1,11 @@
 -- The third demand, whole, over every list of calls.
-use Prim.Native.Nat.{ℕ, zero, suc, _+_, _-_, _*_, _<_, _≤_}
+use Prim.Native.Nat.{ℕ, _+_, _-_, _≤_}
 use mathlib.Core.Path.{_≡_, refl, sym, _∙_, ap, subst}
 use mathlib.Core.List.{List, [], _∷_, _++_}
 use mathlib.Core.Option.{Option, none, some}
-use mathlib.Core.Bool.{Bool, true, false, cond, _&&_, _||_, not}
-use lib.Dec.{ltb, leb, eqb}
-use lib.ListN.{length}
-use borrow.Author.Tests.{ltb-true, ltb-false, le-leb, le-ltb, lt-ltb, ne-eqb, eqb-true, eqb-false}
+use mathlib.Core.Bool.{Bool, true, false, cond}
+use lib.Dec.{ltb, eqb}
+use borrow.Author.Tests.{ltb-true, ltb-false, lt-ltb, eqb-true, eqb-false}
 use native.Mathlib.Omega.{arith}
 use Rattle.types.specs.declared.coord.Path.{Path}
 use Rattle.types.specs.declared.node_addr.NodeAddr.{NodeAddr}

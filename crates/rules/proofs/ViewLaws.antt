@@ -1,6 +1,6 @@
 -- A state whose numbers and lengths fit is the view of its memory.
-use mathlib.Core.Path.{_≡_, refl, sym, ap, _∙_, subst}
-use Prim.Native.Nat.{ℕ, zero, suc, _+_, _*_, _-_, _/_, _%_, _≤_, _<_, min}
+use mathlib.Core.Path.{_≡_, refl, sym, ap, _∙_}
+use Prim.Native.Nat.{ℕ, zero, suc, _+_, _*_, _-_, _/_, min}
 use native.Mathlib.Omega.{arith}
 use mathlib.Core.List.{List, [], _∷_, _++_, append-assoc}
 use lib.ListN.{length, take, drop, length-append}
@@ -73,39 +73,39 @@ number k w v c t e s = let f = field k w c (leBytes w v) t e (length-le w v) in 
 last-number : (k w v : ℕ) (c : List ℕ) → drop k c ≡ leBytes w v → Small w v → leNumber (cut k w c) ≡ v
 last-number k w v c e s = ap leNumber (ap (take w) e ∙ take-all w (leBytes w v) (omega (arith, length-le w v))) ∙ num-le w v s
 
-elem-view : (x : CoordEntry) (c : List ℕ) → c ≡ addrBytes (x .«node_addr») ++ (leBytes 8 (x .sequence) ++ leBytes 8 (x .timestamp)) → CoordEntryFits x → coordEntryOf c ≡ x
+element-view : (x : CoordEntry) (c : List ℕ) → c ≡ addrBytes (x .«node_addr») ++ (leBytes 8 (x .sequence) ++ leBytes 8 (x .timestamp)) → CoordEntryFits x → coordEntryOf c ≡ x
 unfolding coordEntryOf
-elem-view x c e h =
+element-view x c e h =
     let a = field 0 16 c (x .«node_addr» .0) (leBytes 8 (x .sequence) ++ leBytes 8 (x .timestamp)) e (h .address .size) in
     let b = number 16 8 (x .sequence) c (leBytes 8 (x .timestamp)) (a .on) (h .sequence) in
     let d = last-number 24 8 (x .timestamp) c (b .on) (h .timestamp) in
     let z : coordEntryOf c ≡ record { «node_addr» = record { 0 = x .«node_addr» .0 }; sequence = x .sequence; timestamp = x .timestamp } = cc (a .is, b .is, d) in z
 
-elem-length : (x : CoordEntry) → CoordEntryFits x → length (addrBytes (x .«node_addr») ++ (leBytes 8 (x .sequence) ++ leBytes 8 (x .timestamp))) ≡ coordEntrySize
-elem-length x h = simp (length-append, length-le) (omega (arith, h .address .size))
+element-length : (x : CoordEntry) → CoordEntryFits x → length (addrBytes (x .«node_addr») ++ (leBytes 8 (x .sequence) ++ leBytes 8 (x .timestamp))) ≡ coordEntrySize
+element-length x h = simp (length-append, length-le) (omega (arith, h .address .size))
 
-elems-length : (xs : List CoordEntry) → Every CoordEntryFits xs → length (coordEntriesBytes xs) ≡ length xs * coordEntrySize
+pub elements-length : (xs : List CoordEntry) → Every CoordEntryFits xs → length (coordEntriesBytes xs) ≡ length xs * coordEntrySize
 unfolding coordEntriesBytes
-elems-length [] h = refl
-elems-length (x ∷ xs) h = simp (length-append, length-le) (omega (arith, h .0 .address .size, elems-length xs (h .1)))
+elements-length [] h = refl
+elements-length (x ∷ xs) h = simp (length-append, length-le) (omega (arith, h .0 .address .size, elements-length xs (h .1)))
 
-elems-view : (n : ℕ) (xs : List CoordEntry) (t : List ℕ) → length xs ≡ n → Every CoordEntryFits xs → coordEntriesOf n (coordEntriesBytes xs ++ t) ≡ xs
+pub elements-view : (n : ℕ) (xs : List CoordEntry) (t : List ℕ) → length xs ≡ n → Every CoordEntryFits xs → coordEntriesOf n (coordEntriesBytes xs ++ t) ≡ xs
 unfolding coordEntriesOf coordEntriesBytes
-elems-view zero [] t l h = refl
-elems-view zero (x ∷ xs) t l h = absurd (let z : ⊥ = omega arith in z)
-elems-view (suc n) [] t l h = absurd (let z : ⊥ = omega arith in z)
-elems-view (suc n) (x ∷ xs) t l h =
+elements-view zero [] t l h = refl
+elements-view zero (x ∷ xs) t l h = absurd (let z : ⊥ = omega arith in z)
+elements-view (suc n) [] t l h = absurd (let z : ⊥ = omega arith in z)
+elements-view (suc n) (x ∷ xs) t l h =
     let c = addrBytes (x .«node_addr») ++ (leBytes 8 (x .sequence) ++ leBytes 8 (x .timestamp)) in
     let e : (addrBytes (x .«node_addr») ++ (leBytes 8 (x .sequence) ++ (leBytes 8 (x .timestamp) ++ coordEntriesBytes xs))) ++ t ≡ c ++ (coordEntriesBytes xs ++ t) = simp append-assoc in
-    let k = elem-length x (h .0) in
-    rw (e, take-at c (coordEntriesBytes xs ++ t) coordEntrySize k, drop-at c (coordEntriesBytes xs ++ t) coordEntrySize k) (cc (elem-view x c refl (h .0), elems-view n xs t (omega arith) (h .1)))
+    let k = element-length x (h .0) in
+    rw (e, take-at c (coordEntriesBytes xs ++ t) coordEntrySize k, drop-at c (coordEntriesBytes xs ++ t) coordEntrySize k) (cc (element-view x c refl (h .0), elements-view n xs t (omega arith) (h .1)))
 
 entry-view : (e : Entry) (c : List ℕ) → c ≡ entryBytes e → EntryFits e → entryOf c ≡ e
 unfolding entryOf pathOf entryBytes
 entry-view e c q h =
     let f0 = number 0 1 (e .path .len) c _ q (h .len) in
-    let f1 = field 1 placesSize c (coordEntriesBytes (e .path .entries)) _ (f0 .on) (elems-length (e .path .entries) (h .each) ∙ ap (λ (n : ℕ). n * coordEntrySize) (h .entries)) in
-    let ps : coordEntriesOf pathPlaces (drop 1 c) ≡ e .path .entries = ap (coordEntriesOf pathPlaces) (f0 .on) ∙ elems-view pathPlaces (e .path .entries) _ (h .entries) (h .each) in
+    let f1 = field 1 placesSize c (coordEntriesBytes (e .path .entries)) _ (f0 .on) (elements-length (e .path .entries) (h .each) ∙ ap (λ (n : ℕ). n * coordEntrySize) (h .entries)) in
+    let ps : coordEntriesOf pathPlaces (drop 1 c) ≡ e .path .entries = ap (coordEntriesOf pathPlaces) (f0 .on) ∙ elements-view pathPlaces (e .path .entries) _ (h .entries) (h .each) in
     let f2 = number createdAtOffset 8 (e .createdAt) c _ (f1 .on) (h .createdAt) in
     let f3 = number lastUsedOffset 8 (e .lastUsed) c _ (f2 .on) (h .lastUsed) in
     let f4 = number expiresAtOffset 8 (e .expiresAt) c _ (f3 .on) (h .expiresAt) in
@@ -117,11 +117,11 @@ entry-view e c q h =
 
 entry-length : (e : Entry) → EntryFits e → length (entryBytes e) ≡ entrySize
 unfolding entryBytes
-entry-length e h = simp (length-append, length-le) (omega (arith, elems-length (e .path .entries) (h .each), h .entries))
+entry-length e h = simp (length-append, length-le) (omega (arith, elements-length (e .path .entries) (h .each), h .entries))
 
-row-view : (r : Row) (c : List ℕ) → c ≡ rowBytes r → RowFits r → rowOf c ≡ r
+row-read : (r : Row) (c : List ℕ) → c ≡ rowBytes r → RowFits r → rowOf c ≡ r
 unfolding rowOf rowBytes
-row-view r c q h =
+row-read r c q h =
     let f0 = field 0 16 c (r .key .0) _ q (h .key .size) in
     let f1 = field entryOffset entrySize c (entryBytes (r .entry)) _ (f0 .on) (entry-length (r .entry) (h .entry)) in
     let f2 = number placeOffset 1 (r .place) c _ (f1 .on) (h .place) in
@@ -130,7 +130,10 @@ row-view r c q h =
     let f5 = last-number weightOffset 1 (r .weight) c (f4 .on) (h .weight) in
     let z : rowOf c ≡ record { key = record { 0 = r .key .0 }; entry = r .entry; place = r .place; stampFirst = r .stampFirst; stampSeq = r .stampSeq; weight = r .weight } = cc (f0 .is, entry-view (r .entry) (cut entryOffset entrySize c) (f1 .is) (h .entry), f2 .is, f3 .is, f4 .is, f5) in z
 
-row-length : (r : Row) → RowFits r → length (rowBytes r) ≡ rowSize
+pub row-view : (r : Row) → RowFits r → rowOf (rowBytes r) ≡ r
+row-view r h = row-read r (rowBytes r) refl h
+
+pub row-length : (r : Row) → RowFits r → length (rowBytes r) ≡ rowSize
 unfolding rowBytes
 row-length r h = simp (length-append, length-le) (omega (arith, h .key .size, entry-length (r .entry) (h .entry)))
 
@@ -146,7 +149,7 @@ rows-view zero (r ∷ rs) t l h = absurd (let z : ⊥ = omega arith in z)
 rows-view (suc n) [] t l h = absurd (let z : ⊥ = omega arith in z)
 rows-view (suc n) (r ∷ rs) t l h =
     let k = row-length r (h .0) in
-    rw (append-assoc (rowBytes r) (rowsBytes rs) t, take-at (rowBytes r) (rowsBytes rs ++ t) rowSize k, drop-at (rowBytes r) (rowsBytes rs ++ t) rowSize k) (cc (row-view r (rowBytes r) refl (h .0), rows-view n rs t (omega arith) (h .1)))
+    rw (append-assoc (rowBytes r) (rowsBytes rs) t, take-at (rowBytes r) (rowsBytes rs ++ t) rowSize k, drop-at (rowBytes r) (rowsBytes rs ++ t) rowSize k) (cc (row-view r (h .0), rows-view n rs t (omega arith) (h .1)))
 
 pub memory-length : (L : ℕ) (s : State) → Fits L s → length (memory s) ≡ L
 unfolding memory

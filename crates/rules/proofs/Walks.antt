@@ -1,12 +1,12 @@
 -- The walk for victims: what each turn keeps, where it ends, and that room is made exactly when it can be.
 use Prim.Native.Nat.{ℕ, zero, suc, _+_, _-_, _*_, _<_, _≤_, min}
 use mathlib.Core.Path.{_≡_, refl, sym, _∙_, ap, subst}
-use mathlib.Core.List.{List, [], _∷_, map}
-use mathlib.Core.Option.{Option, none, some}
-use mathlib.Core.Bool.{Bool, true, false, cond, _&&_, _||_, not}
+use mathlib.Core.List.{List, map}
+use mathlib.Core.Option.{none, some}
+use mathlib.Core.Bool.{Bool, true, false, cond, _&&_, not}
 use lib.Dec.{ltb, leb, eqb}
 use lib.ListN.{length}
-use borrow.Author.Tests.{eq-eqb, ne-eqb, eqb-true, eqb-false, ltb-true, ltb-false, leb-true, leb-false, lt-ltb, le-ltb, le-leb}
+use borrow.Author.Tests.{eq-eqb, ne-eqb, eqb-true, ltb-true, ltb-false, leb-true, lt-ltb, le-ltb, le-leb, not-true}
 use native.Mathlib.Omega.{arith}
 use Rattle.types.specs.declared.node_addr.NodeAddr.{NodeAddr}
 use Rattle.rules.specs.Cases.{Every}
@@ -435,7 +435,7 @@ start-led now s h = record {
   probations = refl;
 }
 
-turns-main : (now : ℕ) (r : Row) → mainVisits now r ≤ 2 * cond (inMain r) 1 0
+pub turns-main : (now : ℕ) (r : Row) → mainVisits now r ≤ 2 * cond (inMain r) 1 0
 unfolding mainVisits inMain
 turns-main now r = go (atPlace byUse r) refl (stale r) (atPlace parked r) refl (ltb (r .stampFirst) now)
   where
@@ -462,15 +462,8 @@ pub record Roomed (now w : ℕ) (s : State) (m : Room) : Type 1 where
   pub seen : m .examined ≤ 2 * mainCount s
   pub stamps : m .state .seq ≤ s .seq + m .examined
 
-abbrev stays : Row → Bool
+abbrev pub stays : Row → Bool
 stays r = not (atPlace aside r)
-
-stays-not : (r : Row) → stays r ≡ true → atPlace aside r ≡ false
-stays-not r = go (atPlace aside r)
-  where
-    go : (b : Bool) → not b ≡ true → b ≡ false
-    go true h = sym h
-    go false h = refl
 
 -- what is left of the rows: b, where the victims leave
 abbrev remains : Bool → List Row → List Row
@@ -485,7 +478,7 @@ remains-mains true rs = omega (arith, total-keep-le (λ r. cond (inMain r) 1 0) 
 remains-mains false rs = omega (arith, total-map (λ r. cond (inMain r) 1 0) putBack rs)
 
 remains-each : (now q : ℕ) (b : Bool) (rs : List Row) → Every (Going now q) rs → Every (RowOk q) (remains b rs)
-remains-each now q true rs g = every-kept (RowOk q) stays rs (every-map (λ r x e. subst (RowOk q) (back-not r (stays-not r e)) (x .ok)) rs g)
+remains-each now q true rs g = every-kept (RowOk q) stays rs (every-map (λ r x e. subst (RowOk q) (back-not r (not-true _ e)) (x .ok)) rs g)
 remains-each now q false rs g = every-mapped (RowOk q) putBack rs (every-map (λ r x. x .ok) rs g)
 
 remains-keeps : (b : Bool) (rs : List Row) (P : Core → Type 0) → Every P (cores rs) → Every P (cores (remains b rs))

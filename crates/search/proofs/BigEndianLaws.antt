@@ -4,15 +4,15 @@ use mathlib.Core.Bool.{Bool, true, false, _&&_, _||_}
 use mathlib.Core.List.{List, [], _∷_, _++_}
 use Prim.Native.Nat.{ℕ, _+_, _*_, _≤_, _<_}
 use native.Mathlib.Omega.{arith}
-use native.Mathlib.Numerals.{add-one}
 use lib.Dec.{ltb, eqb}
 use lib.ListN.{length, take, drop, getD, length-drop, take-append-drop}
-use lib.Seq.{drop-cons, drop-drop, length-take-le, take-add, take-all}
+use lib.Seq.{drop-drop, length-take-le, take-add, take-all}
 use borrow.Author.Tests.{eq-eqb, eqb-true, eqb-false, le-ltb, ltb-true, ltb-false}
 use Rattle.types.specs.Addresses.{bytesBefore}
 use Rattle.rules.specs.Lent.{Bytes}
 use Rattle.rules.specs.Memory.{cut}
 use Rattle.rules.proofs.Addresses.{contradiction}
+use Rattle.raw.proofs.NumberLaws.{eight-bytes}
 use Rattle.search.specs.BigEndian.{goesOn, NumberOf}
 
 -- ---- as many bytes behind a higher number
@@ -112,29 +112,15 @@ module _ {l m p q x y : List ℕ} {a b : ℕ} (i : TwiceEight l p x) (j : TwiceE
 
 -- ---- eight bytes, as the code reads them
 
-one : (l : List ℕ) (at : ℕ) → at < length l → drop at l ≡ getD l at 0 ∷ drop (at + 1) l
-one l at h = rw add-one (drop-cons l at 0 h)
-
 horner : (r0 r1 r2 r3 r4 r5 r6 r7 : ℕ) → r0 * 0x100_0000_0000_0000 + r1 * 0x1_0000_0000_0000 + r2 * 0x100_0000_0000 + r3 * 0x1_0000_0000 + r4 * 0x100_0000 + r5 * 0x1_0000 + r6 * 0x100 + r7
     ≡ (((((((0 * 256 + r0) * 256 + r1) * 256 + r2) * 256 + r3) * 256 + r4) * 256 + r5) * 256 + r6) * 256 + r7
 horner r0 r1 r2 r3 r4 r5 r6 r7 = omega arith
-
-eight : (l : List ℕ) (at : ℕ) → at + 8 ≤ length l
-    → cut at 8 l ≡ getD l at 0 ∷ getD l (at + 1) 0 ∷ getD l (at + 2) 0 ∷ getD l (at + 3) 0 ∷ getD l (at + 4) 0 ∷ getD l (at + 5) 0 ∷ getD l (at + 6) 0 ∷ getD l (at + 7) 0 ∷ []
-eight l at h =
-    let e2 : at + 1 + 1 ≡ at + 2 = omega arith in
-    let e3 : at + 2 + 1 ≡ at + 3 = omega arith in
-    let e4 : at + 3 + 1 ≡ at + 4 = omega arith in
-    let e5 : at + 4 + 1 ≡ at + 5 = omega arith in
-    let e6 : at + 5 + 1 ≡ at + 6 = omega arith in
-    let e7 : at + 6 + 1 ≡ at + 7 = omega arith in
-    rw (one l at (omega arith), one l (at + 1) (omega arith), e2, one l (at + 2) (omega arith), e3, one l (at + 3) (omega arith), e4, one l (at + 4) (omega arith), e5, one l (at + 5) (omega arith), e6, one l (at + 6) (omega arith), e7, one l (at + 7) (omega arith))
 
 pub eight-number : (l : List ℕ) (at : ℕ) → at + 8 ≤ length l → ((i : ℕ) → getD l i 0 < 256)
     → NumberOf (cut at 8 l) (getD l at 0 * 0x100_0000_0000_0000 + getD l (at + 1) 0 * 0x1_0000_0000_0000 + getD l (at + 2) 0 * 0x100_0000_0000 + getD l (at + 3) 0 * 0x1_0000_0000 + getD l (at + 4) 0 * 0x100_0000 + getD l (at + 5) 0 * 0x1_0000 + getD l (at + 6) 0 * 0x100 + getD l (at + 7) 0)
 unfolding goesOn
 eight-number l at h b =
-    rw (eight l at h) (record { value = horner _ _ _ _ _ _ _ _; bytes = (b at, (b (at + 1), (b (at + 2), (b (at + 3), (b (at + 4), (b (at + 5), (b (at + 6), (b (at + 7), tt)))))))) })
+    rw (eight-bytes l at h) (record { value = horner _ _ _ _ _ _ _ _; bytes = (b at, (b (at + 1), (b (at + 2), (b (at + 3), (b (at + 4), (b (at + 5), (b (at + 6), (b (at + 7), tt)))))))) })
 
 -- ---- sixteen bytes are twice eight
 

@@ -1,19 +1,16 @@
 -- The two numbers of an address decide its order, and the bytes of a row's key.
-use mathlib.Core.Path.{_≡_, sym, ap, _∙_}
+use mathlib.Core.Path.{_≡_, sym, ap}
 use mathlib.Core.List.{List}
 use Prim.Native.Nat.{ℕ, _+_, _*_, _≤_, _<_}
 use native.Mathlib.Omega.{arith}
-use lib.ListN.{length, drop}
+use lib.ListN.{length}
 use Rattle.types.specs.declared.node_addr.NodeAddr.{NodeAddr}
 use Rattle.types.specs.Addresses.{addrBefore}
-use Rattle.rules.specs.Records.{Row}
 use Rattle.rules.specs.Rows.{rowAt}
-use Rattle.rules.specs.Memory.{cut, rowOf, viewRows}
+use Rattle.rules.specs.Memory.{cut, viewRows}
 use Rattle.rules.proofs.Addresses.{same-eq}
-use Rattle.rules.proofs.Foreign.{rows-of-length}
 use Rattle.rules.specs.Layout.{headSize, rowSize}
-use Rattle.raw.proofs.StoreLaws.{cut-cut}
-use Rattle.memory.proofs.Fields.{row-at}
+use Rattle.memory.proofs.Fields.{row-key}
 use Rattle.search.specs.BigEndian.{NumberOf}
 use Rattle.search.specs.ByKey.{orderOf}
 use Rattle.search.specs.declared.keys.Order.the-variants.{Less, Equal, Greater}
@@ -48,13 +45,5 @@ module _ (at : ℕ) (l : List ℕ) (k : NodeAddr) (fits : at + 16 ≤ length l) 
 
 -- ---- the rows of the view
 
-pub rows-length : (n : ℕ) (l : List ℕ) → length (viewRows n l .rows) ≡ n
-unfolding viewRows
-rows-length n l = rows-of-length n (drop headSize l)
-
 pub key-bytes : (n i : ℕ) (l : List ℕ) → i < n → record { 0 = cut (headSize + i * rowSize) 16 l } ≡ rowAt i (viewRows n l .rows) .key
-unfolding rowOf
-key-bytes n i l h =
-    let z : headSize + i * rowSize + 0 ≡ headSize + i * rowSize = omega arith in
-    let k : cut 0 16 (cut (headSize + i * rowSize) rowSize l) ≡ cut (headSize + i * rowSize) 16 l = rw z at (cut-cut (headSize + i * rowSize) rowSize 0 16 l (omega arith)) in
-    sym (ap (λ (r : Row). r .key) (row-at n i l h) ∙ ap (λ (x : List ℕ). record { 0 = x }) k)
+key-bytes n i l h = ap (λ (x : List ℕ). record { 0 = x }) (sym (row-key n i l h))

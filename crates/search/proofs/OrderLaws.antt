@@ -3,16 +3,9 @@ use mathlib.Core.Path.{_≡_, refl, sym}
 use mathlib.Core.Bool.{Bool, true, false}
 use Rattle.types.specs.declared.node_addr.NodeAddr.{NodeAddr}
 use Rattle.types.specs.Addresses.{sameAddr, addrBefore}
-use Rattle.rules.proofs.Addresses.{before-irrefl, before-total, before-trans, contradiction, same-false, same-ne, same-true}
+use Rattle.rules.proofs.Addresses.{before-irrefl, before-total, contradiction, same-false, same-ne, same-true, before-not-behind}
 use Rattle.search.specs.ByKey.{orderOf}
 use Rattle.search.specs.declared.keys.Order.the-variants.{Less, Equal, Greater}
-
-pub before-not-behind : (a b : NodeAddr) → addrBefore a b ≡ true → addrBefore b a ≡ false
-before-not-behind a b h = go (addrBefore b a) refl
-  where
-    go : (t : Bool) → addrBefore b a ≡ t → t ≡ false
-    go true e = contradiction (before-trans a b a h e) (before-irrefl a)
-    go false e = refl
 
 pub before-differs : (a b : NodeAddr) → addrBefore a b ≡ true → a ≡ b → ⊥
 before-differs a b h e = contradiction h (rw e (before-irrefl b))

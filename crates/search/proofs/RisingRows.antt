@@ -14,12 +14,12 @@ use Rattle.types.specs.Addresses.{sameAddr, addrBefore}
 use Rattle.rules.specs.Records.{Row}
 use Rattle.rules.specs.Rows.{rowAt, find, nextIndex, total}
 use Rattle.rules.specs.Sound.{ascends, leads}
-use Rattle.rules.proofs.Addresses.{before-trans, same-eq, same-ne, same-true}
+use Rattle.rules.proofs.Addresses.{before-trans, same-eq, same-ne, same-true, before-not-behind}
 use Rattle.rules.proofs.SoundTest.{and-left, and-right}
 use Rattle.search.specs.ByKey.{orderOf, rowsBefore, searched}
 use Rattle.search.specs.declared.keys.Order.the-variants.{Less, Equal, Greater}
 use Rattle.search.specs.declared.outcome.Search.the-variants.{At, Absent}
-use Rattle.search.proofs.OrderLaws.{before-differs, before-not-behind, less-before, equal-same, greater-behind}
+use Rattle.search.proofs.OrderLaws.{before-differs, less-before, equal-same, greater-behind}
 
 -- ---- ascending rows
 

@@ -14,7 +14,7 @@ use Rattle.rules.specs.Records.{Row}
 use Rattle.rules.specs.Rows.{find, insertInOrder, rowAt, total}
 use Rattle.rules.specs.Sound.{ascends}
 use Rattle.rules.proofs.Addresses.{before-total, before-trans, contradiction}
-use Rattle.rules.proofs.RowLists.{by-cond, cores, find-at, find-none}
+use Rattle.rules.proofs.RowLists.{by-cond, cores, find-at, find-none, none-unless}
 use Rattle.search.specs.ByKey.{rowsBefore, searched}
 use Rattle.search.specs.declared.outcome.Search.the-variants.{At, Absent}
 use Rattle.search.proofs.RisingRows.{first-before, parted, rest-ascends}
@@ -35,16 +35,12 @@ at-found k rs i h = go (find k rs) refl
     go (some j) e = let z = sym (find-searched k rs j e) ∙ h in cc
 
 pub absent-none : (k : NodeAddr) (rs : List Row) (i : ℕ) → searched k rs ≡ Absent i → find k rs ≡ none
-absent-none k rs i h = go (find k rs) refl
-  where
-    go : (o : Option ℕ) → find k rs ≡ o → o ≡ none
-    go none e = refl
-    go (some j) e = contradiction {b = true} refl (let z = sym (find-searched k rs j e) ∙ h in cc)
+absent-none k rs i h = none-unless (find k rs) (λ j e. contradiction {b = true} refl (let z = sym (find-searched k rs j e) ∙ h in cc))
 
 pub at-inside : (k : NodeAddr) (rs : List Row) (i : ℕ) → searched k rs ≡ At i → i < length rs
 at-inside k rs i h = find-at k rs i (at-found k rs i h) .inside
 
-absent-count : (k : NodeAddr) (rs : List Row) (i : ℕ) → searched k rs ≡ Absent i → rowsBefore k rs ≡ i
+pub absent-count : (k : NodeAddr) (rs : List Row) (i : ℕ) → searched k rs ≡ Absent i → rowsBefore k rs ≡ i
 absent-count k rs i h = let z = sym (none-searched k rs (absent-none k rs i h)) ∙ h in cc
 
 count-inside : (k : NodeAddr) (rs : List Row) → rowsBefore k rs ≤ length rs

@@ -1,6 +1,6 @@
 -- Rows counted and summed from the last one down.
 use mathlib.Core.Path.{_≡_, refl, sym, ap, _∙_, subst}
-use Prim.Native.Nat.{ℕ, suc, _+_, _≤_, _<_}
+use Prim.Native.Nat.{ℕ, suc, _+_, _-_, _≤_, _<_}
 use native.Mathlib.Omega.{arith}
 use mathlib.Core.List.{List, [], _∷_}
 use mathlib.Core.Bool.{Bool, true, false, cond}
@@ -19,7 +19,7 @@ pub sum-none : (f : Row → ℕ) (i : ℕ) (rs : List Row) → length rs ≤ i �
 unfolding total
 sum-none f i rs h = rw (drop-of-length-le rs h)
 
-one-at-most : (b : Bool) → boolByte b ≤ 1
+pub one-at-most : (b : Bool) → boolByte b ≤ 1
 one-at-most true = omega arith
 one-at-most false = omega arith
 
@@ -27,28 +27,29 @@ as-count : (b : Bool) → boolByte b ≡ cond b 1 0
 as-count true = refl
 as-count false = refl
 
--- the rows from i on were counted
+-- of n rows those from i on were counted
 pub record Counted (p : Row → Bool) (n i c : ℕ) (rs : List Row) : Type 0 where
+  pub long : length rs ≡ n
   pub within : i ≤ n
   pub few : c + i ≤ n
   pub count : c ≡ countRows p (drop i rs)
 
-pub counted-start : (p : Row → Bool) (n : ℕ) (rs : List Row) → length rs ≤ n → Counted p n n 0 rs
-counted-start p n rs h = record { within = omega arith; few = omega arith; count = sym (sum-none (λ r. cond (p r) 1 0) n rs h) }
+pub counted-start : {p : Row → Bool} {n : ℕ} {rs : List Row} → length rs ≡ n → Counted p n n 0 rs
+counted-start {p} {n} {rs} h = record { long = h; within = omega arith; few = omega arith; count = sym (sum-none (λ r. cond (p r) 1 0) n rs (omega arith)) }
 
-pub counted-fits : (p : Row → Bool) (n k c : ℕ) (b : Bool) (rs : List Row) → 0 < k → Counted p n k c rs → c + boolByte b ≤ n
-counted-fits p n k c b rs z h = omega (arith, h .few, one-at-most b)
+module _ {p : Row → Bool} {n i c : ℕ} {rs : List Row} (t : Counted p n i c rs) where
+  pub counted-turn : {b : Bool} → 0 < i → b ≡ p (rowAt (i - 1) rs) → Counted p n (i - 1) (c + boolByte b) rs
+  counted-turn {b} z q =
+      let k = sum-down (λ r. cond (p r) 1 0) i (i - 1) rs (omega arith) (omega (arith, t .long, t .within)) in
+      record {
+        long = t .long;
+        within = omega (arith, t .within);
+        few = omega (arith, t .few, one-at-most b);
+        count = omega (arith, t .count, k, as-count b ∙ ap (λ (x : Bool). cond x 1 0) q);
+      }
 
-pub counted-turn : (p : Row → Bool) (n k i c : ℕ) (b : Bool) (rs : List Row) → k ≡ suc i → i < length rs → b ≡ p (rowAt i rs) → Counted p n k c rs → Counted p n i (c + boolByte b) rs
-counted-turn p n k i c b rs e h q t =
-    record {
-      within = omega (arith, t .within);
-      few = omega (arith, t .few, one-at-most b);
-      count = omega (arith, t .count, sum-down (λ r. cond (p r) 1 0) k i rs e h, as-count b ∙ ap (λ (x : Bool). cond x 1 0) q);
-    }
-
-pub counted-end : (p : Row → Bool) (n i c : ℕ) (rs : List Row) → i ≡ 0 → Counted p n i c rs → c ≡ countRows p rs
-counted-end p n i c rs z t = subst (λ (j : ℕ). Counted p n j c rs) z t .count
+  pub counted-end : i ≤ 0 → c ≡ countRows p rs
+  counted-end z = let e : i ≡ 0 = omega arith in subst (λ (j : ℕ). c ≡ countRows p (drop j rs)) e (t .count)
 
 pub count-few : (p : Row → Bool) (rs : List Row) → countRows p rs ≤ length rs
 unfolding total

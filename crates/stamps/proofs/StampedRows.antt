@@ -18,11 +18,13 @@ row-refiled : (p f q : ℕ) (r : Row) → p ≡ cond (ltb (r .place) probation) 
 unfolding stampedAs refiled inMain
 row-refiled p f q r ep ef = rw (ep, ef)
 
-pub restamped : (i p f : ℕ) (s x : State) → p ≡ cond (ltb (rowAt i (s .rows) .place) probation) byUse (rowAt i (s .rows) .place) → f ≡ rowAt i (s .rows) .entry .lastUsed → x ≡ stamp (stampedAs p f) i s → x ≡ restamp i s
+pub restamped : (i p f : ℕ) (s x : State) → p ≡ cond (ltb (rowAt i (s .rows) .place) probation) byUse (rowAt i (s .rows) .place) →
+    f ≡ rowAt i (s .rows) .entry .lastUsed → x ≡ stamp (stampedAs p f) i s → x ≡ restamp i s
 unfolding restamp stamp
 restamped i p f s x ep ef ex =
     let q = s .seq + 1 in
-    ex ∙ ap (λ (rs : List Row). withRows rs (raised s)) (change-at (stampedAs p f q) (λ r. refiled q (r .entry) (r .weight) r) i (s .rows) (row-refiled p f q (rowAt i (s .rows)) ep ef))
+    let k = change-at (stampedAs p f q) (λ r. refiled q (r .entry) (r .weight) r) i (s .rows) (row-refiled p f q (rowAt i (s .rows)) ep ef) in
+    ex ∙ ap (λ (rs : List Row). withRows rs (raised s)) k
 
 row-parked : (f q : ℕ) (r : Row) → f ≡ r .entry .verifiedUntil → stampedAs 1 f q r ≡ parkedAt q r
 unfolding stampedAs parkedAt

@@ -49,7 +49,7 @@ pub fn restamp(state: &mut [u8], n: usize, i: usize)
 }
 
 // Row i is parked, stamped with verified_until.
-pub fn park(state: &mut [u8], n: usize, i: usize)
+pub(crate) fn park(state: &mut [u8], n: usize, i: usize)
     requires { ⌜ (i < n) × (headSize + n * rowSize ≤ length (now state)) × (viewRows n (now state) .seq < 18446744073709551615) ⌝ }
     ensures { λ _. ⌜ viewRows n (now (state .exit)) ≡ park i (viewRows n (now (state .entry))) ⌝ }
 {

@@ -1,48 +1,36 @@
 -- Two addresses in the memory, byte by byte; and the keys of two rows.
-use mathlib.Core.Path.{_≡_, sym, ap, _∙_}
+use mathlib.Core.Path.{_≡_, sym, _∙_}
 use Prim.Native.Nat.{ℕ, _+_, _*_, _≤_, _<_}
-use native.Mathlib.Omega.{arith}
 use mathlib.Core.Bool.{true}
 use mathlib.Core.List.{List}
 use lib.Dec.{ltb}
 use lib.ListN.{length, drop, getD, drop-of-length-le}
-use lib.Seq.{getD-take, getD-drop}
 use Rattle.types.specs.Addresses.{bytesBefore, addrBefore}
 use Rattle.types.proofs.PathLaws.{uncons, before-stop, before-go}
 use Rattle.rules.specs.Records.{Row}
 use Rattle.rules.specs.Rows.{rowAt, blankRow}
 use Rattle.rules.specs.Sound.{leads}
-use Rattle.rules.specs.Memory.{cut, rowOf, viewRows}
+use Rattle.rules.specs.Memory.{cut, viewRows}
 use Rattle.rules.proofs.MemoryLaws.{length-cut}
 use Rattle.rules.specs.Layout.{headSize, rowSize}
-use Rattle.raw.proofs.StoreLaws.{cut-cut}
-use Rattle.memory.proofs.Fields.{row-at}
-
-byte-at : (l : List ℕ) (k w i : ℕ) → i < w → getD (cut k w l) i 0 ≡ getD l (k + i) 0
-byte-at l k w i h = getD-take w (drop k l) i 0 h ∙ getD-drop k l i 0
+use Rattle.raw.proofs.CopyLaws.{cut-byte}
+use Rattle.memory.proofs.Fields.{row-key}
 
 -- a turn of the loop over the bytes of the addresses at a and b
 module _ (l : List ℕ) (a b i : ℕ) (ha : a + 16 ≤ length l) (hb : b + 16 ≤ length l) (h : i < 16) where
   pub bytes-differ : (getD l (a + i) 0 ≡ getD l (b + i) 0 → ⊥) → bytesBefore (drop i (cut a 16 l)) (drop i (cut b 16 l)) ≡ ltb (getD l (a + i) 0) (getD l (b + i) 0)
   bytes-differ n =
-      let x = byte-at l a 16 i h in
-      let y = byte-at l b 16 i h in
+      let x = sym (cut-byte a 16 i l h) in
+      let y = sym (cut-byte b 16 i l h) in
       before-stop (cut a 16 l) (cut b 16 l) i (rw (length-cut a 16 l ha) h) (rw (length-cut b 16 l hb) h) (λ e. n (sym x ∙ e ∙ y)) ∙ rw (x, y)
 
   pub bytes-agree : getD l (a + i) 0 ≡ getD l (b + i) 0 → bytesBefore (drop i (cut a 16 l)) (drop i (cut b 16 l)) ≡ bytesBefore (drop (i + 1) (cut a 16 l)) (drop (i + 1) (cut b 16 l))
-  bytes-agree e = before-go (cut a 16 l) (cut b 16 l) i (rw (length-cut a 16 l ha) h) (rw (length-cut b 16 l hb) h) (byte-at l a 16 i h ∙ e ∙ sym (byte-at l b 16 i h))
-
--- where a row's key stands
-row-key : (l : List ℕ) (n i : ℕ) → i < n → rowAt i (viewRows n l .rows) .key .0 ≡ cut (headSize + i * rowSize) 16 l
-unfolding rowOf
-row-key l n i h =
-    let z : headSize + i * rowSize + 0 ≡ headSize + i * rowSize = omega arith in
-    ap (λ (r : Row). r .key .0) (row-at n i l h) ∙ cut-cut (headSize + i * rowSize) rowSize 0 16 l (omega arith) ∙ ap (λ (k : ℕ). cut k 16 l) z
+  bytes-agree e = before-go (cut a 16 l) (cut b 16 l) i (rw (length-cut a 16 l ha) h) (rw (length-cut b 16 l hb) h) (sym (cut-byte a 16 i l h) ∙ e ∙ cut-byte b 16 i l h)
 
 pub keys-before : (l : List ℕ) (n i j : ℕ) → i < n → j < n
     → bytesBefore (cut (headSize + i * rowSize) 16 l) (cut (headSize + j * rowSize) 16 l) ≡ addrBefore (rowAt i (viewRows n l .rows) .key) (rowAt j (viewRows n l .rows) .key)
 unfolding addrBefore
-keys-before l n i j hi hj = rw (row-key l n i hi, row-key l n j hj)
+keys-before l n i j hi hj = rw (row-key n i l hi, row-key n j l hj)
 
 pub leads-next : (r : Row) (rs : List Row) (i : ℕ) → i < length rs → leads r (drop i rs) ≡ addrBefore (r .key) (rowAt i rs .key)
 unfolding leads

@@ -9,21 +9,18 @@ use lib.ListN.{length, drop, drop-of-length-le}
 use borrow.Author.Tests.{leb-true, leb-false, lt-leb, eq-eqb, ne-eqb, not-true, not-false}
 use Rattle.types.proofs.PathLaws.{uncons}
 use Rattle.rules.specs.Records.{Row, State, maxRows, probationBound, mainBound}
-use Rattle.rules.specs.Rows.{rowAt, blankRow, atPlace, inMain, inProbation, total, countRows, weighRows}
+use Rattle.rules.specs.Rows.{rowAt, blankRow, atPlace, inMain, inProbation, countRows, weighRows}
 use Rattle.rules.specs.Sound.{leads, ascends, all, rowSound, sound}
 use Rattle.rules.specs.Memory.{capacity, heldRows, viewRows, view}
 use Rattle.rules.proofs.SoundTest.{and-case}
 use Rattle.rules.proofs.Foreign.{rows-of-length}
+use Rattle.memory.proofs.RowSums.{total-end, total-next}
 use Rattle.state.specs.declared.pass.Totals.{Totals}
 use Rattle.state.specs.Parts.{headSound, rowsSound, tallied}
 
 -- ---- the rows from row i on
 
 module _ (rs : List Row) (i : ℕ) (h : i < length rs) where
-  total-turn : (f : Row → ℕ) → total f (drop i rs) ≡ f (rowAt i rs) + total f (drop (i + 1) rs)
-  unfolding total
-  total-turn f = ap (total f) (uncons rs i blankRow h)
-
   all-turn : (p : Row → Bool) → all p (drop i rs) ≡ (p (rowAt i rs) && all p (drop (i + 1) rs))
   unfolding all
   all-turn p = ap (all p) (uncons rs i blankRow h)
@@ -33,10 +30,6 @@ module _ (rs : List Row) (i : ℕ) (h : i < length rs) where
   ascends-turn = ap ascends (uncons rs i blankRow h)
 
 module _ (rs : List Row) (i : ℕ) (h : length rs ≤ i) where
-  total-end : (f : Row → ℕ) → total f (drop i rs) ≡ 0
-  unfolding total
-  total-end f = rw (drop-of-length-le rs h)
-
   all-end : (p : Row → Bool) → all p (drop i rs) ≡ true
   unfolding all
   all-end p = rw (drop-of-length-le rs h)
@@ -84,9 +77,9 @@ module _ (q : ℕ) (rs : List Row) (t : Totals) (i : ℕ) (p : Passing q rs t i)
       let x = at-most (ltb (r .place) 2) 1 in
       let y = at-most (eqb (r .place) 2) 1 in
       let z = at-most (ltb (r .place) 2) (r .weight) in
-      let m = total-turn rs i h (λ s. cond (inMain s) 1 0) in
-      let n = total-turn rs i h (λ s. cond (inProbation s) 1 0) in
-      let v = total-turn rs i h (λ s. cond (inMain s) (s .weight) 0) in
+      let m = total-next (λ s. cond (inMain s) 1 0) i rs h in
+      let n = total-next (λ s. cond (inProbation s) 1 0) i rs h in
+      let v = total-next (λ s. cond (inMain s) (s .weight) 0) i rs h in
       let m0 = p .mains in
       let n0 = p .probations in
       let v0 = p .weights in
@@ -110,9 +103,9 @@ pub passing-end : (q M Q w : ℕ) (rs : List Row) (t : Totals) (i : ℕ) → Pas
     → (leb (t .main) M && (leb (t .probation) Q && eqb w (t .weight))) ≡ rowsSound M Q q w rs
 unfolding rowsSound
 passing-end q M Q w rs t i p h =
-    let a : t .main ≡ countRows inMain rs = omega (arith, p .mains, total-end rs i h (λ s. cond (inMain s) 1 0)) in
-    let b : t .probation ≡ countRows inProbation rs = omega (arith, p .probations, total-end rs i h (λ s. cond (inProbation s) 1 0)) in
-    let c : t .weight ≡ weighRows inMain rs = omega (arith, p .weights, total-end rs i h (λ s. cond (inMain s) (s .weight) 0)) in
+    let a : t .main ≡ countRows inMain rs = omega (arith, p .mains, total-end (λ s. cond (inMain s) 1 0) i rs h) in
+    let b : t .probation ≡ countRows inProbation rs = omega (arith, p .probations, total-end (λ s. cond (inProbation s) 1 0) i rs h) in
+    let c : t .weight ≡ weighRows inMain rs = omega (arith, p .weights, total-end (λ s. cond (inMain s) (s .weight) 0) i rs h) in
     rw (p .each, p .keys, all-end rs i h (rowSound q), ascends-end rs i h, a, b, c) (simp and-true)
 
 -- ---- the head, and both together

@@ -11,7 +11,7 @@ ghost use Rattle.rules.specs.Memory.{cut, viewRows};
 ghost use Rattle.rules.specs.Layout.{addressSize, headSize, rowSize};
 
 // The address at byte a stands before the one at byte b: the first byte that differs decides.
-pub fn address_before(s: &[u8], a: usize, b: usize) -> bool
+fn address_before(s: &[u8], a: usize, b: usize) -> bool
     requires { ⌜ (a + addressSize ≤ length (now s)) × (b + addressSize ≤ length (now s)) ⌝ }
     ensures { λ r. ⌜ r ≡ bytesBefore (cut a addressSize (now (s .entry))) (cut b addressSize (now (s .entry))) ⌝ }
 {

@@ -2,7 +2,7 @@
 // rise) and pass are its parts. fresh makes one.
 pub mod check;
 pub mod fresh;
-pub mod head;
-pub mod key;
-pub mod pass;
-pub mod row;
+mod head;
+mod key;
+mod pass;
+mod row;

@@ -17,7 +17,7 @@ pub struct Totals {
     pub weight: u64,
 }
 
-pub fn counted(t: Totals, place: u8, weight: u8) -> Totals
+fn counted(t: Totals, place: u8, weight: u8) -> Totals
     requires { ⌜ (t .main < 2 ^ 32) × ((t .probation < 2 ^ 32) × (t .weight < 2 ^ 32)) ⌝ }
     ensures { λ r. ⌜ r ≡ tallied t place weight ⌝ }
 {
@@ -28,7 +28,7 @@ pub fn counted(t: Totals, place: u8, weight: u8) -> Totals
             weight: t.weight + weight as u64,
         };
     }
-    if place == 2 {
+    if place == PROBATION {
         return Totals {
             main: t.main,
             probation: t.probation + 1,

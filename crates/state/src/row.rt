@@ -1,7 +1,9 @@
 // What is asked of a row by itself.
 use memory::codes::HINT;
+use memory::codes::PARKED;
 use memory::codes::PROBATION;
 use memory::codes::SOME_MTU;
+use memory::codes::VERIFIED;
 use types::coord::ADDRS_PER_ENTRY;
 use types::coord::PLACES;
 ghost use mathlib.Core.Path.{_≡_};
@@ -21,7 +23,7 @@ const WEIGHT_LIMIT: u8 = LONGEST;
 // A path weighs no less.
 const LEAST: u8 = ADDRS_PER_ENTRY as u8;
 
-pub fn path_weight(len: u8) -> u8
+fn path_weight(len: u8) -> u8
     ensures { λ r. ⌜ r ≡ max addrsPerEntry len ⌝ }
 {
     if len < LEAST { LEAST } else { len }
@@ -44,7 +46,8 @@ pub fn row_is_sound(state: &[u8], n: usize, i: usize, seq: u64) -> bool
     let legal = (place <= PROBATION)
         & ((source <= HINT) & ((mark <= SOME_MTU) & ((1 <= len) & (len <= LONGEST))));
     let weighed = (least <= weight) & (weight <= WEIGHT_LIMIT);
-    let sourced = ((source == 0) | (until == 0))
-        & (((place != 2) | (source != 0)) & ((place != 1) | ((source == 0) & (first == until))));
+    let sourced = ((source == VERIFIED) | (until == 0))
+        & (((place != PROBATION) | (source != VERIFIED))
+            & ((place != PARKED) | ((source == VERIFIED) & (first == until))));
     legal & (weighed & ((stamp <= seq) & sourced))
 }

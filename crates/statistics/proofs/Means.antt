@@ -3,7 +3,7 @@ use mathlib.Core.Path.{_≡_, refl, sym, ap, _∙_, subst}
 use Prim.Native.Nat.{ℕ, zero, suc, _+_, _*_, _-_, _/_, _%_, _≤_, _<_, min}
 use native.Mathlib.Omega.{arith}
 use native.Mathlib.Numerals.{add-one}
-use native.Mathlib.Nat.{mul-comm, mul-assoc, mod-lt, div-add-mod', mul-add-div-right, div-le-of-le-mul}
+use native.Mathlib.Nat.{mul-comm, mul-assoc, div-add-mod', mul-add-div-right, div-le-of-le-mul}
 use mathlib.Core.List.{List}
 use lib.ListN.{length, drop, drop-of-length-le}
 use lib.Seq.{drop-cons}
@@ -12,8 +12,8 @@ use Rattle.rules.specs.Rows.{rowAt, blankRow, total}
 use Rattle.rules.specs.Memory.{rowsOf, viewRows}
 use Rattle.rules.specs.Cases.{maybe}
 use Rattle.rules.specs.Statistics.{totalAge, mean, nextExpiry}
+use Rattle.rules.proofs.Foreign.{view-length}
 use mathlib.Core.Option.{Option, none, some}
-use Rattle.memory.proofs.RowLaws.{view-length}
 use Rattle.memory.proofs.RowSums.{total-next, total-end}
 
 -- ---- the exact mean: high and low halves, summed apart
@@ -41,12 +41,8 @@ pub record Mean (n i q r t T : ℕ) : Type 0 where
 
 pub mean-start : (n T : ℕ) → 0 < n → Mean n 0 0 0 T T
 unfolding AtMost
-mean-start n T h = record { some-rows = h; within = omega arith; exact = omega arith; bounded = omega arith; high = omega arith; low = omega arith }
-
-pub mean-turn : (n i q r a t u T : ℕ) → n ≤ maxRows → i < n → a ≤ largest → t ≡ a + u → Mean n i q r t T → Mean n (i + 1) (q + a / half) (r + a % half) u T
-unfolding AtMost
-mean-turn n i q r a t u T k h b e m =
-    record { some-rows = m .some-rows; within = omega arith; exact = omega (arith, m .exact); bounded = omega (arith, m .bounded); high = omega (arith, m .high); low = omega (arith, m .low) }
+mean-start n T h =
+    record { some-rows = h; within = omega arith; exact = omega arith; bounded = omega arith; high = omega arith; low = omega arith }
 
 -- the sum as a multiple of the count and what is over
 over : (n q r : ℕ) → q * half + r ≡ q / n * half * n + (q % n * half + r)
@@ -62,19 +58,33 @@ high-of a h = omega arith
 plus-fits : (i q x : ℕ) → i ≤ maxRows → q ≤ i * 4294967295 → x ≤ 4294967295 → q + x < 18446744073709551616
 plus-fits i q x h g k = omega arith
 
-pub sum-fits : (n i q r t T a : ℕ) → n ≤ maxRows → a ≤ largest → Mean n i q r t T → q + a / half < 18446744073709551616
-sum-fits n i q r t T a h k m = plus-fits i q (a / half) (omega (arith, m .within)) (m .high) (high-of a k)
+module _ {n i q r t T : ℕ} (m : Mean n i q r t T) where
+  mean-turn : (a u : ℕ) → n ≤ maxRows → i < n → a ≤ largest → t ≡ a + u → Mean n (i + 1) (q + a / half) (r + a % half) u T
+  unfolding AtMost
+  mean-turn a u k h b e =
+      record {
+        some-rows = m .some-rows;
+        within = omega arith;
+        exact = omega (arith, m .exact);
+        bounded = omega (arith, m .bounded);
+        high = omega (arith, m .high);
+        low = omega (arith, m .low);
+      }
 
-pub high-fits : (n i q r t T : ℕ) → i ≡ n → Mean n i q r t T → q / n ≤ 4294967295
-high-fits n i q r t T e m = div-le-of-le-mul n (omega (arith, m .high, e, mul-comm n 4294967295))
+  pub sum-fits : (a : ℕ) → n ≤ maxRows → a ≤ largest → q + a / half < 18446744073709551616
+  sum-fits a h k = plus-fits i q (a / half) (omega (arith, m .within)) (m .high) (high-of a k)
 
-pub mean-fits : (n q r t T : ℕ) → Mean n n q r t T → q / n * half + (q % n * half + r) / n ≤ largest
-unfolding AtMost
-mean-fits n q r t T m =
-    let o = over n q r in
-    subst (λ (x : ℕ). x ≤ largest) (mul-add-div-right (m .some-rows) (q / n * half) (q % n * half + r)) (div-le-of-le-mul n (omega (arith, m .bounded, o)))
+  pub high-fits : i ≡ n → q / n ≤ 4294967295
+  high-fits e = div-le-of-le-mul n (omega (arith, m .high, e, mul-comm n 4294967295))
 
-pub mean-end : (n q r T : ℕ) → Mean n n q r 0 T → q / n * half + (q % n * half + r) / n ≡ mean T n
+  pub mean-fits : i ≡ n → q / n * half + (q % n * half + r) / n ≤ largest
+  unfolding AtMost
+  mean-fits e =
+      let d : q * half + r ≤ n * largest = rw e at (m .bounded) in
+      let o = over n q r in
+      subst (λ (x : ℕ). x ≤ largest) (mul-add-div-right (m .some-rows) (q / n * half) (q % n * half + r)) (div-le-of-le-mul n (omega (arith, d, o)))
+
+mean-end : (n q r T : ℕ) → Mean n n q r 0 T → q / n * half + (q % n * half + r) / n ≡ mean T n
 unfolding mean
 mean-end zero q r T m = absurd (let z : ⊥ = omega (arith, m .some-rows) in z)
 mean-end (suc n) q r T m =
@@ -83,23 +93,28 @@ mean-end (suc n) q r T m =
 
 -- ---- the ages of n rows
 
-pub age-turn : (l : List ℕ) (n i q r a time : ℕ) → n ≤ maxRows → i < n → time < 18446744073709551616 → a ≡ time - rowAt i (viewRows n l .rows) .entry .createdAt
-    → Mean n i q r (total (λ x. time - x .entry .createdAt) (drop i (viewRows n l .rows))) (total (λ x. time - x .entry .createdAt) (viewRows n l .rows))
-    → Mean n (i + 1) (q + a / half) (r + a % half) (total (λ x. time - x .entry .createdAt) (drop (i + 1) (viewRows n l .rows))) (total (λ x. time - x .entry .createdAt) (viewRows n l .rows))
-age-turn l n i q r a time k h b e m =
-    let f : Row → ℕ = λ x. time - x .entry .createdAt in
-    let rs = viewRows n l .rows in
-    let t : total f (drop i rs) ≡ a + total f (drop (i + 1) rs) = total-next f i rs (omega (arith, view-length n l)) ∙ ap (λ (x : ℕ). x + total f (drop (i + 1) rs)) (sym e) in
-    mean-turn n i q r a (total f (drop i rs)) (total f (drop (i + 1) rs)) (total f rs) k h (omega arith) t m
+abbrev age : ℕ → Row → ℕ
+age time x = time - x .entry .createdAt
 
-pub ages-end : (l : List ℕ) (n i q r time : ℕ) → i ≡ n
-    → Mean n i q r (total (λ x. time - x .entry .createdAt) (drop i (viewRows n l .rows))) (total (λ x. time - x .entry .createdAt) (viewRows n l .rows))
-    → q / n * half + (q % n * half + r) / n ≡ mean (totalAge time (viewRows n l .rows)) n
-unfolding totalAge
-ages-end l n i q r time e m =
-    let f : Row → ℕ = λ x. time - x .entry .createdAt in
-    let rs = viewRows n l .rows in
-    mean-end n q r (total f rs) (subst (λ (x : ℕ). Mean n n q r x (total f rs)) (total-end f n rs (omega (arith, view-length n l))) (subst (λ (x : ℕ). Mean n x q r (total f (drop x rs)) (total f rs)) e m))
+-- the ages of the first i rows were summed
+abbrev pub Ages : List ℕ → ℕ → ℕ → ℕ → ℕ → ℕ → Type 0
+Ages l n time i q r = Mean n i q r (total (age time) (drop i (viewRows n l .rows))) (total (age time) (viewRows n l .rows))
+
+module _ (l : List ℕ) (n time i q r : ℕ) (m : Ages l n time i q r) where
+  pub age-turn : (a : ℕ) → n ≤ maxRows → i < n → time < 18446744073709551616 → a ≡ time - rowAt i (viewRows n l .rows) .entry .createdAt
+      → Ages l n time (i + 1) (q + a / half) (r + a % half)
+  age-turn a k h b e =
+      let rs = viewRows n l .rows in
+      let t : total (age time) (drop i rs) ≡ a + total (age time) (drop (i + 1) rs) =
+      total-next (age time) i rs (omega (arith, view-length n l)) ∙ ap (λ (x : ℕ). x + total (age time) (drop (i + 1) rs)) (sym e) in
+      mean-turn m a (total (age time) (drop (i + 1) rs)) k h (omega arith) t
+
+  pub ages-end : i ≡ n → q / n * half + (q % n * half + r) / n ≡ mean (totalAge time (viewRows n l .rows)) n
+  unfolding totalAge
+  ages-end e =
+      let rs = viewRows n l .rows in
+      let w : Ages l n time n q r = subst (λ (x : ℕ). Ages l n time x q r) e m in
+      mean-end n q r (total (age time) rs) (subst (λ (x : ℕ). Mean n n q r x (total (age time) rs)) (total-end (age time) n rs (omega (arith, view-length n l))) w)
 
 -- ---- the smallest expiry
 

@@ -1,5 +1,5 @@
 -- stats and the next expiry.
-use mathlib.Core.Path.{_≡_, refl, sym, ap, _∙_}
+use mathlib.Core.Path.{_≡_, refl, ap, _∙_}
 use Prim.Native.Nat.{ℕ}
 use mathlib.Core.List.{List}
 use mathlib.Core.Bool.{true}
@@ -14,19 +14,20 @@ use Rattle.rules.specs.Answers.{statsSaid, expirySaid}
 use Rattle.rules.specs.Memory.{capacity, viewRows, view}
 use Rattle.rules.specs.Lent.{Bytes, call}
 use Rattle.rules.proofs.Public.{sound-memory}
-use Rattle.refusals.proofs.ReadCalls.{read-answer, read-memory}
-use Rattle.refusals.proofs.SoundCalls.{not-refused}
+use Rattle.refusals.proofs.SoundCalls.{done-rows, not-refused}
 
-pub stats-done : (l : List ℕ) (n time : ℕ) (c : CacheStats) → sound (capacity l) (view l) ≡ true → n ≡ viewRows 0 l .rowCount → Bytes l → c ≡ stats time (viewRows n l) → (statsSaid (StatsAnswer.Stats c) ≡ call l (Stats time) .answer) × (l ≡ call l (Stats time) .memory)
-unfolding perform gives statsSaid pathGiven verifiedWrite drawsStamps
-stats-done l n time c h k b e =
-    let s = sound-memory l n h k in
-    let a = not-refused l (Stats time) h refl refl refl in
-    (ap StatsGiven e ∙ sym (read-answer l n (Stats time) s a b refl), read-memory l n (Stats time) s a b refl)
+-- the rows that were counted answer, and the memory is left
+module _ (l : List ℕ) (n : ℕ) (h : sound (capacity l) (view l) ≡ true) (k : n ≡ viewRows 0 l .rowCount) (b : Bytes l) where
+  pub stats-done : (time : ℕ) (c : CacheStats) → c ≡ stats time (viewRows n l)
+      → (statsSaid (StatsAnswer.Stats c) ≡ call l (Stats time) .answer) × (l ≡ call l (Stats time) .memory)
+  unfolding perform gives statsSaid pathGiven verifiedWrite drawsStamps
+  stats-done time c e =
+      let d = done-rows (sound-memory l n h k) (Stats time) l n (not-refused l (Stats time) h refl refl refl) b refl refl in
+      (ap StatsGiven e ∙ d .answer, d .memory)
 
-pub expiry-done : (l : List ℕ) (n : ℕ) (r : ExpiryAnswer) → sound (capacity l) (view l) ≡ true → n ≡ viewRows 0 l .rowCount → Bytes l → expirySaid r ≡ ExpiryGiven (nextExpiry (viewRows n l .rows)) → (expirySaid r ≡ call l NextExpiry .answer) × (l ≡ call l NextExpiry .memory)
-unfolding perform gives pathGiven verifiedWrite drawsStamps
-expiry-done l n r h k b e =
-    let s = sound-memory l n h k in
-    let a = not-refused l NextExpiry h refl refl refl in
-    (e ∙ sym (read-answer l n NextExpiry s a b refl), read-memory l n NextExpiry s a b refl)
+  pub expiry-done : (r : ExpiryAnswer) → expirySaid r ≡ ExpiryGiven (nextExpiry (viewRows n l .rows))
+      → (expirySaid r ≡ call l NextExpiry .answer) × (l ≡ call l NextExpiry .memory)
+  unfolding perform gives pathGiven verifiedWrite drawsStamps
+  expiry-done r e =
+      let d = done-rows (sound-memory l n h k) NextExpiry l n (not-refused l NextExpiry h refl refl refl) b refl refl in
+      (e ∙ d .answer, d .memory)

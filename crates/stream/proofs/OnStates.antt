@@ -12,41 +12,41 @@ use Rattle.rules.specs.Records.{State}
 use Rattle.rules.specs.Memory.{capacity, view}
 use Rattle.rules.specs.Refusals.{Asked, Request, serve}
 use Rattle.rules.specs.Lent.{Bytes, PathFits, TypedRequest, lent}
-use Rattle.rules.specs.Commands.{Command, Decoded, Element, Output, Plain, Session, WithPath, decode, line, obeyed, runCommands, takesPath, obey as obeyState, pended as pendedState, refusedSix as sixState}
+use Rattle.rules.specs.Commands.{Command, Decoded, Element, Output, Plain, WithPath, decode, line, obeyed, runCommands, takesPath, obey as obeyState, pended as pendedState, refusedSix as sixState, Session as StateSession}
 use Rattle.rules.proofs.RowLists.{by-cond}
 use Rattle.rules.proofs.MemoryLaws.{bytes-drop}
 use Rattle.rules.proofs.LentMemory.{capacity-same, lent-request}
-use Rattle.commands.specs.OnMemory.{Held, answered, obey, pended, refusedSix}
-use Rattle.commands.proofs.Typing.{Fitting, command-fits, empty-fits, pending-fits}
+use Rattle.commands.specs.OnMemory.{Session, answered, obey, pended, refusedSix}
+use Rattle.commands.proofs.TypedCommands.{Fitting, command-fits, empty-fits, pending-fits}
 use Rattle.stream.specs.Runs.{Run, operands, runAll}
 use Rattle.stream.proofs.OneCommand.{takes-operands}
 
--- what is held, as a session of the rules
-abbrev pub sessionOf : Held → Session
-sessionOf h = record { state = view (h .memory); pending = h .pending }
+-- a session as the rules have it: on the state that the memory shows
+abbrev pub viewed : Session → StateSession
+viewed h = record { state = view (h .memory); pending = h .pending }
 
--- what is held is of its types
-pub record HeldFits (h : Held) : Type 0 where
+-- memory and pending path are of their types
+pub record SessionFits (h : Session) : Type 0 where
   pub bytes : Bytes (h .memory)
   pub pending : PathFits (h .pending)
 
 -- ---- one command
 
-record SameAfter (h k : Held) (r q : Reply) (s : Session) : Type 0 where
-  fits : HeldFits k
+record SameAfter (h k : Session) (r q : Reply) (s : StateSession) : Type 0 where
+  fits : SessionFits k
   size : length (k .memory) ≡ length (h .memory)
   reply : r ≡ q
-  session : sessionOf k ≡ s
+  session : viewed k ≡ s
 
-served-same : (h : Held) (x : Request) (p : Path) → HeldFits h → TypedRequest x → PathFits p
-    → let t = answered (lent (h .memory) x) p in let u = obeyed (serve (capacity (h .memory)) (view (h .memory)) x) p in SameAfter h (t .held) (t .reply) (u .reply) (u .session)
+served-same : (h : Session) (x : Request) (p : Path) → SessionFits h → TypedRequest x → PathFits p
+    → let t = answered (lent (h .memory) x) p in let u = obeyed (serve (capacity (h .memory)) (view (h .memory)) x) p in SameAfter h (t .session) (t .reply) (u .reply) (u .session)
 unfolding answered obeyed lent
 served-same h x p f g y =
     let o = lent-request (h .memory) x (f .bytes) g in
     record { fits = record { bytes = o .bytes; pending = y }; size = o .size; reply = refl; session = ap (λ (s : State). record { state = s; pending = p }) (o .state) }
 
-obeyed-same : (h : Held) (c : Command) → HeldFits h → Fitting (h .pending) c
-    → let t = obey h c in let u = obeyState (capacity (h .memory)) (sessionOf h) c in SameAfter h (t .held) (t .reply) (u .reply) (u .session)
+obeyed-same : (h : Session) (c : Command) → SessionFits h → Fitting (h .pending) c
+    → let t = obey h c in let u = obeyState (capacity (h .memory)) (viewed h) c in SameAfter h (t .session) (t .reply) (u .reply) (u .session)
 unfolding obey obeyState pended pendedState
 obeyed-same h (Element e) f g = record { fits = record { bytes = f .bytes; pending = pending-fits (h .pending) e (f .pending) g }; size = refl; reply = refl; session = refl }
 obeyed-same h (WithPath q) f g = served-same h (Asked (q (h .pending))) emptyPath f g empty-fits
@@ -54,7 +54,7 @@ obeyed-same h (Plain x) f g = served-same h x (h .pending) f g (f .pending)
 
 -- a decoded command is of its types
 pub decoded-fits : (b : ℕ) (bs : List ℕ) (d : Decoded) (p : Path) → decode b bs ≡ some d → Bytes bs → PathFits p → Fitting p (d .command)
-decoded-fits b bs d p e y f = let t = takes-operands b bs d e in command-fits b bs p (d .command) (t .whole) y f (t .reads)
+decoded-fits b bs d p e y f = command-fits p (takes-operands b bs d e .reads) y f
 
 pub left-bytes : (b : ℕ) (bs : List ℕ) (d : Decoded) → decode b bs ≡ some d → Bytes bs → Bytes (d .left)
 left-bytes b bs d e y = rw (takes-operands b bs d e .left) (bytes-drop (operands b bs) bs y)
@@ -62,15 +62,15 @@ left-bytes b bs d e y = rw (takes-operands b bs d e .left) (bytes-drop (operands
 -- ---- a stream
 
 -- the same lines, state and pending path, and as many bytes
-pub record SameRun (h : Held) (r : Run) (o : Output) : Type 0 where
+pub record SameRun (h : Session) (r : Run) (o : Output) : Type 0 where
   pub lines : r .lines ≡ o .lines
-  pub state : view (r .held .memory) ≡ o .session .state
-  pub pending : r .held .pending ≡ o .session .pending
-  pub size : length (r .held .memory) ≡ length (h .memory)
-  pub fits : HeldFits (r .held)
+  pub state : view (r .session .memory) ≡ o .session .state
+  pub pending : r .session .pending ≡ o .session .pending
+  pub size : length (r .session .memory) ≡ length (h .memory)
+  pub fits : SessionFits (r .session)
 
 -- A STREAM RUNS ON MEMORY AS IT RUNS ON STATES, from any memory of bytes
-pub on-states : (n : ℕ) (h : Held) (bs : List ℕ) → HeldFits h → Bytes bs → SameRun h (runAll n h bs) (runCommands n (capacity (h .memory)) (sessionOf h) bs)
+pub on-states : (n : ℕ) (h : Session) (bs : List ℕ) → SessionFits h → Bytes bs → SameRun h (runAll n h bs) (runCommands n (capacity (h .memory)) (viewed h) bs)
 unfolding runAll runCommands
 on-states zero h bs f y = record { lines = refl; state = refl; pending = refl; size = refl; fits = f }
 on-states (suc n) h [] f y = record { lines = refl; state = refl; pending = refl; size = refl; fits = f }
@@ -79,17 +79,17 @@ on-states (suc n) h (b ∷ bs) f y = go (decode b bs) refl (λ k l g z. on-state
     R : ℕ
     R = capacity (h .memory)
 
-    after : (k : Held) (s : Session) (l : List ℕ) → capacity (k .memory) ≡ R → sessionOf k ≡ s → SameRun k (runAll n k l) (runCommands n (capacity (k .memory)) (sessionOf k) l) → SameRun k (runAll n k l) (runCommands n R s l)
-    after k s l c e t = subst (λ (u : Session). SameRun k (runAll n k l) (runCommands n R u l)) e (subst (λ (m : ℕ). SameRun k (runAll n k l) (runCommands n m (sessionOf k) l)) c t)
+    after : (k : Session) (s : StateSession) (l : List ℕ) → capacity (k .memory) ≡ R → viewed k ≡ s → SameRun k (runAll n k l) (runCommands n (capacity (k .memory)) (viewed k) l) → SameRun k (runAll n k l) (runCommands n R s l)
+    after k s l c e t = subst (λ (u : StateSession). SameRun k (runAll n k l) (runCommands n R u l)) e (subst (λ (m : ℕ). SameRun k (runAll n k l) (runCommands n m (viewed k) l)) c t)
 
-    go : (o : Option Decoded) → decode b bs ≡ o → ((k : Held) (l : List ℕ) → HeldFits k → Bytes l → SameRun k (runAll n k l) (runCommands n (capacity (k .memory)) (sessionOf k) l))
-        → SameRun h (maybe o (record { lines = line b (refusedSix b h .reply) ∷ []; held = refusedSix b h .held }) (λ d. let t = obey h (d .command) in let later = runAll n (t .held) (d .left) in record { lines = line b (t .reply) ∷ later .lines; held = later .held }))
-        (maybe o (record { lines = line b (sixState b (sessionOf h) .reply) ∷ []; session = sixState b (sessionOf h) .session }) (λ d. let t = obeyState R (sessionOf h) (d .command) in let later = runCommands n R (t .session) (d .left) in record { lines = line b (t .reply) ∷ later .lines; session = later .session }))
+    go : (o : Option Decoded) → decode b bs ≡ o → ((k : Session) (l : List ℕ) → SessionFits k → Bytes l → SameRun k (runAll n k l) (runCommands n (capacity (k .memory)) (viewed k) l))
+        → SameRun h (maybe o (record { lines = line b (refusedSix b h .reply) ∷ []; session = refusedSix b h .session }) (λ d. let t = obey h (d .command) in let later = runAll n (t .session) (d .left) in record { lines = line b (t .reply) ∷ later .lines; session = later .session }))
+        (maybe o (record { lines = line b (sixState b (viewed h) .reply) ∷ []; session = sixState b (viewed h) .session }) (λ d. let t = obeyState R (viewed h) (d .command) in let later = runCommands n R (t .session) (d .left) in record { lines = line b (t .reply) ∷ later .lines; session = later .session }))
     go none e ih = unfold refusedSix sixState in record { lines = refl; state = refl; pending = refl; size = refl; fits = record { bytes = f .bytes; pending = by-cond PathFits (takesPath b) (λ x. empty-fits) (λ x. f .pending) } }
     go (some d) e ih =
         let t = obeyed-same h (d .command) f (decoded-fits b bs d (h .pending) e (y .1) (f .pending)) in
-        let k = obey h (d .command) .held in
-        let s = obeyState R (sessionOf h) (d .command) .session in
+        let k = obey h (d .command) .session in
+        let s = obeyState R (viewed h) (d .command) .session in
         let c : capacity (k .memory) ≡ R = capacity-same (h .memory) (k .memory) (t .size) in
         let z = after k s (d .left) c (t .session) (ih k (d .left) (t .fits) (left-bytes b bs d e (y .1))) in
         record { lines = cc (t .reply, z .lines); state = z .state; pending = z .pending; size = z .size ∙ t .size; fits = z .fits }

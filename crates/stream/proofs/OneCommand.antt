@@ -23,8 +23,8 @@ use Rattle.rules.proofs.Addresses.{contradiction}
 use Rattle.rules.proofs.Refused.{Iff, refusal-number, refused-one-to-five}
 use Rattle.rules.proofs.CommandRuns.{reply-number}
 use Rattle.commands.specs.Widths.{widthOf}
-use Rattle.commands.specs.OnMemory.{Held, answered, obey, obeyByte, obeyWhole, pended, refusedSix, reads, whole}
-use Rattle.commands.proofs.Operands.{known}
+use Rattle.commands.specs.OnMemory.{Session, answered, obey, obeyByte, pended, refusedSix}
+use Rattle.commands.proofs.Operands.{Reads, unknown-none}
 use Rattle.stream.specs.Runs.{cutShort, operands}
 
 -- ---- a known code and an unknown one
@@ -45,34 +45,12 @@ cut-at : (b : ℕ) (bs : List ℕ) (c : Code) → codeOf b codes ≡ some c → 
 unfolding cutShort widthOf
 cut-at b bs c e = rw e
 
-reads-at : (b : ℕ) (bs : List ℕ) (c : Code) → codeOf b codes ≡ some c → reads b bs ≡ c .reads (take (c .width) bs)
-unfolding reads
-reads-at b bs c e = rw e
-
-whole-at : (b : ℕ) (bs : List ℕ) (c : Code) → codeOf b codes ≡ some c → whole b bs ≡ leb (c .width) (length bs)
-unfolding whole
-whole-at b bs c e = rw e
-
--- AN UNKNOWN CODE STAYS UNKNOWN, whatever follows it
-pub unknown-none : (b : ℕ) (bs : List ℕ) → widthOf b ≡ none → decode b bs ≡ none
-unfolding decode widthOf
-unknown-none b bs = go (codeOf b codes)
-  where
-    go : (o : Option Code) → maybe o none (λ c. some (c .width)) ≡ none → maybe o none (λ c. cond (leb (c .width) (length bs)) (taken c bs) none) ≡ none
-    go none e = refl
-    go (some c) e = contradiction {b = true} refl (cc)
-
-code-none : (b : ℕ) (bs : List ℕ) → codeOf b codes ≡ none → decode b bs ≡ none
-unfolding decode
-code-none b bs e = rw e
-
 -- ---- the bytes that a command takes
 
 pub record Takes (b : ℕ) (bs : List ℕ) (d : Decoded) : Type 0 where
   pub notCut : cutShort b bs ≡ false
   pub left : d .left ≡ drop (operands b bs) bs
-  pub whole : whole b bs ≡ true
-  pub reads : reads b bs ≡ some (d .command)
+  pub reads : Reads b bs (d .command)
 
 -- A COMMAND TAKES ITS OPERANDS AND NO MORE
 pub takes-operands : (b : ℕ) (bs : List ℕ) (d : Decoded) → decode b bs ≡ some d → Takes b bs d
@@ -91,13 +69,12 @@ takes-operands b bs d = go (codeOf b codes) refl
         record {
           notCut = cut-at b bs c e ∙ le-ltb (length bs) (c .width) w;
           left = sym l ∙ ap (λ (n : ℕ). drop n bs) (let z : c .width ≡ operands b bs = omega (arith, operands-at b bs c e) in z);
-          whole = whole-at b bs c e ∙ f;
-          reads = reads-at b bs c e ∙ g ∙ ap some x;
+          reads = record { code = c; known = e; there = w; says = g ∙ ap some x };
         }
     at c e false f o g h = nothing h
 
     go : (o : Option Code) → codeOf b codes ≡ o → decode b bs ≡ some d → Takes b bs d
-    go none e h = nothing (sym (code-none b bs e) ∙ h)
+    go none e h = nothing (sym (unknown-none b bs e) ∙ h)
     go (some c) e h = at c e (leb (c .width) (length bs)) refl (c .reads (take (c .width) bs)) refl (sym (decode-at b bs c e) ∙ h)
 
 pub left-shorter : (b : ℕ) (bs : List ℕ) (d : Decoded) → decode b bs ≡ some d → length (d .left) ≤ length bs
@@ -110,26 +87,6 @@ cut-none b bs h = go (decode b bs) refl
     go : (o : Option Decoded) → decode b bs ≡ o → decode b bs ≡ none
     go none e = e
     go (some d) e = contradiction h (takes-operands b bs d e .notCut)
-
--- A COMMAND WHOSE OPERANDS ARE ALL THERE
-pub obeyed-whole : (h : Held) (b : ℕ) (bs : List ℕ) → whole b bs ≡ true → obeyByte h b bs ≡ obeyWhole h b bs
-unfolding obeyByte obeyWhole
-obeyed-whole h b bs w =
-    let k = known b bs w in
-    let c = k .code in
-    let x : decode b bs ≡ taken c bs = decode-at b bs c (k .is) ∙ ap (λ (a : Bool). cond a (taken c bs) none) (le-leb (c .width) (length bs) (k .there)) in
-    ap (λ (o : Option Decoded). maybe o (refusedSix b h) (λ d. obey h (d .command))) x ∙ read (c .reads (take (c .width) bs)) (drop (c .width) bs) ∙ ap (λ (o : Option Command). maybe o (refusedSix b h) (obey h)) (sym (reads-at b bs c (k .is)))
-  where
-    read : (o : Option Command) (l : List ℕ) → maybe {A = Decoded} (maybe o none (λ q. some (record { command = q; left = l }))) (refusedSix b h) (λ d. obey h (d .command)) ≡ maybe o (refusedSix b h) (obey h)
-    read none l = refl
-    read (some q) l = refl
-
-pub not-whole : (b : ℕ) (bs : List ℕ) → whole b bs ≡ false → decode b bs ≡ none
-not-whole b bs h = go (decode b bs) refl
-  where
-    go : (o : Option Decoded) → decode b bs ≡ o → decode b bs ≡ none
-    go none e = e
-    go (some d) e = contradiction (takes-operands b bs d e .whole) h
 
 -- ---- bytes behind it
 
@@ -154,7 +111,7 @@ more-same b bs more h = go (codeOf b codes) refl
         x ∙ z ∙ ap (andMore more) (sym y)
 
     go : (o : Option Code) → codeOf b codes ≡ o → decode b (bs ++ more) ≡ andMore more (decode b bs)
-    go none e = code-none b (bs ++ more) e ∙ ap (andMore more) (sym (code-none b bs e))
+    go none e = unknown-none b (bs ++ more) e ∙ ap (andMore more) (sym (unknown-none b bs e))
     go (some c) e = at c e (ltb-false (length bs) (c .width) (sym (cut-at b bs c e) ∙ h))
 
 pub none-stays : (b : ℕ) (bs more : List ℕ) → cutShort b bs ≡ false → decode b bs ≡ none → decode b (bs ++ more) ≡ none
@@ -165,21 +122,15 @@ some-stays b bs more d e = more-same b bs more (takes-operands b bs d e .notCut)
 
 -- ITS OWN BYTES ARE ENOUGH
 pub own-bytes : (b : ℕ) (bs : List ℕ) (d : Decoded) → decode b bs ≡ some d → decode b (take (operands b bs) bs) ≡ some (record { command = d .command; left = [] })
-own-bytes b bs d e = go (codeOf b codes) refl
-  where
-    at : (c : Code) → codeOf b codes ≡ some c → decode b (take (c .width) bs) ≡ some (record { command = d .command; left = [] })
-    at c f =
-        let t = takes-operands b bs d e in
-        let w : c .width ≤ length bs = leb-true (c .width) (length bs) (sym (whole-at b bs c f) ∙ t .whole) in
-        let n : length (take (c .width) bs) ≡ c .width = length-take-le (c .width) bs w in
-        let r : c .reads (take (c .width) bs) ≡ some (d .command) = sym (reads-at b bs c f) ∙ t .reads in
-        let x : take (c .width) (take (c .width) bs) ≡ take (c .width) bs = subst (λ (k : ℕ). take k (take (c .width) bs) ≡ take (c .width) bs) n (take-length (take (c .width) bs)) in
-        let y : drop (c .width) (take (c .width) bs) ≡ [] = subst (λ (k : ℕ). drop k (take (c .width) bs) ≡ []) n (drop-length (take (c .width) bs)) in
-        decode-at b (take (c .width) bs) c f ∙ ap (λ (a : Bool). cond a (taken c (take (c .width) bs)) none) (le-leb (c .width) (length (take (c .width) bs)) (omega (arith, n))) ∙ rw (x, y, r)
-
-    go : (o : Option Code) → codeOf b codes ≡ o → decode b (take (operands b bs) bs) ≡ some (record { command = d .command; left = [] })
-    go none f = contradiction {b = true} refl (let z : none ≡ some d = sym (code-none b bs f) ∙ e in cc)
-    go (some c) f = let w : c .width ≤ length bs = leb-true (c .width) (length bs) (sym (whole-at b bs c f) ∙ takes-operands b bs d e .whole) in subst (λ (k : ℕ). decode b (take k bs) ≡ some (record { command = d .command; left = [] })) (let z : c .width ≡ operands b bs = omega (arith, operands-at b bs c f) in z) (at c f)
+own-bytes b bs d e =
+    let r = takes-operands b bs d e .reads in
+    let c = r .code in
+    let own = take (c .width) bs in
+    let n : length own ≡ c .width = length-take-le (c .width) bs (r .there) in
+    let x : take (c .width) own ≡ own = subst (λ (k : ℕ). take k own ≡ own) n (take-length own) in
+    let y : drop (c .width) own ≡ [] = subst (λ (k : ℕ). drop k own ≡ []) n (drop-length own) in
+    let z : operands b bs ≡ c .width = omega (arith, operands-at b bs c (r .known), r .there) in
+    rw (z, decode-at b own c (r .known), le-leb (c .width) (length own) (omega (arith, n)), x, y, r .says)
 
 -- ---- number 6
 
@@ -195,7 +146,7 @@ unfolding answered lent
 answered-below-six l x p = below-six (capacity l) (view l) x
 
 -- what a command says is below 6
-pub obeyed-below-six : (h : Held) (c : Command) → obey h c .reply .refusal ≤ 5
+pub obeyed-below-six : (h : Session) (c : Command) → obey h c .reply .refusal ≤ 5
 unfolding obey pended appended says refuses
 obeyed-below-six h (Element e) = go (ltb (h .pending .len) pathPlaces)
   where
@@ -206,7 +157,7 @@ obeyed-below-six h (WithPath f) = answered-below-six (h .memory) (Asked (f (h .p
 obeyed-below-six h (Plain x) = answered-below-six (h .memory) x (h .pending)
 
 -- NUMBER 6 IS GIVEN EXACTLY IF THE BYTES MAKE NO COMMAND
-pub six-exactly : (h : Held) (b : ℕ) (bs : List ℕ) → Iff (obeyByte h b bs .reply .refusal ≡ 6) (decode b bs ≡ none)
+pub six-exactly : (h : Session) (b : ℕ) (bs : List ℕ) → Iff (obeyByte h b bs .reply .refusal ≡ 6) (decode b bs ≡ none)
 unfolding obeyByte refusedSix refuses
 six-exactly h b bs = go (decode b bs)
   where

@@ -21,7 +21,7 @@ use Rattle.rules.specs.Records.{State}
 use Rattle.rules.specs.Refusals.{Asked, Fresh, Request, badSize, fresh, gives, performRequest, refusal, serve}
 use Rattle.rules.specs.Lists.{Event}
 use Rattle.rules.specs.Lent.{Bytes, PathFits, Small, Typed, TypedRequest, call, calls, lent, requests}
-use Rattle.rules.specs.Commands.{Code, Command, Decoded, Element, Line, Plain, Session, WithPath, code, codes, coordrun, decode, funded, line, runCommands, coordrunRows}
+use Rattle.rules.specs.Commands.{Code, Command, Decoded, Element, Line, Plain, WithPath, code, codes, coordrun, decode, funded, line, runCommands, coordrunRows, Session as StateSession}
 use Rattle.rules.proofs.Addresses.{contradiction}
 use Rattle.rules.proofs.MemoryLaws.{bytes-take}
 use Rattle.rules.proofs.LentMemory.{calls-run, freshened, lent-request, refused-leaves, tailOf, third-demand-of-bytes}
@@ -30,43 +30,43 @@ use Rattle.rules.proofs.Foreign.{rows-of-length}
 use Rattle.rules.proofs.Sizes.{copies-bytes, small8}
 use Rattle.rules.proofs.Refused.{fresh-refusal}
 use Rattle.rules.specs.Layout.{headSize, memorySize, rowSize}
-use Rattle.commands.specs.OnMemory.{Held, answered, held, obey, pended, reads, refusedSix}
-use Rattle.commands.proofs.Operands.{known, of-whole}
-use Rattle.commands.proofs.Typing.{Fitting, empty-fits, pending-fits}
+use Rattle.commands.specs.OnMemory.{Session, answered, session, obey, pended, refusedSix}
+use Rattle.commands.proofs.Operands.{of-code}
+use Rattle.commands.proofs.TypedCommands.{Fitting, empty-fits, pending-fits}
 use Rattle.stream.specs.declared.stop.Stop.the-variants.{Six}
 use Rattle.stream.specs.Runs.{Run, runAll, runPart}
 use Rattle.stream.specs.Streams.{DemandSince, Since, asked, begun, pendingAfter, repliesShown, repliesTo, requestsFrom, requestsOf, serving, since, then, toEnd}
 use Rattle.stream.proofs.OneCommand.{obeyed-below-six, takes-operands}
 use Rattle.stream.proofs.NothingLost.{part-done, part-done-by-six}
-use Rattle.stream.proofs.OnStates.{HeldFits, decoded-fits, left-bytes, on-states, sessionOf}
+use Rattle.stream.proofs.OnStates.{SessionFits, decoded-fits, left-bytes, on-states, viewed}
 
 -- ---- its requests
 
-pending-is : (h : Held) (c : Command) → obey h c .held .pending ≡ pendingAfter (h .pending) c
+pending-is : (h : Session) (c : Command) → obey h c .session .pending ≡ pendingAfter (h .pending) c
 unfolding obey pended answered pendingAfter
 pending-is h (Element e) = refl
 pending-is h (WithPath f) = refl
 pending-is h (Plain x) = refl
 
-memory-is : (h : Held) (c : Command) (xs : List Request) → requests (obey h c .held .memory) xs .memory ≡ requests (h .memory) (asked (h .pending) c ++ xs) .memory
+memory-is : (h : Session) (c : Command) (xs : List Request) → requests (obey h c .session .memory) xs .memory ≡ requests (h .memory) (asked (h .pending) c ++ xs) .memory
 unfolding obey pended answered asked requests
 memory-is h (Element e) xs = refl
 memory-is h (WithPath f) xs = refl
 memory-is h (Plain x) xs = refl
 
 -- THE MEMORY AFTER A STREAM IS THAT AFTER ITS REQUESTS
-pub memory-after : (n : ℕ) (h : Held) (bs : List ℕ) → runAll n h bs .held .memory ≡ requests (h .memory) (requestsFrom n (h .pending) bs) .memory
+pub memory-after : (n : ℕ) (h : Session) (bs : List ℕ) → runAll n h bs .session .memory ≡ requests (h .memory) (requestsFrom n (h .pending) bs) .memory
 unfolding runAll requestsFrom requests
 memory-after zero h bs = refl
 memory-after (suc n) h [] = refl
 memory-after (suc n) h (b ∷ bs) = go (decode b bs) (λ k l. memory-after n k l)
   where
-    go : (o : Option Decoded) → ((k : Held) (l : List ℕ) → runAll n k l .held .memory ≡ requests (k .memory) (requestsFrom n (k .pending) l) .memory)
-        → maybe {B = Run} o (record { lines = line b (refusedSix b h .reply) ∷ []; held = refusedSix b h .held }) (λ d. let t = obey h (d .command) in let later = runAll n (t .held) (d .left) in record { lines = line b (t .reply) ∷ later .lines; held = later .held }) .held .memory
+    go : (o : Option Decoded) → ((k : Session) (l : List ℕ) → runAll n k l .session .memory ≡ requests (k .memory) (requestsFrom n (k .pending) l) .memory)
+        → maybe {B = Run} o (record { lines = line b (refusedSix b h .reply) ∷ []; session = refusedSix b h .session }) (λ d. let t = obey h (d .command) in let later = runAll n (t .session) (d .left) in record { lines = line b (t .reply) ∷ later .lines; session = later .session }) .session .memory
         ≡ requests (h .memory) (maybe o [] (λ d. asked (h .pending) (d .command) ++ requestsFrom n (pendingAfter (h .pending) (d .command)) (d .left))) .memory
     go none ih = unfold refusedSix in refl
     go (some d) ih =
-        let k = obey h (d .command) .held in
+        let k = obey h (d .command) .session in
         ih k (d .left) ∙ ap (λ (p : Path). requests (k .memory) (requestsFrom n p (d .left)) .memory) (pending-is h (d .command)) ∙ memory-is h (d .command) (requestsFrom n (pendingAfter (h .pending) (d .command)) (d .left))
 
 -- ---- what its lines show
@@ -97,19 +97,16 @@ unfolding codes code isElement
 all-marked = (λ o q e. marked-some _ q e, (λ o q e. marked-some _ q e, (λ o q e. marked-some _ q e, (λ o q e. marked-some _ q e, (λ o q e. marked-funded o _ q e, (λ o q e. marked-funded o _ q e, (λ o q e. marked-some _ q e, (λ o q e. marked-some _ q e, (λ o q e. marked-some _ q e, (λ o q e. marked-some _ q e, (λ o q e. marked-some _ q e, (λ o q e. marked-some _ q e, (λ o q e. marked-some _ q e, (λ o q e. marked-some _ q e, (λ o q e. marked-some _ q e, (λ o q e. marked-some _ q e, (λ o q e. marked-some _ q e, (λ o q e. marked-some _ q e, (λ o q e. marked-some _ q e, tt)))))))))))))))))))
 
 element-code : (b : ℕ) (bs : List ℕ) (d : Decoded) → decode b bs ≡ some d → isElement (d .command) ≡ eqb b 0x01
-unfolding reads
 element-code b bs d e =
-    let t = takes-operands b bs d e in
-    let k = known b bs (t .whole) in
-    let g = of-whole Marked b bs all-marked (t .whole) k in
-    let r : k .code .reads (take (k .code .width) bs) ≡ some (d .command) = sym (ap (λ (o : Option Code). maybe o none (λ c. c .reads (take (c .width) bs))) (k .is)) ∙ t .reads in
-    g .1 (take (k .code .width) bs) (d .command) r ∙ ap (λ (n : ℕ). eqb n 0x01) (sym (g .0))
+    let r = takes-operands b bs d e .reads in
+    let g = of-code Marked b codes (r .code) all-marked (r .known) in
+    g .1 (take (r .code .width) bs) (d .command) (r .says) ∙ ap (λ (n : ℕ). eqb n 0x01) (sym (g .0))
 
 shown : (b : ℕ) (r : Reply) (ls : List Line) → r .refusal ≤ 5 → repliesShown (line b r ∷ ls) ≡ cond (eqb b 0x01) (repliesShown ls) (r ∷ repliesShown ls)
 unfolding repliesShown line
 shown b r ls h = rw (ne-eqb (r .refusal) 6 (λ e. let z : ⊥ = omega arith in z))
 
-replies-are : (h : Held) (c : Command) (b : ℕ) (xs : List Request) (ls : List Line) → isElement c ≡ eqb b 0x01 → repliesShown ls ≡ repliesTo (requests (obey h c .held .memory) xs .served)
+replies-are : (h : Session) (c : Command) (b : ℕ) (xs : List Request) (ls : List Line) → isElement c ≡ eqb b 0x01 → repliesShown ls ≡ repliesTo (requests (obey h c .session .memory) xs .served)
     → repliesShown (line b (obey h c .reply) ∷ ls) ≡ repliesTo (requests (h .memory) (asked (h .pending) c ++ xs) .served)
 unfolding isElement obey pended answered asked requests repliesTo
 replies-are h (Element e) b xs ls m ih = shown b (obey h (Element e) .reply) ls (obeyed-below-six h (Element e)) ∙ rw (← m) ih
@@ -117,18 +114,18 @@ replies-are h (WithPath f) b xs ls m ih = shown b (obey h (WithPath f) .reply) l
 replies-are h (Plain x) b xs ls m ih = shown b (obey h (Plain x) .reply) ls (obeyed-below-six h (Plain x)) ∙ rw (← m) (ap (λ (rs : List Reply). obey h (Plain x) .reply ∷ rs) ih)
 
 -- THE LINES SHOW THE REPLIES TO THE STREAM'S REQUESTS, each in its turn
-pub replies-shown : (n : ℕ) (h : Held) (bs : List ℕ) → repliesShown (runAll n h bs .lines) ≡ repliesTo (requests (h .memory) (requestsFrom n (h .pending) bs) .served)
+pub replies-shown : (n : ℕ) (h : Session) (bs : List ℕ) → repliesShown (runAll n h bs .lines) ≡ repliesTo (requests (h .memory) (requestsFrom n (h .pending) bs) .served)
 unfolding runAll requestsFrom requests repliesShown repliesTo
 replies-shown zero h bs = refl
 replies-shown (suc n) h [] = refl
 replies-shown (suc n) h (b ∷ bs) = go (decode b bs) refl (λ k l. replies-shown n k l)
   where
-    go : (o : Option Decoded) → decode b bs ≡ o → ((k : Held) (l : List ℕ) → repliesShown (runAll n k l .lines) ≡ repliesTo (requests (k .memory) (requestsFrom n (k .pending) l) .served))
-        → repliesShown (maybe {B = Run} o (record { lines = line b (refusedSix b h .reply) ∷ []; held = refusedSix b h .held }) (λ d. let t = obey h (d .command) in let later = runAll n (t .held) (d .left) in record { lines = line b (t .reply) ∷ later .lines; held = later .held }) .lines)
+    go : (o : Option Decoded) → decode b bs ≡ o → ((k : Session) (l : List ℕ) → repliesShown (runAll n k l .lines) ≡ repliesTo (requests (k .memory) (requestsFrom n (k .pending) l) .served))
+        → repliesShown (maybe {B = Run} o (record { lines = line b (refusedSix b h .reply) ∷ []; session = refusedSix b h .session }) (λ d. let t = obey h (d .command) in let later = runAll n (t .session) (d .left) in record { lines = line b (t .reply) ∷ later .lines; session = later .session }) .lines)
         ≡ repliesTo (requests (h .memory) (maybe o [] (λ d. asked (h .pending) (d .command) ++ requestsFrom n (pendingAfter (h .pending) (d .command)) (d .left))) .served)
     go none e ih = unfold refusedSix refuses line in refl
     go (some d) e ih =
-        let k = obey h (d .command) .held in
+        let k = obey h (d .command) .session in
         let i = ih k (d .left) ∙ ap (λ (p : Path). repliesTo (requests (k .memory) (requestsFrom n p (d .left)) .served)) (pending-is h (d .command)) in
         replies-are h (d .command) b (requestsFrom n (pendingAfter (h .pending) (d .command)) (d .left)) (runAll n k (d .left) .lines) (element-code b bs d e) i
 
@@ -202,34 +199,34 @@ third-demand-of-requests l m ttl xs y hm ht g done = since-holds l m ttl [] xs y
 
 -- ---- every byte string
 
--- a stream on what is held after a done fresh of this ttl: it leaves the memory that its requests leave, its lines show the
+-- a stream in the session after a done fresh of this ttl: it leaves the memory that its requests leave, its lines show the
 -- replies to them, and the third demand holds at its end of the calls since the last done fresh
-pub record FromFresh (ttl : ℕ) (h : Held) (bs : List ℕ) : Type 0 where
-  pub memory : toEnd h bs .held .memory ≡ serving h bs .memory
+pub record FromFresh (ttl : ℕ) (h : Session) (bs : List ℕ) : Type 0 where
+  pub memory : toEnd h bs .session .memory ≡ serving h bs .memory
   pub replies : repliesShown (toEnd h bs .lines) ≡ repliesTo (serving h bs .served)
-  pub demand : DemandSince (since (begun ttl) (serving h bs .served)) (toEnd h bs .held .memory)
+  pub demand : DemandSince (since (begun ttl) (serving h bs .served)) (toEnd h bs .session .memory)
 
 -- THE THIRD DEMAND FOR EVERY BYTE STRING: from a done fresh to the end of the stream, whatever the bytes are
-pub third-demand-of-stream : (l : List ℕ) (m ttl : ℕ) (p : Path) (bs : List ℕ) → Bytes l → Small 8 m → Small 8 ttl → PathFits p → Bytes bs → wasRefused (lent l (Fresh m ttl) .answer) ≡ false → FromFresh ttl (held (lent l (Fresh m ttl) .memory) p) bs
+pub third-demand-of-stream : (l : List ℕ) (m ttl : ℕ) (p : Path) (bs : List ℕ) → Bytes l → Small 8 m → Small 8 ttl → PathFits p → Bytes bs → wasRefused (lent l (Fresh m ttl) .answer) ≡ false → FromFresh ttl (session (lent l (Fresh m ttl) .memory) p) bs
 third-demand-of-stream l m ttl p bs y hm ht f z done =
-    let h = held (lent l (Fresh m ttl) .memory) p in
+    let h = session (lent l (Fresh m ttl) .memory) p in
     let w = memory-after (length bs) h bs in
     record { memory = w; replies = replies-shown (length bs) h bs; demand = rw w (third-demand-of-requests l m ttl (requestsOf p bs) y hm ht (requests-fit (length bs) p bs f z) done) }
 
 -- AND AT THE END OF EVERY PART OF A RUN: at the memory that is handed back at the end of the input, or for want of output or input
 pub third-demand-of-part : (l : List ℕ) (m ttl : ℕ) (p : Path) (last : Bool) (room : ℕ) (bs : List ℕ) → Bytes l → Small 8 m → Small 8 ttl → PathFits p → Bytes bs → wasRefused (lent l (Fresh m ttl) .answer) ≡ false
-    → let h = held (lent l (Fresh m ttl) .memory) p in let e = runPart (length bs) last room h bs in (e .stop ≡ Six → ⊥) → DemandSince (since (begun ttl) (serving h (take (e .used) bs) .served)) (e .held .memory)
+    → let h = session (lent l (Fresh m ttl) .memory) p in let e = runPart (length bs) last room h bs in (e .stop ≡ Six → ⊥) → DemandSince (since (begun ttl) (serving h (take (e .used) bs) .served)) (e .session .memory)
 third-demand-of-part l m ttl p last room bs y hm ht f z done =
-    let h = held (lent l (Fresh m ttl) .memory) p in
+    let h = session (lent l (Fresh m ttl) .memory) p in
     let e = runPart (length bs) last room h bs in
-    λ s. subst (λ (k : List ℕ). DemandSince (since (begun ttl) (serving h (take (e .used) bs) .served)) k) (ap (λ (r : Run). r .held .memory) (part-done last room h bs s)) (third-demand-of-stream l m ttl p (take (e .used) bs) y hm ht f (bytes-take (e .used) bs z) done .demand)
+    λ s. subst (λ (k : List ℕ). DemandSince (since (begun ttl) (serving h (take (e .used) bs) .served)) k) (ap (λ (r : Run). r .session .memory) (part-done last room h bs s)) (third-demand-of-stream l m ttl p (take (e .used) bs) y hm ht f (bytes-take (e .used) bs z) done .demand)
 
 -- and after a 6: the requests of the part are then those before the 6
 pub third-demand-after-six : (l : List ℕ) (m ttl : ℕ) (p : Path) (last : Bool) (room : ℕ) (bs : List ℕ) → Bytes l → Small 8 m → Small 8 ttl → PathFits p → Bytes bs → wasRefused (lent l (Fresh m ttl) .answer) ≡ false
-    → let h = held (lent l (Fresh m ttl) .memory) p in let e = runPart (length bs) last room h bs in e .stop ≡ Six → DemandSince (since (begun ttl) (serving h bs .served)) (e .held .memory)
+    → let h = session (lent l (Fresh m ttl) .memory) p in let e = runPart (length bs) last room h bs in e .stop ≡ Six → DemandSince (since (begun ttl) (serving h bs .served)) (e .session .memory)
 third-demand-after-six l m ttl p last room bs y hm ht f z done =
-    let h = held (lent l (Fresh m ttl) .memory) p in
-    λ s. subst (λ (k : List ℕ). DemandSince (since (begun ttl) (serving h bs .served)) k) (ap (λ (r : Run). r .held .memory) (part-done-by-six last room h bs s)) (third-demand-of-stream l m ttl p bs y hm ht f z done .demand)
+    let h = session (lent l (Fresh m ttl) .memory) p in
+    λ s. subst (λ (k : List ℕ). DemandSince (since (begun ttl) (serving h bs .served)) k) (ap (λ (r : Run). r .session .memory) (part-done-by-six last room h bs s)) (third-demand-of-stream l m ttl p bs y hm ht f z done .demand)
 
 requests-join : (l : List ℕ) (xs ys : List Request) → requests l (xs ++ ys) .memory ≡ requests (requests l xs .memory) ys .memory
 unfolding requests
@@ -237,16 +234,16 @@ requests-join l [] ys = refl
 requests-join l (x ∷ xs) ys = requests-join (lent l x .memory) xs ys
 
 -- and from any fresh that is done in a stream to its end, whatever the memory was before it
-pub third-demand-after-fresh : (h : Held) (bs : List ℕ) (before after : List Request) (m ttl : ℕ) → HeldFits h → Bytes bs → requestsOf (h .pending) bs ≡ before ++ (Fresh m ttl ∷ after)
+pub third-demand-after-fresh : (h : Session) (bs : List ℕ) (before after : List Request) (m ttl : ℕ) → SessionFits h → Bytes bs → requestsOf (h .pending) bs ≡ before ++ (Fresh m ttl ∷ after)
     → let k = requests (h .memory) before .memory in wasRefused (lent k (Fresh m ttl) .answer) ≡ false
-    → DemandSince (since (begun ttl) (requests (lent k (Fresh m ttl) .memory) after .served)) (toEnd h bs .held .memory)
+    → DemandSince (since (begun ttl) (requests (lent k (Fresh m ttl) .memory) after .served)) (toEnd h bs .session .memory)
 unfolding requests
 third-demand-after-fresh h bs before after m ttl f y e done =
     let g = requests-fit (length bs) (h .pending) bs (f .pending) y in
     let t = every-split TypedRequest before (Fresh m ttl ∷ after) (subst (Every TypedRequest) e g) in
     let k = requests (h .memory) before .memory in
     let z = requests-run (h .memory) before (f .bytes) (t .0) .bytes in
-    let w : toEnd h bs .held .memory ≡ requests (lent k (Fresh m ttl) .memory) after .memory = memory-after (length bs) h bs ∙ ap (λ (xs : List Request). requests (h .memory) xs .memory) e ∙ requests-join (h .memory) before (Fresh m ttl ∷ after) in
+    let w : toEnd h bs .session .memory ≡ requests (lent k (Fresh m ttl) .memory) after .memory = memory-after (length bs) h bs ∙ ap (λ (xs : List Request). requests (h .memory) xs .memory) e ∙ requests-join (h .memory) before (Fresh m ttl ∷ after) in
     rw w (third-demand-of-requests k m ttl after z (t .1 .0 .0) (t .1 .0 .1) (t .1 .1) done)
 
 -- ---- coordrun
@@ -271,8 +268,8 @@ fresh-24 l h = let e : refusal (capacity l) (view l) (Fresh 8 300000) ≡ none =
 -- coordrun's stream on a memory of 24 rows: fresh is done, the lines are those of 01, and the third demand holds
 pub record OnRows24 (l bs : List ℕ) : Type 0 where
   pub done : wasRefused (lent l (Fresh 8 300000) .answer) ≡ false
-  pub lines : toEnd (held (lent l (Fresh 8 300000) .memory) emptyPath) bs .lines ≡ coordrun bs
-  pub stream : FromFresh 300000 (held (lent l (Fresh 8 300000) .memory) emptyPath) bs
+  pub lines : toEnd (session (lent l (Fresh 8 300000) .memory) emptyPath) bs .lines ≡ coordrun bs
+  pub stream : FromFresh 300000 (session (lent l (Fresh 8 300000) .memory) emptyPath) bs
 
 -- COORDRUN, FOR EVERY BYTE STRING, on any memory of 24 rows
 pub coordrun-on-memory : (l bs : List ℕ) → length l ≡ memorySize coordrunRows → Bytes l → Bytes bs → OnRows24 l bs
@@ -281,11 +278,11 @@ coordrun-on-memory l bs e y z =
     let hm = small8 8 (omega arith) in
     let ht = small8 300000 (omega arith) in
     let d = fresh-24 l e in
-    let h = held (lent l (Fresh 8 300000) .memory) emptyPath in
+    let h = session (lent l (Fresh 8 300000) .memory) emptyPath in
     let f = freshened l 8 300000 y hm ht d in
     let o = on-states (length bs) h bs (record { bytes = lent-request l (Fresh 8 300000) y (hm, ht) .bytes; pending = empty-fits }) z in
-    let s : sessionOf h ≡ record { state = fresh coordrunRows 8 300000 []; pending = emptyPath } = ap (λ (x : State). record { state = x; pending = emptyPath }) (f .state ∙ ap₂ (λ (R : ℕ) (t : List ℕ). fresh R 8 300000 t) (rows-24 l e) (no-tail l e)) in
-    let w : toEnd h bs .lines ≡ coordrun bs = o .lines ∙ ap₂ (λ (R : ℕ) (x : Session). runCommands (length bs) R x bs .lines) (f .size ∙ rows-24 l e) s in
+    let s : viewed h ≡ record { state = fresh coordrunRows 8 300000 []; pending = emptyPath } = ap (λ (x : State). record { state = x; pending = emptyPath }) (f .state ∙ ap₂ (λ (R : ℕ) (t : List ℕ). fresh R 8 300000 t) (rows-24 l e) (no-tail l e)) in
+    let w : toEnd h bs .lines ≡ coordrun bs = o .lines ∙ ap₂ (λ (R : ℕ) (x : StateSession). runCommands (length bs) R x bs .lines) (f .size ∙ rows-24 l e) s in
     record { done = d; lines = w; stream = third-demand-of-stream l 8 300000 emptyPath bs y hm ht empty-fits z d }
 
 -- as the program starts: on a memory of zeros

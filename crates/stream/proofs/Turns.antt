@@ -17,7 +17,7 @@ use Rattle.rules.specs.Commands.{Line, line, lineText, linesText, tallyAfter}
 use Rattle.rules.proofs.Addresses.{contradiction}
 use Rattle.raw.proofs.StoreLaws.{sets-more}
 use Rattle.commands.specs.Widths.{widthOf}
-use Rattle.commands.specs.OnMemory.{Held, held, obeyByte}
+use Rattle.commands.specs.OnMemory.{Session, session, obeyByte}
 use Rattle.commands.specs.declared.command.AfterCommand.{AfterCommand}
 use Rattle.commands.specs.After.{Answers}
 use Rattle.stream.specs.declared.stop.Stop.{Stop}
@@ -59,12 +59,12 @@ next-cut room last b bs w h e k l = rw (le-ltb room 129 h, e, l, lt-ltb (length 
 
 -- ---- the run from there on
 
-abbrev pub one-more : (n : ℕ) (last : Bool) (room : ℕ) (h : Held) (b : ℕ) (bs : List ℕ) → RunEnd
+abbrev pub one-more : (n : ℕ) (last : Bool) (room : ℕ) (h : Session) (b : ℕ) (bs : List ℕ) → RunEnd
 one-more n last room h b bs =
     let o = obeyByte h b bs in
-    andThen (line b (o .reply)) (1 + operands b bs) (cond (eqb (o .reply .refusal) 6) (stopped Stop.Six (o .held)) (runPart n last (room - length (lineText (line b (o .reply)))) (o .held) (drop (operands b bs) bs)))
+    andThen (line b (o .reply)) (1 + operands b bs) (cond (eqb (o .reply .refusal) 6) (stopped Stop.Six (o .session)) (runPart n last (room - length (lineText (line b (o .reply)))) (o .session) (drop (operands b bs) bs)))
 
-pub part-full : (n : ℕ) (last : Bool) (room : ℕ) (h : Held) (b : ℕ) (bs : List ℕ) → nextIs room last b bs ≡ Full → runPart (suc n) last room h (b ∷ bs) ≡ stopped Stop.Full h
+pub part-full : (n : ℕ) (last : Bool) (room : ℕ) (h : Session) (b : ℕ) (bs : List ℕ) → nextIs room last b bs ≡ Full → runPart (suc n) last room h (b ∷ bs) ≡ stopped Stop.Full h
 unfolding nextIs runPart
 part-full n last room h b bs = go (ltb room 129) (not last && cutShort b bs)
   where
@@ -73,7 +73,7 @@ part-full n last room h b bs = go (ltb room 129) (not last && cutShort b bs)
     go false true e = contradiction {b = true} refl (cc)
     go false false e = contradiction {b = true} refl (cc)
 
-pub part-cut : (n : ℕ) (last : Bool) (room : ℕ) (h : Held) (b : ℕ) (bs : List ℕ) → nextIs room last b bs ≡ Cut → runPart (suc n) last room h (b ∷ bs) ≡ stopped Stop.Cut h
+pub part-cut : (n : ℕ) (last : Bool) (room : ℕ) (h : Session) (b : ℕ) (bs : List ℕ) → nextIs room last b bs ≡ Cut → runPart (suc n) last room h (b ∷ bs) ≡ stopped Stop.Cut h
 unfolding nextIs runPart
 part-cut n last room h b bs = go (ltb room 129) (not last && cutShort b bs)
   where
@@ -83,12 +83,12 @@ part-cut n last room h b bs = go (ltb room 129) (not last && cutShort b bs)
     go false false e = contradiction {b = true} refl (cc)
 
 -- a command: there is room for its line
-pub record Goes (n : ℕ) (last : Bool) (room : ℕ) (h : Held) (b : ℕ) (bs : List ℕ) (w : ℕ) : Type 0 where
+pub record Goes (n : ℕ) (last : Bool) (room : ℕ) (h : Session) (b : ℕ) (bs : List ℕ) (w : ℕ) : Type 0 where
   pub ample : 129 ≤ room
   pub width : w ≡ operands b bs
   pub run : runPart (suc n) last room h (b ∷ bs) ≡ one-more n last room h b bs
 
-pub part-goes : (n : ℕ) (last : Bool) (room : ℕ) (h : Held) (b : ℕ) (bs : List ℕ) (w : ℕ) → nextIs room last b bs ≡ Command w → Goes n last room h b bs w
+pub part-goes : (n : ℕ) (last : Bool) (room : ℕ) (h : Session) (b : ℕ) (bs : List ℕ) (w : ℕ) → nextIs room last b bs ≡ Command w → Goes n last room h b bs w
 unfolding nextIs runPart
 part-goes n last room h b bs w = go (ltb room 129) refl (not last && cutShort b bs) refl
   where
@@ -129,13 +129,13 @@ tally-after (k ∷ ls) l t = tally-after ls l (tallied t (k .reply .refusal))
 
 none-before : (e : RunEnd) → e ≡ prefixed [] 0 e
 unfolding prefixed
-none-before e = ap (λ (n : ℕ). record { lines = e .lines; used = n; held = e .held; stop = e .stop }) (let z : e .used ≡ 0 + e .used = omega arith in z)
+none-before e = ap (λ (n : ℕ). record { lines = e .lines; used = n; session = e .session; stop = e .stop }) (let z : e .used ≡ 0 + e .used = omega arith in z)
 
-pub start : (last : Bool) (m i o : List ℕ) (p : Path) (t : Tally) → Going (runPart (length i) last (length o) (held m p) i) last i o t 0 0 p t m o
+pub start : (last : Bool) (m i o : List ℕ) (p : Path) (t : Tally) → Going (runPart (length i) last (length o) (session m p) i) last i o t 0 0 p t m o
 unfolding prefixed linesText tallyAfter
-start last m i o p t = record { turns = length i; enough = omega arith; done = record { lines = []; whole = none-before _ ∙ ap (λ (n : ℕ). prefixed [] 0 (runPart (length i) last n (held m p) i)) (let z : length o ≡ length o - 0 = omega arith in z); text = refl; end = refl; inside = omega arith; counted = refl } }
+start last m i o p t = record { turns = length i; enough = omega arith; done = record { lines = []; whole = none-before _ ∙ ap (λ (n : ℕ). prefixed [] 0 (runPart (length i) last n (session m p) i)) (let z : length o ≡ length o - 0 = omega arith in z); text = refl; end = refl; inside = omega arith; counted = refl } }
 
-pub ended : (e : RunEnd) (why : Stop) (h : Held) (o : List ℕ) (t : Tally) (at put : ℕ) (counts : Tally) (o′ : List ℕ) (r : Ran) → SoFar e (stopped why h) o t at put counts o′
+pub ended : (e : RunEnd) (why : Stop) (h : Session) (o : List ℕ) (t : Tally) (at put : ℕ) (counts : Tally) (o′ : List ℕ) (r : Ran) → SoFar e (stopped why h) o t at put counts o′
     → r .used ≡ at → r .written ≡ put → r .pending ≡ h .pending → r .tally ≡ counts → r .stop ≡ why → EndsAs e t r (h .memory) o o′
 unfolding prefixed stopped
 ended e why h o t at put counts o′ r s eu ew ep et es =
@@ -144,10 +144,10 @@ ended e why h o t at put counts o′ r s eu ew ep et es =
     record {
       used = eu ∙ (let z : at ≡ at + 0 = omega arith in z) ∙ ap (λ (x : RunEnd). x .used) (sym (s .whole));
       written = ew ∙ s .end ∙ ap (λ (y : List ℕ). length y) (sym x);
-      pending = ep ∙ ap (λ (x : RunEnd). x .held .pending) (sym (s .whole));
+      pending = ep ∙ ap (λ (x : RunEnd). x .session .pending) (sym (s .whole));
       tally = et ∙ s .counted ∙ ap (tallyAfter t) (sym l);
       stop = es ∙ ap (λ (x : RunEnd). x .stop) (sym (s .whole));
-      memory = ap (λ (x : RunEnd). x .held .memory) (sym (s .whole));
+      memory = ap (λ (x : RunEnd). x .session .memory) (sym (s .whole));
       output = s .text ∙ ap (sets o 0) (sym x);
     }
 
@@ -156,11 +156,13 @@ pub same-room : (x o put : ℕ) (last : Bool) (b : ℕ) (bs : List ℕ) → x �
 same-room x o put last b bs e = ap (λ (n : ℕ). nextIs (n - put) last b bs) (sym e)
 
 -- no byte is left
-pub over : (e : RunEnd) (last : Bool) (i o : List ℕ) (t : Tally) (at put : ℕ) (p : Path) (counts : Tally) (m o′ : List ℕ) → Going e last i o t at put p counts m o′ → at ≤ length i → length i ≤ at → SoFar e (stopped Stop.End (held m p)) o t at put counts o′
+pub over : {e : RunEnd} {last : Bool} {i o : List ℕ} {t : Tally} {at put : ℕ} {p : Path} {counts : Tally} {m o′ : List ℕ} → Going e last i o t at put p counts m o′
+    → at ≤ length i → length i ≤ at → SoFar e (stopped Stop.End (session m p)) o t at put counts o′
 unfolding runPart
-over e last i o t at put p counts m o′ g h k = subst (λ (x : RunEnd). SoFar e x o t at put counts o′) (nothing (g .turns) (length o - put) (drop at i) (omega (arith, length-drop at i))) (g .done)
+over {e} {last} {i} {o} {t} {at} {put} {p} {counts} {m} {o′} g h k =
+    subst (λ (x : RunEnd). SoFar e x o t at put counts o′) (nothing (g .turns) (length o - put) (drop at i) (omega (arith, length-drop at i))) (g .done)
   where
-    nothing : (n room : ℕ) (bs : List ℕ) → length bs ≡ 0 → runPart n last room (held m p) bs ≡ stopped Stop.End (held m p)
+    nothing : (n room : ℕ) (bs : List ℕ) → length bs ≡ 0 → runPart n last room (session m p) bs ≡ stopped Stop.End (session m p)
     nothing zero room bs z = refl
     nothing (suc n) room [] z = refl
     nothing (suc n) room (b ∷ bs) z = absurd (let w : ⊥ = omega arith in w)
@@ -190,12 +192,13 @@ turn-left : (n : ℕ) → 1 ≤ n → (k : ℕ) × (n ≡ suc k)
 turn-left zero h = absurd (let z : ⊥ = omega arith in z)
 turn-left (suc k) h = (k, refl)
 
-module _ (e : RunEnd) (last : Bool) (i o : List ℕ) (t : Tally) (at put : ℕ) (p : Path) (counts : Tally) (m o′ : List ℕ) (g : Going e last i o t at put p counts m o′) (h : at < length i) where
+module _ {e : RunEnd} {last : Bool} {i o : List ℕ} {t : Tally} {at put : ℕ} {p : Path} {counts : Tally} {m o′ : List ℕ}
+    (g : Going e last i o t at put p counts m o′) (h : at < length i) where
   -- the command at `at` is the next one
   pub record Front : Type 0 where
     pub turns : ℕ
     pub enough : length (drop (at + 1) i) ≤ turns
-    pub done : SoFar e (runPart (suc turns) last (length o - put) (held m p) (getD i at 0 ∷ drop (at + 1) i)) o t at put counts o′
+    pub done : SoFar e (runPart (suc turns) last (length o - put) (session m p) (getD i at 0 ∷ drop (at + 1) i)) o t at put counts o′
 
   pub front : Front
   front =
@@ -205,54 +208,65 @@ module _ (e : RunEnd) (last : Bool) (i o : List ℕ) (t : Tally) (at put : ℕ) 
       record {
         turns = k .0;
         enough = omega (arith, g .enough, l, k .1);
-        done = subst (λ (x : List ℕ). SoFar e (runPart (suc (k .0)) last (length o - put) (held m p) x) o t at put counts o′) c (subst (λ (n : ℕ). SoFar e (runPart n last (length o - put) (held m p) (drop at i)) o t at put counts o′) (k .1) (g .done));
+        done = subst (λ (x : List ℕ). SoFar e (runPart (suc (k .0)) last (length o - put) (session m p) x) o t at put counts o′) c (subst (λ (n : ℕ). SoFar e (runPart n last (length o - put) (session m p) (drop at i)) o t at put counts o′) (k .1) (g .done));
       }
 
-  pub stops-full : nextIs (length o - put) last (getD i at 0) (drop (at + 1) i) ≡ Full → SoFar e (stopped Stop.Full (held m p)) o t at put counts o′
-  stops-full n = subst (λ (x : RunEnd). SoFar e x o t at put counts o′) (part-full (front .turns) last (length o - put) (held m p) (getD i at 0) (drop (at + 1) i) n) (front .done)
+  pub stops-full : nextIs (length o - put) last (getD i at 0) (drop (at + 1) i) ≡ Full → SoFar e (stopped Stop.Full (session m p)) o t at put counts o′
+  stops-full n = subst (λ (x : RunEnd). SoFar e x o t at put counts o′) (part-full (front .turns) last (length o - put) (session m p) (getD i at 0) (drop (at + 1) i) n) (front .done)
 
-  pub stops-cut : nextIs (length o - put) last (getD i at 0) (drop (at + 1) i) ≡ Cut → SoFar e (stopped Stop.Cut (held m p)) o t at put counts o′
-  stops-cut n = subst (λ (x : RunEnd). SoFar e x o t at put counts o′) (part-cut (front .turns) last (length o - put) (held m p) (getD i at 0) (drop (at + 1) i) n) (front .done)
+  pub stops-cut : nextIs (length o - put) last (getD i at 0) (drop (at + 1) i) ≡ Cut → SoFar e (stopped Stop.Cut (session m p)) o t at put counts o′
+  stops-cut n = subst (λ (x : RunEnd). SoFar e x o t at put counts o′) (part-cut (front .turns) last (length o - put) (session m p) (getD i at 0) (drop (at + 1) i) n) (front .done)
 
-  -- a command with its line
-  module _ (w : ℕ) (n : nextIs (length o - put) last (getD i at 0) (drop (at + 1) i) ≡ Command w) where
-    goes : Goes (front .turns) last (length o - put) (held m p) (getD i at 0) (drop (at + 1) i) w
-    goes = part-goes (front .turns) last (length o - put) (held m p) (getD i at 0) (drop (at + 1) i) w n
+-- before the command at `at`, whose operands are w bytes: a byte is left, and a command with room for its line stands next
+pub record Turn (e : RunEnd) (last : Bool) (i o : List ℕ) (t : Tally) (at put : ℕ) (p : Path) (counts : Tally) (m o′ : List ℕ) (w : ℕ) : Type 0 where
+  pub going : Going e last i o t at put p counts m o′
+  pub left : at < length i
+  pub next : nextIs (length o - put) last (getD i at 0) (drop (at + 1) i) ≡ Command w
 
-    pub ample : put + 129 ≤ length o
-    ample = omega (arith, goes .ample, g .done .inside)
+module _ {e : RunEnd} {last : Bool} {i o : List ℕ} {t : Tally} {at put : ℕ} {p : Path} {counts : Tally} {m o′ : List ℕ} {w : ℕ}
+    (k : Turn e last i o t at put p counts m o′ w) where
+  here : Front (k .going) (k .left)
+  here = front (k .going) (k .left)
 
-    pub used : at + (1 + w) ≤ length i
-    unfolding operands
-    used = omega (arith, goes .width, few (widthOf (getD i at 0)), length-drop (at + 1) i)
-      where
-        few : (q : Option ℕ) → maybe q 0 (λ v. min v (length (drop (at + 1) i))) ≤ length (drop (at + 1) i)
-        few none = omega arith
-        few (some v) = omega arith
+  goes : Goes (here .turns) last (length o - put) (session m p) (getD i at 0) (drop (at + 1) i) w
+  goes = part-goes (here .turns) last (length o - put) (session m p) (getD i at 0) (drop (at + 1) i) w (k .next)
 
-    module _ (r : AfterCommand) (m′ : List ℕ) (a : Answers (obeyByte (held m p) (getD i at 0) (drop (at + 1) i)) r m′) (put′ : ℕ) (o″ : List ℕ) (counts′ : Tally) (ep : put′ ≡ put + length (lineText (line (getD i at 0) (r .reply)))) (short : length (lineText (line (getD i at 0) (r .reply))) ≤ 129) (eo : o″ ≡ sets o′ put (lineText (line (getD i at 0) (r .reply)))) (ec : counts′ ≡ tallied counts (r .reply .refusal)) where
-      after-line : SoFar e (cond (eqb (r .reply .refusal) 6) (stopped Stop.Six (held m′ (r .pending))) (runPart (front .turns) last (length o - put - length (lineText (line (getD i at 0) (r .reply)))) (held m′ (r .pending)) (drop (operands (getD i at 0) (drop (at + 1) i)) (drop (at + 1) i)))) o t (at + (1 + w)) put′ counts′ o″
-      unfolding line
-      after-line =
-          let b = getD i at 0 in
-          let bs = drop (at + 1) i in
-          let u : held m′ (r .pending) ≡ obeyByte (held m p) b bs .held = ap (λ (x : List ℕ). held x (r .pending)) (a .leaves) ∙ ap (λ (x : Path). held (obeyByte (held m p) b bs .held .memory) x) (a .pends) in
-          let s : SoFar e (one-more (front .turns) last (length o - put) (held m p) b bs) o t at put counts o′ = subst (λ (x : RunEnd). SoFar e x o t at put counts o′) (goes .run) (front .done) in
-          let q : SoFar e (andThen (line b (r .reply)) (1 + operands b bs) (cond (eqb (r .reply .refusal) 6) (stopped Stop.Six (held m′ (r .pending))) (runPart (front .turns) last (length o - put - length (lineText (line b (r .reply)))) (held m′ (r .pending)) (drop (operands b bs) bs)))) o t at put counts o′ = rw (u, a .says) s in
-          advanced e _ (line b (r .reply)) (1 + operands b bs) o t at put (at + (1 + w)) put′ counts counts′ o′ o″ q (omega (arith, goes .width)) ep (omega (arith, ample, short)) eo ec
+  pub ample : put + 129 ≤ length o
+  ample = omega (arith, goes .ample, k .going .done .inside)
 
-      pub stops-six : r .reply .refusal ≡ 6 → SoFar e (stopped Stop.Six (held m′ (r .pending))) o t (at + (1 + w)) put′ counts′ o″
-      stops-six x = simp x at after-line
+  pub used : at + (1 + w) ≤ length i
+  unfolding operands
+  used = omega (arith, goes .width, few (widthOf (getD i at 0)), length-drop (at + 1) i)
+    where
+      few : (q : Option ℕ) → maybe q 0 (λ v. min v (length (drop (at + 1) i))) ≤ length (drop (at + 1) i)
+      few none = omega arith
+      few (some v) = omega arith
 
-      pub goes-on : (r .reply .refusal ≡ 6 → ⊥) → Going e last i o t (at + (1 + w)) put′ (r .pending) counts′ m′ o″
-      goes-on x =
-          let b = getD i at 0 in
-          let bs = drop (at + 1) i in
-          let d : drop (operands b bs) bs ≡ drop (at + (1 + w)) i = drop-drop (operands b bs) (at + 1) i ∙ ap (λ (k : ℕ). drop k i) (let z : at + 1 + operands b bs ≡ at + (1 + w) = omega (arith, goes .width) in z) in
-          let n : length o - put - length (lineText (line b (r .reply))) ≡ length o - put′ = omega (arith, ep) in
-          let s : SoFar e (runPart (front .turns) last (length o - put - length (lineText (line b (r .reply)))) (held m′ (r .pending)) (drop (operands b bs) bs)) o t (at + (1 + w)) put′ counts′ o″ = simp (ne-eqb (r .reply .refusal) 6 x) at after-line in
-          record {
-            turns = front .turns;
-            enough = omega (arith, front .enough, length-drop (at + 1) i, length-drop (at + (1 + w)) i);
-            done = subst (λ (k : ℕ). SoFar e (runPart (front .turns) last k (held m′ (r .pending)) (drop (at + (1 + w)) i)) o t (at + (1 + w)) put′ counts′ o″) n (subst (λ (y : List ℕ). SoFar e (runPart (front .turns) last (length o - put - length (lineText (line b (r .reply)))) (held m′ (r .pending)) y) o t (at + (1 + w)) put′ counts′ o″) d s);
-          }
+  -- it was obeyed, its line was put and counted
+  module _ {r : AfterCommand} {m′ : List ℕ} (a : Answers (obeyByte (session m p) (getD i at 0) (drop (at + 1) i)) r m′) {put′ : ℕ} {o″ : List ℕ} {counts′ : Tally}
+      (ep : put′ ≡ put + length (lineText (line (getD i at 0) (r .reply)))) (short : length (lineText (line (getD i at 0) (r .reply))) ≤ 129) (eo : o″ ≡ sets o′ put (lineText (line (getD i at 0) (r .reply)))) (ec : counts′ ≡ tallied counts (r .reply .refusal)) where
+    after-line : SoFar e (cond (eqb (r .reply .refusal) 6) (stopped Stop.Six (session m′ (r .pending))) (runPart (here .turns) last (length o - put - length (lineText (line (getD i at 0) (r .reply)))) (session m′ (r .pending)) (drop (operands (getD i at 0) (drop (at + 1) i)) (drop (at + 1) i)))) o t (at + (1 + w)) put′ counts′ o″
+    unfolding line
+    after-line =
+        let b = getD i at 0 in
+        let bs = drop (at + 1) i in
+        let u : session m′ (r .pending) ≡ obeyByte (session m p) b bs .session = ap (λ (x : List ℕ). session x (r .pending)) (a .leaves) ∙ ap (λ (x : Path). session (obeyByte (session m p) b bs .session .memory) x) (a .pends) in
+        let s : SoFar e (one-more (here .turns) last (length o - put) (session m p) b bs) o t at put counts o′ = subst (λ (x : RunEnd). SoFar e x o t at put counts o′) (goes .run) (here .done) in
+        let q : SoFar e (andThen (line b (r .reply)) (1 + operands b bs) (cond (eqb (r .reply .refusal) 6) (stopped Stop.Six (session m′ (r .pending))) (runPart (here .turns) last (length o - put - length (lineText (line b (r .reply)))) (session m′ (r .pending)) (drop (operands b bs) bs)))) o t at put counts o′ = rw (u, a .says) s in
+        advanced e _ (line b (r .reply)) (1 + operands b bs) o t at put (at + (1 + w)) put′ counts counts′ o′ o″ q (omega (arith, goes .width)) ep (omega (arith, ample, short)) eo ec
+
+    pub stops-six : r .reply .refusal ≡ 6 → SoFar e (stopped Stop.Six (session m′ (r .pending))) o t (at + (1 + w)) put′ counts′ o″
+    stops-six x = simp x at after-line
+
+    pub goes-on : (r .reply .refusal ≡ 6 → ⊥) → Going e last i o t (at + (1 + w)) put′ (r .pending) counts′ m′ o″
+    goes-on x =
+        let b = getD i at 0 in
+        let bs = drop (at + 1) i in
+        let d : drop (operands b bs) bs ≡ drop (at + (1 + w)) i = drop-drop (operands b bs) (at + 1) i ∙ ap (λ (x : ℕ). drop x i) (let z : at + 1 + operands b bs ≡ at + (1 + w) = omega (arith, goes .width) in z) in
+        let n : length o - put - length (lineText (line b (r .reply))) ≡ length o - put′ = omega (arith, ep) in
+        let s : SoFar e (runPart (here .turns) last (length o - put - length (lineText (line b (r .reply)))) (session m′ (r .pending)) (drop (operands b bs) bs)) o t (at + (1 + w)) put′ counts′ o″ = simp (ne-eqb (r .reply .refusal) 6 x) at after-line in
+        record {
+          turns = here .turns;
+          enough = omega (arith, here .enough, length-drop (at + 1) i, length-drop (at + (1 + w)) i);
+          done = subst (λ (y : ℕ). SoFar e (runPart (here .turns) last y (session m′ (r .pending)) (drop (at + (1 + w)) i)) o t (at + (1 + w)) put′ counts′ o″) n (subst (λ (y : List ℕ). SoFar e (runPart (here .turns) last (length o - put - length (lineText (line b (r .reply)))) (session m′ (r .pending)) y) o t (at + (1 + w)) put′ counts′ o″) d s);
+        }

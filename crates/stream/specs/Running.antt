@@ -11,7 +11,7 @@ use Rattle.types.specs.declared.reply.Tally.{Tally}
 use Rattle.rules.specs.Sound.{sound}
 use Rattle.rules.specs.Memory.{capacity, view}
 use Rattle.rules.specs.Commands.{Line, linesText, tallyAfter}
-use Rattle.commands.specs.OnMemory.{held}
+use Rattle.commands.specs.OnMemory.{session}
 use Rattle.stream.specs.Runs.{RunEnd, lineRoom, operands, cutShort, runPart}
 use Rattle.stream.specs.declared.run.Next.{Next}
 use Rattle.stream.specs.declared.run.Next.the-variants.{Full, Cut, Command}
@@ -25,17 +25,17 @@ nextIs room last b bs = cond (ltb room lineRoom) Full (cond (not last && cutShor
 pub record EndsAs (e : RunEnd) (t : Tally) (r : Ran) (m o o′ : List ℕ) : Type 0 where
   pub used : r .used ≡ e .used
   pub written : r .written ≡ length (linesText (e .lines))
-  pub pending : r .pending ≡ e .held .pending
+  pub pending : r .pending ≡ e .session .pending
   pub tally : r .tally ≡ tallyAfter t (e .lines)
   pub stop : r .stop ≡ e .stop
-  pub memory : m ≡ e .held .memory
+  pub memory : m ≡ e .session .memory
   pub output : o′ ≡ sets o 0 (linesText (e .lines))
 
 -- ---- the loop
 
 -- lines before, and the bytes of their commands
 unfoldable pub prefixed : List Line → ℕ → RunEnd → RunEnd
-prefixed ls k e = record { lines = ls ++ e .lines; used = k + e .used; held = e .held; stop = e .stop }
+prefixed ls k e = record { lines = ls ++ e .lines; used = k + e .used; session = e .session; stop = e .stop }
 
 -- x is still to do: the whole is the lines so far, with the bytes of their commands, and x
 pub record SoFar (e x : RunEnd) (o : List ℕ) (t : Tally) (at put : ℕ) (counts : Tally) (o′ : List ℕ) : Type 0 where
@@ -50,4 +50,4 @@ pub record SoFar (e x : RunEnd) (o : List ℕ) (t : Tally) (at put : ℕ) (count
 pub record Going (e : RunEnd) (last : Bool) (i o : List ℕ) (t : Tally) (at put : ℕ) (p : Path) (counts : Tally) (m o′ : List ℕ) : Type 0 where
   pub turns : ℕ
   pub enough : length (drop at i) ≤ turns
-  pub done : SoFar e (runPart turns last (length o - put) (held m p) (drop at i)) o t at put counts o′
+  pub done : SoFar e (runPart turns last (length o - put) (session m p) (drop at i)) o t at put counts o′

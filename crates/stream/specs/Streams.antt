@@ -15,11 +15,11 @@ use Rattle.rules.specs.Demand.{ThirdDemand}
 use Rattle.rules.specs.Memory.{view}
 use Rattle.rules.specs.Lent.{LentServing, requests}
 use Rattle.rules.specs.Commands.{Command, Element, WithPath, Plain, Line, decode, reply}
-use Rattle.commands.specs.OnMemory.{Held}
+use Rattle.commands.specs.OnMemory.{Session}
 use Rattle.stream.specs.Runs.{Run, runAll}
 
 -- a whole stream's run
-abbrev pub toEnd : Held → List ℕ → Run
+abbrev pub toEnd : Session → List ℕ → Run
 toEnd h bs = runAll (length bs) h bs
 
 -- ---- its requests
@@ -47,8 +47,8 @@ requestsFrom (suc n) p bs =
 abbrev pub requestsOf : Path → List ℕ → List Request
 requestsOf p bs = requestsFrom (length bs) p bs
 
--- the stream's requests on what is held: their answers, and the memory after them
-abbrev pub serving : Held → List ℕ → LentServing
+-- the stream's requests in a session: their answers, and the memory after them
+abbrev pub serving : Session → List ℕ → LentServing
 serving h bs = requests (h .memory) (requestsOf (h .pending) bs)
 
 -- ---- what its lines show

@@ -12,7 +12,7 @@ ghost use Prim.Native.Nat.{_+_, _-_, _≤_, _<_};
 ghost use mathlib.Core.List.{_++_};
 ghost use lib.ListN.{length, drop, getD};
 ghost use lib.Seq.{slice};
-ghost use Rattle.commands.specs.OnMemory.{held};
+ghost use Rattle.commands.specs.OnMemory.{session};
 ghost use Rattle.stream.specs.Runs.{runPart};
 ghost use Rattle.stream.specs.Running.{nextIs, EndsAs};
 
@@ -66,7 +66,7 @@ pub fn run(
     last: bool,
     output: &mut [u8],
 ) -> Ran
-    ensures { λ r. ⌜ EndsAs (runPart (length (now (input .entry))) last (length (now (output .entry))) (held (now (state .entry)) pending) (now (input .entry))) tally r (now (state .exit)) (now (output .entry)) (now (output .exit)) ⌝ }
+    ensures { λ r. ⌜ EndsAs (runPart (length (now (input .entry))) last (length (now (output .entry))) (session (now (state .entry)) pending) (now (input .entry))) tally r (now (state .exit)) (now (output .entry)) (now (output .exit)) ⌝ }
     ensures { λ r. ⌜ (r .used ≤ length (now (input .entry))) × (r .written ≤ length (now (output .entry))) ⌝ }
 {
     let mut is_sound = state::check::is_sound(state);

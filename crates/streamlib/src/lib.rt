@@ -4,10 +4,9 @@ use raw::layout::BYTE;
 use raw::layout::ELEMENT;
 use raw::layout::PATH;
 use stream::stop::Stop;
-use types::coord::CoordEntry;
 use types::coord::PLACES;
 use types::coord::Path;
-use types::node_addr::NodeAddr;
+use types::coord::zero_entry;
 use types::reply::Tally;
 
 // A length, and the places.
@@ -16,16 +15,8 @@ const PENDING: usize = PATH;
 // Used, written, why it stopped, commands done, commands refused.
 const REPORT: usize = 5;
 
-fn blank() -> CoordEntry {
-    CoordEntry {
-        node_addr: NodeAddr([0u8; 16]),
-        sequence: 0,
-        timestamp: 0,
-    }
-}
-
 fn load(pending: &[u8]) -> Path {
-    let mut entries = [blank(); PLACES];
+    let mut entries = [zero_entry(); PLACES];
     if pending.len() < PENDING {
         return Path::empty();
     }

@@ -10,7 +10,6 @@ use Rattle.types.specs.Addresses.{sameAddr}
 use Rattle.types.specs.Paths.{contains, rootOf}
 use Rattle.rules.specs.Entries.{expired}
 use Rattle.rules.specs.Rows.{keepRows, mainWeight}
-use Rattle.memory.proofs.RowLaws.{view-length}
 use Rattle.types.specs.declared.node_addr.NodeAddr.{NodeAddr}
 use Rattle.types.specs.declared.answers.SweepAnswer.{SweepAnswer}
 use Rattle.rules.specs.Cases.{Every}
@@ -26,9 +25,10 @@ use Rattle.rules.specs.Lent.{Bytes, call}
 use Rattle.rules.proofs.SoundTest.{RowOk}
 use Rattle.rules.proofs.Public.{sound-memory}
 use Rattle.rules.specs.Layout.{headSize, rowSize}
+use Rattle.rules.proofs.Foreign.{view-length}
 use Rattle.memory.specs.Edits.{OnlyRows, shrunk}
 use Rattle.memory.proofs.RowLaws.{only-shrunk}
-use Rattle.refusals.proofs.SoundCalls.{done-with, not-refused}
+use Rattle.refusals.proofs.SoundCalls.{done-rows, not-refused}
 use Rattle.retention.specs.Sweep.{sweepTest, keptRows, PathFit, PathsFit}
 use Rattle.retention.proofs.KeptRows.{left-out}
 
@@ -38,67 +38,43 @@ fit-rows : (q : ℕ) (rs : List Row) → Every (RowOk q) rs → Every PathFit rs
 fit-rows q [] h = tt
 fit-rows q (r ∷ rs) h = (record { long = h .0 .long; short = h .0 .short }, fit-rows q rs (h .1))
 
-pub sweepable : (l : List ℕ) (n : ℕ) → sound (capacity l) (view l) ≡ true → n ≡ viewRows 0 l .rowCount → (n ≤ maxRows) × (headSize + n * rowSize ≤ length l) × PathsFit (viewRows n l .rows) × (viewRows n l .rowCount ≡ n) × (viewRows n l .storedWeight ≡ mainWeight (viewRows n l))
-sweepable l n h e = let s = sound-memory l n h e in (s .few, s .long, fit-rows (viewRows n l .seq) (viewRows n l .rows) (s .sound .each), s .sound .counted ∙ s .rows, s .sound .storedWeight)
+pub sweepable : (l : List ℕ) (n : ℕ) → sound (capacity l) (view l) ≡ true → n ≡ viewRows 0 l .rowCount
+    → (n ≤ maxRows) × (headSize + n * rowSize ≤ length l) × PathsFit (viewRows n l .rows) × (viewRows n l .rowCount ≡ n) × (viewRows n l .storedWeight ≡ mainWeight (viewRows n l))
+sweepable l n h e =
+    let s = sound-memory l n h e in
+    (s .few, s .long, fit-rows (viewRows n l .seq) (viewRows n l .rows) (s .sound .each), s .sound .counted ∙ s .rows, s .sound .storedWeight)
 
-sweeps-answer : (p : Entry → Bool) (s : State) → sweeps p s .answer ≡ RowsRemoved (matching p s)
-unfolding sweeps gives
-sweeps-answer p s = refl
+-- call q sweeps the entries of test p, which is the code's test of this kind, time and address
+pub record Sweeps (q : Call) (p : Entry → Bool) (kind time : ℕ) (a : NodeAddr) : Type 0 where
+  pub does : (s : State) → perform s q ≡ sweeps p s
+  pub keeps : (rs : List Row) → keptRows kind time a rs ≡ keepRows (λ r. not (p (r .entry))) rs
+  pub allowed : (l : List ℕ) → sound (capacity l) (view l) ≡ true → refusal (capacity l) (view l) (Asked q) ≡ none
 
-sweeps-state : (p : Entry → Bool) (s : State) → sweeps p s .state ≡ sweep p s
-unfolding sweeps gives
-sweeps-state p s = refl
+pub purge-sweeps : (time : ℕ) (a : NodeAddr) → Sweeps (PurgeExpired time) (expired time) 0 time a
+unfolding perform keptRows sweepTest pathGiven verifiedWrite drawsStamps
+purge-sweeps time a = record { does = λ s. refl; keeps = λ rs. refl; allowed = λ l h. not-refused l (PurgeExpired time) h refl refl refl }
+
+pub via-sweeps : (time : ℕ) (a : NodeAddr) → Sweeps (InvalidateViaNode a) (λ e. contains a (e .path)) 1 time a
+unfolding perform keptRows sweepTest pathGiven verifiedWrite drawsStamps
+via-sweeps time a = record { does = λ s. refl; keeps = λ rs. refl; allowed = λ l h. not-refused l (InvalidateViaNode a) h refl refl refl }
+
+pub roots-sweeps : (time : ℕ) (a : NodeAddr) → Sweeps (InvalidateOtherRoots a) (λ e. not (sameAddr (rootOf (e .path)) a)) 2 time a
+unfolding perform keptRows sweepTest pathGiven verifiedWrite drawsStamps
+roots-sweeps time a = record { does = λ s. refl; keeps = λ rs. refl; allowed = λ l h. not-refused l (InvalidateOtherRoots a) h refl refl refl }
 
 -- j of n rows stay
-pub sweep-done : (q : Call) (p : Entry → Bool) (kind time : ℕ) (a : NodeAddr) (l : List ℕ) (n j : ℕ) (m : List ℕ) → sound (capacity l) (view l) ≡ true → n ≡ viewRows 0 l .rowCount → Bytes m → length m ≡ length l
-    → refusal (capacity l) (view l) (Asked q) ≡ none → perform (viewRows n l) q ≡ sweeps p (viewRows n l) → keptRows kind time a (viewRows n l .rows) ≡ keepRows (λ r. not (p (r .entry))) (viewRows n l .rows)
+pub sweep-done : {q : Call} {p : Entry → Bool} {kind time : ℕ} {a : NodeAddr} → Sweeps q p kind time a → (l : List ℕ) (n j : ℕ) (m : List ℕ)
+    → sound (capacity l) (view l) ≡ true → n ≡ viewRows 0 l .rowCount → Bytes m → length m ≡ length l
     → (j ≤ n) × (j ≡ length (keptRows kind time a (viewRows n l .rows))) × (viewRows j m ≡ withOnlyRows (keptRows kind time a (viewRows n l .rows)) (viewRows n l))
     → (sweepSaid (SweepAnswer.Removed (n - j)) ≡ call l q .answer) × (m ≡ call l q .memory)
-unfolding sweepSaid matching sweep withOnlyRows
-sweep-done q p kind time a l n j m h e b z f g k w =
-    let s = sound-memory l n h e in
-    let rs : List Row = viewRows n l .rows in
-    let t : perform (viewRows n l) q .state ≡ sweep p (viewRows n l) = ap (λ (x : Step). x .state) g ∙ sweeps-state p (viewRows n l) in
-    let c : j ≡ length (keepRows (λ r. not (p (r .entry))) rs) = w .1 ∙ ap length k in
-    let d = done-with l n q m j s f b z (ap (λ (x : State). length (x .rows)) t ∙ sym c) (w .2 ∙ ap (λ (x : List Row). withOnlyRows x (viewRows n l)) k ∙ sym t) in
-    let r : n - j ≡ matching p (viewRows n l) = omega (arith, left-out (λ x. p (x .entry)) rs, view-length n l, c) in
-    (ap RowsRemoved r ∙ sym (d .answer ∙ ap (λ (x : State). perform x q .answer) (sym (s .same)) ∙ ap (λ (x : Step). x .answer) g ∙ sweeps-answer p (viewRows n l)), sym (d .memory))
-
-pub purge-is : (time : ℕ) (s : State) → perform s (PurgeExpired time) ≡ sweeps (expired time) s
-unfolding perform
-purge-is time s = refl
-
-pub purge-keeps : (time : ℕ) (a : NodeAddr) (rs : List Row) → keptRows 0 time a rs ≡ keepRows (λ r. not (expired time (r .entry))) rs
-unfolding keptRows sweepTest
-purge-keeps time a rs = refl
-
-pub via-is : (a : NodeAddr) (s : State) → perform s (InvalidateViaNode a) ≡ sweeps (λ e. contains a (e .path)) s
-unfolding perform
-via-is a s = refl
-
-pub via-keeps : (time : ℕ) (a : NodeAddr) (rs : List Row) → keptRows 1 time a rs ≡ keepRows (λ r. not (contains a (r .entry .path))) rs
-unfolding keptRows sweepTest
-via-keeps time a rs = refl
-
-pub roots-is : (a : NodeAddr) (s : State) → perform s (InvalidateOtherRoots a) ≡ sweeps (λ e. not (sameAddr (rootOf (e .path)) a)) s
-unfolding perform
-roots-is a s = refl
-
-pub roots-keeps : (time : ℕ) (a : NodeAddr) (rs : List Row) → keptRows 2 time a rs ≡ keepRows (λ r. not (not (sameAddr (rootOf (r .entry .path)) a))) rs
-unfolding keptRows sweepTest
-roots-keeps time a rs = refl
-
-pub purge-allowed : (l : List ℕ) (time : ℕ) → sound (capacity l) (view l) ≡ true → refusal (capacity l) (view l) (Asked (PurgeExpired time)) ≡ none
-unfolding pathGiven verifiedWrite drawsStamps
-purge-allowed l time h = not-refused l (PurgeExpired time) h refl refl refl
-
-pub via-allowed : (l : List ℕ) (a : NodeAddr) → sound (capacity l) (view l) ≡ true → refusal (capacity l) (view l) (Asked (InvalidateViaNode a)) ≡ none
-unfolding pathGiven verifiedWrite drawsStamps
-via-allowed l a h = not-refused l (InvalidateViaNode a) h refl refl refl
-
-pub roots-allowed : (l : List ℕ) (a : NodeAddr) → sound (capacity l) (view l) ≡ true → refusal (capacity l) (view l) (Asked (InvalidateOtherRoots a)) ≡ none
-unfolding pathGiven verifiedWrite drawsStamps
-roots-allowed l a h = not-refused l (InvalidateOtherRoots a) h refl refl refl
+unfolding sweepSaid matching sweep sweeps gives
+sweep-done {q} {p} u l n j m h e b z w =
+    let s = viewRows n l in
+    let k = u .keeps (s .rows) in
+    let v : viewRows j m ≡ perform s q .state = w .2 ∙ ap (λ (x : List Row). withOnlyRows x s) k ∙ ap (λ (x : Step). x .state) (sym (u .does s)) in
+    let d = done-rows (sound-memory l n h e) q m j (u .allowed l h) b z v in
+    let r : n - j ≡ matching p s = omega (arith, left-out (λ x. p (x .entry)) (s .rows), view-length n l, w .1 ∙ ap length k) in
+    (ap RowsRemoved r ∙ ap (λ (x : Step). x .answer) (sym (u .does s)) ∙ d .answer, d .memory)
 
 -- ---- clear
 
@@ -110,19 +86,10 @@ nothing-weighs : weighRows inMain [] ≡ 0
 unfolding total
 nothing-weighs = refl
 
-cleared-state : (s : State) → perform s Clear .state ≡ withOnlyRows [] s
-unfolding perform gives
-cleared-state s = refl
-
-cleared-length : (s : State) → length (perform s Clear .state .rows) ≡ 0
-unfolding perform gives withOnlyRows
-cleared-length s = refl
-
-pub cleared : (l : List ℕ) (n : ℕ) (m : List ℕ) → sound (capacity l) (view l) ≡ true → n ≡ viewRows 0 l .rowCount → Bytes m → length m ≡ length l → viewRows 0 m ≡ shrunk n 0 0 l
-    → (0 ≡ refusalOf (call l Clear .answer)) × (m ≡ call l Clear .memory)
+pub cleared : (l : List ℕ) (n : ℕ) (m : List ℕ) → sound (capacity l) (view l) ≡ true → n ≡ viewRows 0 l .rowCount → Bytes m → length m ≡ length l
+    → viewRows 0 m ≡ shrunk n 0 0 l → (0 ≡ refusalOf (call l Clear .answer)) × (m ≡ call l Clear .memory)
 unfolding perform gives refusalOf pathGiven verifiedWrite drawsStamps
 cleared l n m h e b z v =
-    let s = sound-memory l n h e in
-    let t : viewRows 0 m ≡ withOnlyRows [] (viewRows n l) = v ∙ ap (λ (x : ℕ). shrunk n 0 x l) (sym nothing-weighs) ∙ only-shrunk n 0 [] l l (omega arith) refl (none-left n l) in
-    let d = done-with l n Clear m 0 s (not-refused l Clear h refl refl refl) b z (cleared-length (viewRows n l)) (t ∙ sym (cleared-state (viewRows n l))) in
-    (sym (ap refusalOf (d .answer)), sym (d .memory))
+    let t = v ∙ ap (λ (x : ℕ). shrunk n 0 x l) (sym nothing-weighs) ∙ only-shrunk n 0 [] l l (omega arith) refl (none-left n l) in
+    let d = done-rows (sound-memory l n h e) Clear m 0 (not-refused l Clear h refl refl refl) b z t in
+    (ap refusalOf (d .answer), d .memory)

@@ -4,6 +4,7 @@ ghost use mathlib.Core.Path.{_≡_};
 ghost use Prim.Native.Nat.{_≤_};
 ghost use lib.ListN.{length};
 ghost use Rattle.types.specs.Paths.{pathPlaces, emptyPath, elements, startsAt, pathWeight, appended};
+ghost use Rattle.types.specs.Paths.{zeroEntry};
 
 // A node on a path, with the sequence number and the timestamp of its declaration.
 pub struct CoordEntry {
@@ -30,16 +31,22 @@ pub struct Appended {
     pub path: Path,
 }
 
+// What stands past a path's length.
+pub fn zero_entry() -> CoordEntry
+    ensures { λ r. ⌜ r ≡ zeroEntry ⌝ }
+{
+    CoordEntry {
+        node_addr: NodeAddr([0u8; 16]),
+        sequence: 0,
+        timestamp: 0,
+    }
+}
+
 impl Path {
     pub fn empty() -> Path
         ensures { λ r. ⌜ r ≡ emptyPath ⌝ }
     {
-        let a = NodeAddr([0u8; 16]);
-        let e = CoordEntry {
-            node_addr: a,
-            sequence: 0,
-            timestamp: 0,
-        };
+        let e = zero_entry();
         let es = [e; PLACES];
         Path {
             entries: es,

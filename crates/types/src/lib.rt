@@ -1,4 +1,4 @@
-// Addresses, path elements and paths; what calls take and answer (node_addr.rs, coord.rs, entry.rs, mod.rs).
+// Addresses, path elements and paths; what calls take and answer (the original's node_addr.rs, coord.rs, entry.rs, mod.rs).
 pub mod answers;
 pub mod coord;
 pub mod entry;

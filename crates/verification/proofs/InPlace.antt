@@ -1,6 +1,6 @@
 -- A row written again where it stands is the row taken out and filed again.
 use mathlib.Core.Path.{_≡_, refl, sym, ap, _∙_}
-use Prim.Native.Nat.{ℕ, zero, suc, _+_, _-_, _≤_, _<_, _*_}
+use Prim.Native.Nat.{ℕ, zero, suc, _+_, _-_, _≤_, _<_, _*_, min}
 use native.Mathlib.Omega.{arith}
 use mathlib.Core.List.{List, [], _∷_, _++_}
 use mathlib.Core.Option.{some}
@@ -22,14 +22,15 @@ use Rattle.rules.specs.Entries.{update, markVerified, setMtu}
 use Rattle.rules.specs.Lookups.{withEntry, rewrite}
 use Rattle.rules.specs.Room.{refiled, raised, stamp, refile, fileNew, takeOut, hasRoom}
 use Rattle.rules.specs.Placement.{verifiedEntry}
-use Rattle.rules.specs.Memory.{viewRows}
+use Rattle.rules.specs.Memory.{capacity, viewRows}
 use Rattle.rules.proofs.Addresses.{before-irrefl, before-trans, contradiction}
 use Rattle.rules.proofs.RowLists.{Rising, cores, of-cores, every-at, change-at, length-change, total-insert, total-without, total-without-le, total-some, find-at}
 use Rattle.rules.proofs.SoundTest.{Sound, sound-is}
 use Rattle.rules.specs.Layout.{rowSize}
 use Rattle.stamps.proofs.RowTotals.{count-few}
 use Rattle.memory.specs.Edits.{withStoredWeight}
-use Rattle.memory.proofs.RowChanges.{change-twice}
+use Rattle.memory.proofs.Fields.{same-head}
+use Rattle.rules.proofs.RowLists.{change-twice}
 use Rattle.memory.proofs.RowLaws.{view-length, length-without}
 use Rattle.search.specs.declared.outcome.Search.the-variants.{At}
 use Rattle.search.specs.ByKey.{searched}
@@ -58,13 +59,17 @@ insert-back z (suc i) (x ∷ xs) h l e =
 
 -- ---- a row refiled is a row filed
 
-main-row : (k : NodeAddr) (e : Entry) (w q : ℕ) (r : Row) → r .key ≡ k → inMain r ≡ true → _≡_ {A = Row} (record { key = k; entry = e; place = 0; stampFirst = e .lastUsed; stampSeq = q; weight = w }) (refiled q e w r)
+-- the row of main that is filed
+abbrev newRow : NodeAddr → Entry → ℕ → ℕ → Row
+newRow k e w q = record { key = k; entry = e; place = 0; stampFirst = e .lastUsed; stampSeq = q; weight = w }
+
+main-row : (k : NodeAddr) (e : Entry) (w q : ℕ) (r : Row) → r .key ≡ k → inMain r ≡ true → newRow k e w q ≡ refiled q e w r
 unfolding refiled
 main-row k e w q r ek m = rw (m, ek)
 
-weight-in : (k : NodeAddr) (e : Entry) (w q : ℕ) (rs : List Row) → weighRows inMain (insertInOrder (record { key = k; entry = e; place = 0; stampFirst = e .lastUsed; stampSeq = q; weight = w }) rs) ≡ weighRows inMain rs + w
+weight-in : (k : NodeAddr) (e : Entry) (w q : ℕ) (rs : List Row) → weighRows inMain (insertInOrder (newRow k e w q) rs) ≡ weighRows inMain rs + w
 unfolding inMain
-weight-in k e w q rs = omega (arith, total-insert (λ (x : Row). cond (ltb (x .place) 2) (x .weight) 0) (record { key = k; entry = e; place = 0; stampFirst = e .lastUsed; stampSeq = q; weight = w }) rs)
+weight-in k e w q rs = omega (arith, total-insert (λ (x : Row). cond (ltb (x .place) 2) (x .weight) 0) (newRow k e w q) rs)
 
 rest-back : (i : ℕ) (rs : List Row) (l : List ℕ) → i < length rs → drop rowSize (zeroRows (length rs - length (withoutRow i rs)) ++ l) ≡ l
 unfolding zeroRows
@@ -72,17 +77,17 @@ rest-back i rs l h =
     let e : length rs - length (withoutRow i rs) ≡ 1 = omega (arith, length-without i rs h) in
     rw e (drop-at (replicate rowSize 0) l rowSize (length-replicate {A = ℕ} rowSize 0))
 
-module _ (R : ℕ) (k : NodeAddr) (s : State) (d : Sound R s) where
-  pub filed-back : (i w v : ℕ) (e : Entry) → i < length (s .rows) → rowAt i (s .rows) .key ≡ k → inMain (rowAt i (s .rows)) ≡ true → v ≡ weighRows inMain (withoutRow i (s .rows)) + w → withStoredWeight v (refile e w i s) ≡ fileNew k e w 0 (takeOut i s)
-  unfolding fileNew takeOut withOnlyRows withStoredWeight refile stamp raised withRows
-  filed-back i w v e h ek m ev =
-      let q = s .seq + 1 in
-      let z : Row = record { key = k; entry = e; place = 0; stampFirst = e .lastUsed; stampSeq = q; weight = w } in
-      let a : insertInOrder z (withoutRow i (s .rows)) ≡ changeRow (refiled q e w) i (s .rows) =
-      insert-back z i (s .rows) (d .rising) h (sym ek) ∙ change-at (λ r. z) (refiled q e w) i (s .rows) (main-row k e w q (rowAt i (s .rows)) ek m) in
-      let b : weighRows inMain (changeRow (refiled q e w) i (s .rows)) ≡ v = ap (weighRows inMain) (sym a) ∙ weight-in k e w q (withoutRow i (s .rows)) ∙ sym ev in
-      let c : length (changeRow (refiled q e w) i (s .rows)) ≡ s .rowCount = length-change (refiled q e w) i (s .rows) ∙ sym (d .counted) in
-      rw (a, b, c, rest-back i (s .rows) (s .rest) h)
+filed-back : (R : ℕ) (k : NodeAddr) (s : State) → Sound R s → (i w v : ℕ) (e : Entry) → i < length (s .rows) → rowAt i (s .rows) .key ≡ k
+    → inMain (rowAt i (s .rows)) ≡ true → v ≡ weighRows inMain (withoutRow i (s .rows)) + w → withStoredWeight v (refile e w i s) ≡ fileNew k e w 0 (takeOut i s)
+unfolding fileNew takeOut withOnlyRows withStoredWeight refile stamp raised withRows
+filed-back R k s d i w v e h ek m ev =
+    let q = s .seq + 1 in
+    let z = newRow k e w q in
+    let a : insertInOrder z (withoutRow i (s .rows)) ≡ changeRow (refiled q e w) i (s .rows) =
+    insert-back z i (s .rows) (d .rising) h (sym ek) ∙ change-at (λ r. z) (refiled q e w) i (s .rows) (main-row k e w q (rowAt i (s .rows)) ek m) in
+    let b : weighRows inMain (changeRow (refiled q e w) i (s .rows)) ≡ v = ap (weighRows inMain) (sym a) ∙ weight-in k e w q (withoutRow i (s .rows)) ∙ sym ev in
+    let c : length (changeRow (refiled q e w) i (s .rows)) ≡ s .rowCount = length-change (refiled q e w) i (s .rows) ∙ sym (d .counted) in
+    rw (a, b, c, rest-back i (s .rows) (s .rest) h)
 
 -- ---- the entry, in steps
 
@@ -94,7 +99,8 @@ refile-again : (f : Entry → Entry) (e : Entry) (w i : ℕ) (s : State) → f e
 unfolding rewrite refile stamp raised withRows
 refile-again f e w i s h =
     let q = s .seq + 1 in
-    ap (λ (rs : List Row). withRows rs (raised s)) (change-twice (refiled q e w) (λ r. withEntry (f (r .entry)) r) i (s .rows) ∙ change-at _ (refiled q (f e) w) i (s .rows) (row-again f q w e (rowAt i (s .rows)) h))
+    ap (λ (rs : List Row). withRows rs (raised s))
+    (change-twice (refiled q e w) (λ r. withEntry (f (r .entry)) r) i (s .rows) ∙ change-at _ (refiled q (f e) w) i (s .rows) (row-again f q w e (rowAt i (s .rows)) h))
 
 mark-used : (t : ℕ) (e : Entry) → markVerified t e .lastUsed ≡ e .lastUsed
 unfolding markVerified
@@ -109,14 +115,17 @@ mtu-given : (mtu : PathMtu) (e : Entry) → maybe (mtuOf mtu) e (λ m. setMtu m 
 mtu-given Unknown e = refl
 mtu-given (Known m) e = refl
 
-entry-of : (k : NodeAddr) (p : Path) (t i : ℕ) (mtu : PathMtu) (s : State) → find k (s .rows) ≡ some i → verifiedEntry k p t (mtuOf mtu) s ≡ givenMtu mtu (markVerified t (update p t (s .defaultTtl) (rowAt i (s .rows) .entry)))
+entry-of : (k : NodeAddr) (p : Path) (t i : ℕ) (mtu : PathMtu) (s : State) → find k (s .rows) ≡ some i
+    → verifiedEntry k p t (mtuOf mtu) s ≡ givenMtu mtu (markVerified t (update p t (s .defaultTtl) (rowAt i (s .rows) .entry)))
 unfolding verifiedEntry
 entry-of k p t i mtu s f = rw f (mtu-given mtu (markVerified t (update p t (s .defaultTtl) (rowAt i (s .rows) .entry))))
 
 -- the row updated and refiled, marked, given its MTU, and the stored weight set
-pub verified-back : (R : ℕ) (k : NodeAddr) (p : Path) (t ttl i w v : ℕ) (mtu : PathMtu) (s a b c x : State) → Sound R s → searched k (s .rows) ≡ At i → inMain (rowAt i (s .rows)) ≡ true → ttl ≡ s .defaultTtl → v ≡ weighRows inMain (withoutRow i (s .rows)) + w
-    → a ≡ refile (update p t ttl (rowAt i (s .rows) .entry)) w i s → b ≡ rewrite (markVerified t) i a → c ≡ rewrite (givenMtu mtu) i b → x ≡ withStoredWeight v c → x ≡ fileNew k (verifiedEntry k p t (mtuOf mtu) s) w 0 (takeOut i s)
-verified-back R k p t ttl i w v mtu s a b c x d f m et ev ea eb ec ex =
+pub verified-back : (k : NodeAddr) (p : Path) (t w v : ℕ) (mtu : PathMtu) {R ttl i : ℕ} {s a b c x : State} → Sound R s → searched k (s .rows) ≡ At i
+    → inMain (rowAt i (s .rows)) ≡ true → ttl ≡ s .defaultTtl → v ≡ weighRows inMain (withoutRow i (s .rows)) + w
+    → a ≡ refile (update p t ttl (rowAt i (s .rows) .entry)) w i s → b ≡ rewrite (markVerified t) i a → c ≡ rewrite (givenMtu mtu) i b
+    → x ≡ withStoredWeight v c → x ≡ fileNew k (verifiedEntry k p t (mtuOf mtu) s) w 0 (takeOut i s)
+verified-back k p t w v mtu {R} {ttl} {i} {s} {a} {b} {c} d f m et ev ea eb ec ex =
     let o = find-at k (s .rows) i (at-found k (s .rows) i f) in
     let e0 = update p t (s .defaultTtl) (rowAt i (s .rows) .entry) in
     let e1 = markVerified t e0 in
@@ -139,31 +148,39 @@ main-counts r m = rw m
 main-weighs : (r : Row) → inMain r ≡ true → cond (inMain r) (r .weight) 0 ≡ r .weight
 main-weighs r m = rw m
 
-pub main-some : (i : ℕ) (s : State) → i < length (s .rows) → inMain (rowAt i (s .rows)) ≡ true → 0 < mainCount s
-main-some i s h m = omega (arith, total-some (λ r. cond (inMain r) 1 0) i (s .rows) h, main-counts (rowAt i (s .rows)) m)
+pub main-some : (n i : ℕ) (l : List ℕ) → i < n → inMain (rowAt i (viewRows n l .rows)) ≡ true → 0 < mainCount (viewRows n l)
+main-some n i l h m =
+    let rs = viewRows n l .rows in
+    omega (arith, total-some (λ r. cond (inMain r) 1 0) i rs (omega (arith, view-length n l)), main-counts (rowAt i rs) m)
 
-pub weight-out : (R i v w : ℕ) (s : State) → Sound R s → i < length (s .rows) → inMain (rowAt i (s .rows)) ≡ true → v ≡ s .storedWeight → w ≡ rowAt i (s .rows) .weight → (w ≤ v) × (v - w ≡ weighRows inMain (withoutRow i (s .rows)))
-weight-out R i v w s d h m ev ew =
-    let t = total-without (λ r. cond (inMain r) (r .weight) 0) i (s .rows) h in
-    let g = main-weighs (rowAt i (s .rows)) m in
-    let e = d .storedWeight in
+pub weight-out : (n i : ℕ) (l : List ℕ) {v w : ℕ} → (sound (capacity l) (viewRows n l) ≡ true) × (i < n) × (inMain (rowAt i (viewRows n l .rows)) ≡ true)
+    → v ≡ viewRows 0 l .storedWeight → w ≡ rowAt i (viewRows n l .rows) .weight → (w ≤ v) × (v - w ≡ weighRows inMain (withoutRow i (viewRows n l .rows)))
+weight-out n i l h ev ew =
+    let rs = viewRows n l .rows in
+    let t = total-without (λ r. cond (inMain r) (r .weight) 0) i rs (omega (arith, view-length n l, h .1)) in
+    let g = main-weighs (rowAt i rs) (h .2) in
+    let e = sound-is (capacity l) (viewRows n l) (h .0) .storedWeight in
+    let o = same-head 0 n l .storedWeight in
     (omega arith, omega arith)
 
 -- the weight that stays is small
 pub stored-few : (R i : ℕ) (s : State) → sound R s ≡ true → weighRows inMain (withoutRow i (s .rows)) ≤ maxRows * weightLimit
 stored-few R i s h = omega (arith, total-without-le (λ r. cond (inMain r) (r .weight) 0) i (s .rows), sound-is R s h .storedWeight, sound-small R s h .stored)
 
-pub room-out : (i m c u x : ℕ) (s : State) (b : Bool) → i < length (s .rows) → inMain (rowAt i (s .rows)) ≡ true → m ≡ s .maxEntries → ltb c m ≡ ltb (mainCount s - 1) m → u ≡ weighRows inMain (withoutRow i (s .rows))
-    → b ≡ ltb c m && leb (u + x) (weightBound m) → b ≡ inMain (rowAt i (s .rows)) && hasRoom x (takeOut i s)
+pub room-out : (n i w c : ℕ) (l : List ℕ) {m u x : ℕ} {b : Bool} → i < n → inMain (rowAt i (viewRows n l .rows)) ≡ true → m ≡ viewRows n l .maxEntries
+    → ltb c m ≡ ltb (mainCount (viewRows n l) - 1) m → u ≡ weighRows inMain (withoutRow i (viewRows n l .rows)) → x ≡ min w (weightBound m)
+    → b ≡ ltb c m && leb (u + x) (weightBound m) → b ≡ inMain (rowAt i (viewRows n l .rows)) && hasRoom (min w (weightBound (viewRows n l .maxEntries))) (takeOut i (viewRows n l))
 unfolding hasRoom takeOut withOnlyRows
-room-out i m c u x s b h k em ec eu eb =
-    let t : countRows inMain (withoutRow i (s .rows)) ≡ mainCount s - 1 = omega (arith, total-without (λ r. cond (inMain r) 1 0) i (s .rows) h, main-counts (rowAt i (s .rows)) k) in
-    eb ∙ rw (ec, k, t, em, eu)
+room-out n i w c l h k em ec eu ex eb =
+    let rs = viewRows n l .rows in
+    let t : countRows inMain (withoutRow i rs) ≡ mainCount (viewRows n l) - 1 =
+    omega (arith, total-without (λ r. cond (inMain r) 1 0) i rs (omega (arith, view-length n l)), main-counts (rowAt i rs) k) in
+    eb ∙ rw (ec, k, t, ex, em, eu)
 
-pub no-main : (i p : ℕ) (b : Bool) (s : State) → p ≡ rowAt i (s .rows) .place → 2 ≤ p → false ≡ inMain (rowAt i (s .rows)) && b
+pub no-main : (i : ℕ) (b : Bool) (s : State) {p : ℕ} → p ≡ rowAt i (s .rows) .place → 2 ≤ p → false ≡ inMain (rowAt i (s .rows)) && b
 unfolding inMain
-no-main i p b s e h = rw (← e, le-ltb p 2 h)
+no-main i b s {p} e h = rw (← e, le-ltb p 2 h)
 
-pub in-main : (i p : ℕ) (s : State) → p ≡ rowAt i (s .rows) .place → p < 2 → inMain (rowAt i (s .rows)) ≡ true
+pub in-main : (i : ℕ) (s : State) {p : ℕ} → p ≡ rowAt i (s .rows) .place → p < 2 → inMain (rowAt i (s .rows)) ≡ true
 unfolding inMain
-in-main i p s e h = rw (← e, lt-ltb p 2 h)
+in-main i s {p} e h = rw (← e, lt-ltb p 2 h)

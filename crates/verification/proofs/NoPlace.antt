@@ -34,37 +34,40 @@ use Rattle.room.proofs.RoomToFile.{shown, laid-out}
 pub rows-searchable : (n : ℕ) (l : List ℕ) → sound (capacity l) (viewRows n l) ≡ true → (ascends (viewRows n l .rows) ≡ true) × (headSize + n * rowSize ≤ length l)
 rows-searchable n l h = (ascends-test (viewRows n l .rows) (shown n l h .rising), laid-out n l h)
 
-pub row-inside : (n : ℕ) (l : List ℕ) (k : NodeAddr) (i : ℕ) (r : Search) → r ≡ searched k (viewRows n l .rows) → r ≡ At i → i < n
-row-inside n l k i r f g = omega (arith, at-inside k (viewRows n l .rows) i (sym f ∙ g), view-length n l)
+pub row-inside : (n : ℕ) (l : List ℕ) (k : NodeAddr) {i : ℕ} {r : Search} → r ≡ searched k (viewRows n l .rows) → r ≡ At i → i < n
+row-inside n l k {i} f g = omega (arith, at-inside k (viewRows n l .rows) i (sym f ∙ g), view-length n l)
 
-pub held-in-main : (k : NodeAddr) (s : State) (i p : ℕ) (r : Search) → r ≡ searched k (s .rows) → r ≡ At i → p ≡ rowAt i (s .rows) .place → ltb p 2 ≡ keyInMain k s
+pub held-in-main : (k : NodeAddr) (s : State) {i p : ℕ} {r : Search} → r ≡ searched k (s .rows) → r ≡ At i → p ≡ rowAt i (s .rows) .place → ltb p 2 ≡ keyInMain k s
 unfolding keyInMain inMain
-held-in-main k s i p r f g e = rw (found k (s .rows) i r f g, e)
+held-in-main k s {i} {p} {r} f g e = rw (found k (s .rows) i r f g, e)
 
-pub absent-in-main : (k : NodeAddr) (s : State) (i : ℕ) (r : Search) → r ≡ searched k (s .rows) → r ≡ Absent i → false ≡ keyInMain k s
+pub absent-in-main : (k : NodeAddr) (s : State) {i : ℕ} {r : Search} → r ≡ searched k (s .rows) → r ≡ Absent i → false ≡ keyInMain k s
 unfolding keyInMain
-absent-in-main k s i r f g = rw (missing k (s .rows) i r f g)
+absent-in-main k s {i} {r} f g = rw (missing k (s .rows) i r f g)
 
 -- ---- M
 
 -- Q is at most R, and M is what is left
-pub bound-is : (n : ℕ) (l : List ℕ) (rows max q : ℕ) → sound (capacity l) (viewRows n l) ≡ true → rows ≡ capacity l → max ≡ viewRows 0 l .maxEntries → q ≡ probationBound max → (q ≤ rows) × (rows - q ≡ mainBound (capacity l) (viewRows n l .maxEntries))
-bound-is n l rows max q h er em eq =
+pub bound-is : (n : ℕ) (l : List ℕ) {rows max q : ℕ} → sound (capacity l) (viewRows n l) ≡ true → rows ≡ capacity l → max ≡ viewRows 0 l .maxEntries
+    → q ≡ probationBound max → (q ≤ rows) × (rows - q ≡ mainBound (capacity l) (viewRows n l .maxEntries))
+bound-is n l {rows} {max} {q} h er em eq =
     let e : q ≡ probationBound (viewRows n l .maxEntries) = eq ∙ ap probationBound (em ∙ same-head 0 n l .maxEntries) in
     (omega (arith, shown n l h .space), rw (er, e))
 
 -- ---- the three questions, in the code's order
 
-pub held-place : (R : ℕ) (s : State) (v : VerifiedWrite) (a : Bool) → a ≡ keyInMain (v .key) s → a ≡ true → false ≡ noPlaceFor R s v
-unfolding noPlaceFor
-held-place R s v a e h = rw (sym e ∙ h)
+module _ (R : ℕ) (s : State) (v : VerifiedWrite) {a : Bool} (e : a ≡ keyInMain (v .key) s) where
+  pub held-place : a ≡ true → false ≡ noPlaceFor R s v
+  unfolding noPlaceFor
+  held-place h = rw (sym e ∙ h)
 
-pub free-place : (R : ℕ) (s : State) (v : VerifiedWrite) (a : Bool) (c b : ℕ) → a ≡ keyInMain (v .key) s → a ≡ false → c ≡ mainCount s → b ≡ mainBound R (s .maxEntries) → c < b → false ≡ noPlaceFor R s v
-unfolding noPlaceFor
-free-place R s v a c b e h ec eb l = rw (sym e ∙ h, ← ec, ← eb, lt-leb b c l)
+  module _ {c b : ℕ} (h : a ≡ false) (ec : c ≡ mainCount s) (eb : b ≡ mainBound R (s .maxEntries)) where
+    pub free-place : c < b → false ≡ noPlaceFor R s v
+    unfolding noPlaceFor
+    free-place l = rw (sym e ∙ h, ← ec, ← eb, lt-leb b c l)
 
-pub made-place : (R : ℕ) (s : State) (v : VerifiedWrite) (a r : Bool) (c b w : ℕ) → a ≡ keyInMain (v .key) s → a ≡ false → c ≡ mainCount s → b ≡ mainBound R (s .maxEntries) → b ≤ c → w ≡ pathWeight (v .path) → r ≡ roomCanBeMade (v .time) w s → not r ≡ noPlaceFor R s v
-unfolding noPlaceFor
-made-place R s v a r c b w e h ec eb l ew er =
-    let m = sym e ∙ h in
-    rw (m, ← ec, ← eb, le-leb b c l, closed-without-key (v .time) (pathWeight (v .path)) (v .key) s m, ← ew, ← er)
+    pub made-place : {r : Bool} {w : ℕ} → b ≤ c → w ≡ pathWeight (v .path) → r ≡ roomCanBeMade (v .time) w s → not r ≡ noPlaceFor R s v
+    unfolding noPlaceFor
+    made-place l ew er =
+        let m = sym e ∙ h in
+        rw (m, ← ec, ← eb, le-leb b c l, closed-without-key (v .time) (pathWeight (v .path)) (v .key) s m, ← ew, ← er)

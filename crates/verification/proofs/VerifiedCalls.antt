@@ -2,7 +2,7 @@
 use mathlib.Core.Path.{_≡_, refl, sym, ap, _∙_}
 use Prim.Native.Nat.{ℕ, _≤_}
 use mathlib.Core.List.{List}
-use mathlib.Core.Option.{none, some}
+use mathlib.Core.Option.{Option, some}
 use mathlib.Core.Bool.{Bool, true, false}
 use lib.ListN.{length}
 use borrow.Author.Tests.{ltb-false}
@@ -16,18 +16,18 @@ use Rattle.rules.specs.Cases.{maybe}
 use Rattle.rules.specs.Records.{State}
 use Rattle.rules.specs.Sound.{sound}
 use Rattle.rules.specs.Placement.{insertVerified}
-use Rattle.rules.specs.Calls.{Refused, VerifiedDone, pathGiven, drawsStamps, verifiedWrite}
-use Rattle.rules.specs.Refusals.{Asked, refusal, seqSpent, noPlaceFor, perform, verifies, gives}
+use Rattle.rules.specs.Calls.{Call, Refused, VerifiedDone, pathGiven, drawsStamps, verifiedWrite}
+use Rattle.rules.specs.Refusals.{Step, seqSpent, noPlaceFor, perform, verifies, gives}
 use Rattle.rules.specs.Memory.{capacity, viewRows, view}
 use Rattle.rules.specs.Lent.{Bytes, call}
 use Rattle.rules.proofs.Refused.{refused-four, write-allowed}
 use Rattle.rules.proofs.CallsKeep.{path-ok}
-use Rattle.rules.proofs.Public.{SoundMemory, sound-memory}
+use Rattle.rules.proofs.Public.{sound-memory}
 use Rattle.filing.specs.Filings.{Writable}
 use Rattle.refusals.specs.Writes.{writeRefusal}
-use Rattle.refusals.proofs.SoundCalls.{done-with}
+use Rattle.refusals.proofs.SoundCalls.{done-rows}
 use Rattle.refusals.proofs.RefusalsSaid.{said}
-use Rattle.refusals.proofs.WriteRefusals.{passed, write-refused}
+use Rattle.refusals.proofs.WriteRefusals.{Passed, write-refused}
 use Rattle.verification.specs.Mtu.{mtuOf}
 use Rattle.verification.specs.Forms.{verifiedCall}
 
@@ -37,66 +37,61 @@ rows-sound l n h e = rw (sound-memory l n h e .same) h
 
 -- ---- what both forms say
 
-module _ (k : NodeAddr) (p : Path) (t : ℕ) where
-  given-path : (mtu : PathMtu) → pathGiven (verifiedCall k p t mtu) ≡ some p
-  unfolding pathGiven
-  given-path Unknown = refl
-  given-path (Known m) = refl
+-- call q is a verified insert
+record Form (q : Call) (k : NodeAddr) (p : Path) (t : ℕ) (mtu : Option ℕ) : Type 0 where
+  path : pathGiven q ≡ some p
+  stamps : drawsStamps q ≡ true
+  write : verifiedWrite q ≡ some (record { key = k; path = p; time = t })
+  does : (s : State) → perform s q ≡ verifies k p t mtu s
 
-  given-stamps : (mtu : PathMtu) → drawsStamps (verifiedCall k p t mtu) ≡ true
-  unfolding drawsStamps
-  given-stamps Unknown = refl
-  given-stamps (Known m) = refl
+form : (k : NodeAddr) (p : Path) (t : ℕ) (mtu : PathMtu) → Form (verifiedCall k p t mtu) k p t (mtuOf mtu)
+unfolding pathGiven drawsStamps verifiedWrite perform
+form k p t Unknown = record { path = refl; stamps = refl; write = refl; does = λ s. refl }
+form k p t (Known m) = record { path = refl; stamps = refl; write = refl; does = λ s. refl }
 
-  given-write : (mtu : PathMtu) → verifiedWrite (verifiedCall k p t mtu) ≡ some (record { key = k; path = p; time = t })
-  unfolding verifiedWrite
-  given-write Unknown = refl
-  given-write (Known m) = refl
+-- ---- refused by 2 or 3
 
-  performed : (mtu : PathMtu) (s : State) → perform s (verifiedCall k p t mtu) ≡ verifies k p t (mtuOf mtu) s
-  unfolding perform
-  performed Unknown s = refl
-  performed (Known m) s = refl
+pub refused-early : (k : NodeAddr) (p : Path) (t : ℕ) (mtu : PathMtu) (l : List ℕ) {n : ℕ} → sound (capacity l) (view l) ≡ true → n ≡ writeRefusal p (view l) → (n ≡ 0 → ⊥)
+    → (Refused n ≡ call l (verifiedCall k p t mtu) .answer) × (l ≡ call l (verifiedCall k p t mtu) .memory)
+refused-early k p t mtu l {n} h e z = let f = form k p t mtu in write-refused l (verifiedCall k p t mtu) p n h (f .path) (f .stamps) e z
 
-  state-is : (mtu : PathMtu) (s : State) → perform s (verifiedCall k p t mtu) .state ≡ insertVerified k p t (mtuOf mtu) s .state
-  unfolding verifies gives
-  state-is mtu s = rw (performed mtu s)
+-- ---- not refused by 2 or 3: b says whether main has no place
 
-  answer-is : (mtu : PathMtu) (s : State) → perform s (verifiedCall k p t mtu) .answer ≡ VerifiedDone (record { weight = pathWeight p; examined = insertVerified k p t (mtuOf mtu) s .examined })
-  unfolding verifies gives
-  answer-is mtu s = rw (performed mtu s)
+pub record Underway (k : NodeAddr) (p : Path) (t n : ℕ) (b : Bool) (l : List ℕ) : Type 0 where
+  pub sound : sound (capacity l) (view l) ≡ true
+  pub passed : Passed p (view l)
+  pub counted : n ≡ viewRows 0 l .rowCount
+  pub full : b ≡ noPlaceFor (capacity l) (viewRows n l) (record { key = k; path = p; time = t })
 
+module _ {k : NodeAddr} {p : Path} {t n : ℕ} {b : Bool} {l : List ℕ} (u : Underway k p t n b l) where
   -- number 4, over the rows that the code meets
-  four-of : (mtu : PathMtu) (l : List ℕ) (n : ℕ) (b : Bool) → SoundMemory l n → b ≡ noPlaceFor (capacity l) (viewRows n l) (record { key = k; path = p; time = t }) → maybe (verifiedWrite (verifiedCall k p t mtu)) false (noPlaceFor (capacity l) (view l)) ≡ b
-  four-of mtu l n b s e = rw (given-write mtu, ← s .same, ← e)
+  four-of : (mtu : PathMtu) → maybe (verifiedWrite (verifiedCall k p t mtu)) false (noPlaceFor (capacity l) (view l)) ≡ b
+  four-of mtu = rw (form k p t mtu .write, ← sound-memory l n (u .sound) (u .counted) .same, ← u .full)
 
-  -- ---- refused
-
-  pub refused-early : (mtu : PathMtu) (l : List ℕ) (n : ℕ) → sound (capacity l) (view l) ≡ true → n ≡ writeRefusal p (view l) → (n ≡ 0 → ⊥) → (Refused n ≡ call l (verifiedCall k p t mtu) .answer) × (l ≡ call l (verifiedCall k p t mtu) .memory)
-  refused-early mtu l n h e z = write-refused l (verifiedCall k p t mtu) p n h (given-path mtu) (given-stamps mtu) e z
-
-  pub refused-by-four : (mtu : PathMtu) (l : List ℕ) (n r : ℕ) (b : Bool) → sound (capacity l) (view l) ≡ true → r ≡ writeRefusal p (view l) → r ≡ 0 → n ≡ viewRows 0 l .rowCount → b ≡ noPlaceFor (capacity l) (viewRows n l) (record { key = k; path = p; time = t }) → b ≡ true → (Refused 4 ≡ call l (verifiedCall k p t mtu) .answer) × (l ≡ call l (verifiedCall k p t mtu) .memory)
-  refused-by-four mtu l n r b h er z en e y =
-      let w = passed p (view l) r er z in
-      said l (verifiedCall k p t mtu) 4 (refused-four (capacity l) (view l) (verifiedCall k p t mtu) h (rw (given-path mtu) (w .path)) (w .stamps) (four-of mtu l n b (sound-memory l n h en) e ∙ y))
-
-  -- ---- done
-
-  pub insert-asked : (l : List ℕ) (n r : ℕ) (b : Bool) → sound (capacity l) (view l) ≡ true → r ≡ writeRefusal p (view l) → r ≡ 0 → n ≡ viewRows 0 l .rowCount → b ≡ noPlaceFor (capacity l) (viewRows n l) (record { key = k; path = p; time = t }) → b ≡ false → (sound (capacity l) (viewRows n l) ≡ true) × Writable p × (viewRows n l .seq ≤ 18446744073709547519) × (noPlaceFor (capacity l) (viewRows n l) (record { key = k; path = p; time = t }) ≡ false)
-  unfolding seqSpent
-  insert-asked l n r b h er z en e y =
-      let w = passed p (view l) r er z in
-      let g = path-ok p (w .path) in
-      (rows-sound l n h en, record { long = g .long; short = g .short }, rw (sound-memory l n h en .same) (ltb-false 18446744073709547519 (view l .seq) (w .stamps)), sym e ∙ y)
-
-  pub insert-done : (mtu : PathMtu) (l : List ℕ) (n r : ℕ) (b : Bool) (m : List ℕ) (v : VerifiedInsert) → sound (capacity l) (view l) ≡ true → r ≡ writeRefusal p (view l) → r ≡ 0 → n ≡ viewRows 0 l .rowCount → b ≡ noPlaceFor (capacity l) (viewRows n l) (record { key = k; path = p; time = t }) → b ≡ false
-      → Bytes m → length m ≡ length l → v ≡ record { weight = pathWeight p; examined = insertVerified k p t (mtuOf mtu) (viewRows n l) .examined } → viewRows (length (insertVerified k p t (mtuOf mtu) (viewRows n l) .state .rows)) m ≡ insertVerified k p t (mtuOf mtu) (viewRows n l) .state
-      → (VerifiedDone v ≡ call l (verifiedCall k p t mtu) .answer) × (m ≡ call l (verifiedCall k p t mtu) .memory)
-  insert-done mtu l n r b m v h er z en e y bytes size ev em =
+  pub refused-by-four : (mtu : PathMtu) → b ≡ true → (Refused 4 ≡ call l (verifiedCall k p t mtu) .answer) × (l ≡ call l (verifiedCall k p t mtu) .memory)
+  refused-by-four mtu y =
       let q = verifiedCall k p t mtu in
-      let w = passed p (view l) r er z in
-      let s = sound-memory l n h en in
-      let a : refusal (capacity l) (view l) (Asked q) ≡ none = write-allowed (capacity l) (view l) q h (rw (given-path mtu) (w .path)) (w .stamps) (four-of mtu l n b s e ∙ y) in
-      let c = state-is mtu (viewRows n l) in
-      let d = done-with l n q m (length (insertVerified k p t (mtuOf mtu) (viewRows n l) .state .rows)) s a bytes size (ap (λ (x : State). length (x .rows)) c) (em ∙ sym c) in
-      (sym (d .answer ∙ ap (λ (x : State). perform x q .answer) (sym (s .same)) ∙ answer-is mtu (viewRows n l) ∙ ap VerifiedDone (sym ev)), sym (d .memory))
+      said l q 4 (refused-four (capacity l) (view l) q (u .sound) (rw (form k p t mtu .path) (u .passed .path)) (u .passed .stamps) (four-of mtu ∙ y))
+
+  -- what filing asks
+  pub insert-asked : b ≡ false → (sound (capacity l) (viewRows n l) ≡ true) × Writable p × (viewRows n l .seq ≤ 18446744073709547519)
+      × (noPlaceFor (capacity l) (viewRows n l) (record { key = k; path = p; time = t }) ≡ false)
+  unfolding seqSpent
+  insert-asked y =
+      let g = path-ok p (u .passed .path) in
+      let s = sound-memory l n (u .sound) (u .counted) .same in
+      (rw s (u .sound), record { long = g .long; short = g .short }, rw s (ltb-false 18446744073709547519 (view l .seq) (u .passed .stamps)), sym (u .full) ∙ y)
+
+  -- the call is done
+  pub insert-done : (mtu : PathMtu) (m : List ℕ) (v : VerifiedInsert) → b ≡ false → Bytes m → length m ≡ length l
+      → v ≡ record { weight = pathWeight p; examined = insertVerified k p t (mtuOf mtu) (viewRows n l) .examined }
+      → viewRows (length (insertVerified k p t (mtuOf mtu) (viewRows n l) .state .rows)) m ≡ insertVerified k p t (mtuOf mtu) (viewRows n l) .state
+      → (VerifiedDone v ≡ call l (verifiedCall k p t mtu) .answer) × (m ≡ call l (verifiedCall k p t mtu) .memory)
+  unfolding verifies gives
+  insert-done mtu m v y bytes size ev em =
+      let q = verifiedCall k p t mtu in
+      let f = form k p t mtu in
+      let a = write-allowed (capacity l) (view l) q (u .sound) (rw (f .path) (u .passed .path)) (u .passed .stamps) (four-of mtu ∙ y) in
+      let e = f .does (viewRows n l) in
+      let d = done-rows (sound-memory l n (u .sound) (u .counted)) q m _ a bytes size (em ∙ ap (λ (x : Step). x .state) (sym e)) in
+      (ap VerifiedDone ev ∙ ap (λ (x : Step). x .answer) (sym e) ∙ d .answer, d .memory)

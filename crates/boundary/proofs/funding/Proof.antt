@@ -1,3 +1,4 @@
+-- Of the kinds up to 1, 0 meets the first test of the definition and 1 only the second.
 use borrow.Author.Tests.{ne-eqb, eq-eqb}
 use mathlib.Core.Path.{_≡_}
 use native.Mathlib.Omega.{arith}

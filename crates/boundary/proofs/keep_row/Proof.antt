@@ -1,34 +1,33 @@
-use Rattle.rules.specs.Memory.{viewRows}
-use Rattle.rules.proofs.Public.{sound-memory}
+-- The search settles both ways: at the row that it found stand the bytes that a removal takes out, and where it found none the room is left.
 use mathlib.Core.Path.{_∙_}
-use Rattle.refusals.proofs.SoundCalls.{head-there, searchable, found-inside, found, missing}
-use Rattle.boundary.proofs.Operands.{row-taken, row-left}
 use borrow.Author.Needs.{needs}
+use Rattle.refusals.proofs.SoundCalls.{head-there, searchable}
+use Rattle.boundary.proofs.Operands.{Searched, row-inside, row-taken, row-left}
 use Rattle.boundary.proofs.keep_row.Statement.{statement}
 use Rattle.boundary.proofs.keep_row.Tie as tie
 
+abbrev start : tie.After-search → tie.Start
+start c = c .before .before .before
+
+searched : (c : tie.After-search) → Searched (start c .args .key) (c .before .row-count .result) (c .search .result) (start c .args .state .now)
+searched c = record { sound = start c .pre; counted = c .before .row-count .ensures; result = c .search .ensures }
+
 row-count-requires : tie.Need-row-count-requires
-row-count-requires c κs = head-there (c .before .args .state .now) (c .before .pre)
+row-count-requires c κs = head-there _ (c .before .pre)
 
 search-requires : tie.Need-search-requires
-search-requires c κs = searchable (c .before .before .args .state .now) (c .row-count .result) (c .before .before .pre) (c .row-count .ensures)
+search-requires c κs = searchable _ _ (c .before .before .pre) (c .row-count .ensures)
 
 save-row-requires : tie.Need-save-row-requires
-save-row-requires c κs = found-inside (c .before .before .before .before .before .before .args .state .now) (c .before .before .before .before .row-count .result) (c .before .before .before .before .before .before .args .key) _ (c .before .before .before .search .result) (c .before .before .before .before .before .before .pre) (c .before .before .before .before .row-count .ensures) (c .before .before .before .search .ensures) (c .before .at .given .1)
+save-row-requires c κs = row-inside (searched (c .before .before .before)) _ (c .before .at .given .1)
 
 returns : tie.Need-returns
 returns c =
-    let s = c .before .before .before .before .before .before .before in
-    let l = s .args .state .now in
-    let n = c .before .before .before .before .before .row-count .result in
-    c .save-row .ensures ∙ row-taken l n (s .args .key) _ _ (s .pre) (sound-memory l n (s .pre) (c .before .before .before .before .before .row-count .ensures)) (found (s .args .key) (viewRows n l .rows) _ (c .before .before .before .before .search .result) (c .before .before .before .before .search .ensures) (c .before .before .at .given .1))
+    let found = c .before .before in
+    c .save-row .ensures ∙ row-taken (searched (found .before .before)) _ _ (found .at .given .1)
 
 returns-2 : tie.Need-returns-2
-returns-2 c =
-    let s = c .before .before .before .before .before in
-    let l = s .args .state .now in
-    let n = c .before .before .before .row-count .result in
-    row-left l n (s .args .key) _ (s .pre) (sound-memory l n (s .pre) (c .before .before .before .row-count .ensures)) (missing (s .args .key) (viewRows n l .rows) _ (c .before .before .search .result) (c .before .before .search .ensures) (c .enum-told .given .1))
+returns-2 c = row-left (searched (c .before .before)) _ _ (c .enum-told .given .1)
 
 pub keep-row-spec : {M : Type 1} → statement M
 keep-row-spec =

@@ -1,3 +1,4 @@
+-- An address that a function holds by value has sixteen bytes, each below 256, which its type tells the prover.
 use mathlib.Core.Path.{refl}
 use Rattle.memory.proofs.OwnedValues.{owned-addr}
 use Rattle.boundary.proofs.owned.Statement.{statement}

@@ -1,38 +1,33 @@
-use mathlib.Core.Path.{ap}
-use mathlib.Core.Path.{_≡_, refl, sym, _∙_}
-use mathlib.Core.List.{_++_}
-use Prim.Native.Nat.{_-_, _*_, _≤_, min}
+-- Before each turn the first k places hold the bytes' first k elements and the rest are zeros; when k is the number held, that is the path.
+use mathlib.Core.Path.{refl, ap}
+use Prim.Native.Nat.{_-_}
 use native.Mathlib.Omega.{arith}
 use borrow.Author.Needs.{needs}
-use lib.ListN.{length, take, drop, replicate, length-set}
-use Rattle.types.specs.Paths.{zeroEntry, pathPlaces}
-use Rattle.rules.specs.Memory.{coordEntriesOf}
-use Rattle.raw.proofs.CopyLaws.{stored}
-use Rattle.entries.proofs.PathElements.{entries-length, entries-at}
-use Rattle.boundary.proofs.Operands.{path-made}
+use lib.ListN.{replicate}
+use Rattle.types.specs.Paths.{pathPlaces}
+use Rattle.boundary.proofs.Operands.{Copied, copied-more, path-made}
 use Rattle.boundary.proofs.path_from.Statement.{statement}
 use Rattle.boundary.proofs.path_from.Tie as tie
 
 abbrev Inv-loop : tie.InvT-loop
-Inv-loop bytes len held entries₀ k₀ entries k = (k ≤ held) × (entries ≡ take k (coordEntriesOf held bytes) ++ drop k (replicate pathPlaces zeroEntry)) × (length entries ≡ pathPlaces)
+Inv-loop bytes len held entries₀ k₀ entries k = Copied bytes held k entries
 
 abbrev μ-loop : tie.MeasureT-loop
 μ-loop bytes len held entries₀ k₀ entries k = held - k
 
 loop-holds : tie.Need-loop-holds Inv-loop μ-loop
-loop-holds c = (omega arith, ap (replicate pathPlaces) (c .zero-entry .ensures), refl)
+loop-holds c = record { within = omega arith; part = ap (replicate pathPlaces) (c .zero-entry .ensures); places = refl }
 
 load-coord-entry-requires : tie.Need-load-coord-entry-requires Inv-loop μ-loop
 load-coord-entry-requires c κs = omega (arith, c .before .before .before .lesser .ensures)
 
 loop-again : tie.Need-loop-again Inv-loop μ-loop
 loop-again c =
-    let s = c .before .before .before .before .before .before .args in
-    let n = entries-length (c .before .before .before .before .lesser .result) (s .bytes .now) in
-    (omega arith, stored (coordEntriesOf (c .before .before .before .before .lesser .result) (s .bytes .now)) (replicate pathPlaces zeroEntry) (c .before .before .loop .entries) (c .before .before .loop .k) (c .load-coord-entry .result) (c .load-coord-entry .result) (c .before .before .loop .inv .1) (c .load-coord-entry .ensures ∙ sym (entries-at (c .before .before .before .before .lesser .result) (c .before .before .loop .k) (s .bytes .now) _ (omega arith))) (omega (arith, n)) (omega (arith, c .before .before .before .before .lesser .ensures)), simp length-set (c .before .before .loop .inv .2))
+    let turn = c .before .before in
+    copied-more (turn .loop .inv) (omega arith) (omega (arith, turn .before .before .lesser .ensures)) (c .load-coord-entry .ensures)
 
 returns : tie.Need-returns Inv-loop μ-loop
-returns c = path-made (c .before .before .before .before .before .args .bytes .now) _ (c .before .before .before .lesser .result) (c .before .loop .k) (c .before .loop .entries) refl (c .before .before .before .lesser .ensures) (c .before .loop .inv .1) (omega arith)
+returns c = path-made (c .before .loop .inv) refl (c .before .before .before .lesser .ensures) (omega arith)
 
 pub path-from-spec : {M : Type 1} → statement M
 path-from-spec =

@@ -3,74 +3,65 @@ use mathlib.Core.Path.{_≡_}
 use Prim.Native.Nat.{_-_}
 use native.Mathlib.Omega.{arith}
 use native.Mathlib.Nat.{mod-lt}
-use lib.ListN.{drop}
 use borrow.Author.Needs.{needs}
-use Rattle.rules.specs.Rows.{total}
-use Rattle.rules.specs.Memory.{viewRows}
 use Rattle.rules.specs.Statistics.{totalAge, mean}
-use Rattle.statistics.proofs.Means.{Mean, mean-start, sum-fits, high-fits, mean-fits, age-turn, ages-end}
+use Rattle.statistics.proofs.Means.{Ages, mean-start, sum-fits, high-fits, mean-fits, age-turn, ages-end}
 use Rattle.statistics.proofs.mean_age.Statement.{statement}
 use Rattle.statistics.proofs.mean_age.Tie as tie
 
 abbrev Inv-loop : tie.InvT-loop
-Inv-loop state n time count high₀ low₀ i₀ high low i = (count ≡ n) × Mean n i high low (total (λ x. time - x .entry .createdAt) (drop i (viewRows n state .rows))) (total (λ x. time - x .entry .createdAt) (viewRows n state .rows))
+Inv-loop state n time count high₀ low₀ i₀ high low i = (count ≡ n) × Ages state n time i high low
 
 abbrev μ-loop : tie.MeasureT-loop
 μ-loop state n time count high₀ low₀ i₀ high low i = n - i
 
 returns : tie.Need-returns Inv-loop μ-loop
 unfolding mean
-returns c =
-    let e : c .before .before .args .n ≡ 0 = c .if1 .taken in
-    rw e
+returns c = let e : c .before .before .args .n ≡ 0 = c .if1 .taken in rw e
 
 loop-holds : tie.Need-loop-holds Inv-loop μ-loop
 unfolding totalAge
-loop-holds c =
-    let s = c .before .before .args in
-    (search needs, mean-start (s .n) _ (omega arith))
+loop-holds c = (search needs, mean-start (c .before .before .args .n) _ (omega arith))
 
 add-high : tie.Need-add-high Inv-loop μ-loop
-add-high c = record { fits = sum-fits (c .before .before .before .before .before .args .n) (c .before .before .loop .i) (c .before .before .loop .high) (c .before .before .loop .low) _ _ (c .age .result) (c .before .before .before .before .before .pre .0) (omega (arith, c .age .ensures, c .before .before .before .before .before .fits .time .fits)) (c .before .before .loop .inv .1) }
+add-high c =
+    let turn = c .before .before in
+    let start = turn .before .before .before in
+    record { fits = sum-fits (turn .loop .inv .1) (c .age .result) (start .pre .0) (omega (arith, c .age .ensures, start .fits .time .fits)) }
 
 add-low : tie.Need-add-low Inv-loop μ-loop
-add-low c = omega (arith, c .before .before .loop .inv .1 .low, c .before .before .loop .inv .1 .within, c .before .before .before .before .before .pre .0)
+add-low c =
+    let turn = c .before .before in
+    omega (arith, turn .loop .inv .1 .low, turn .loop .inv .1 .within, turn .before .before .before .pre .0)
 
 add-i : tie.Need-add-i Inv-loop μ-loop
 add-i c = omega (arith, c .before .before .loop .inv .1 .within)
 
 loop-again : tie.Need-loop-again Inv-loop μ-loop
 loop-again c =
-    let s = c .before .before .before .before .before .args in
-    (c .before .before .loop .inv .0, age-turn (s .state .now) (s .n) (c .before .before .loop .i) (c .before .before .loop .high) (c .before .before .loop .low) (c .age .result) (s .time) (c .before .before .before .before .before .pre .0) (omega arith) (c .before .before .before .before .before .fits .time .fits) (c .age .ensures) (c .before .before .loop .inv .1))
+    let turn = c .before .before in
+    let start = turn .before .before .before in
+    let v = turn .loop .inv in
+    (v .0, age-turn _ _ _ _ _ _ (v .1) (c .age .result) (start .pre .0) (omega arith) (start .fits .time .fits) (c .age .ensures))
 
 mul-rest : tie.Need-mul-rest Inv-loop μ-loop
 mul-rest c =
-    let v = c .before .loop .inv .1 in
-    rw (c .before .loop .inv .0) (omega (arith, mod-lt (c .before .loop .high) (v .some-rows), c .before .before .before .before .pre .0))
+    let v = c .before .loop .inv in
+    rw (v .0) (omega (arith, mod-lt (c .before .loop .high) (v .1 .some-rows), c .before .before .before .before .pre .0))
 
 add-rest : tie.Need-add-rest Inv-loop μ-loop
 add-rest c =
-    let v = c .before .loop .inv .1 in
-    rw (c .before .loop .inv .0) (omega (arith, mod-lt (c .before .loop .high) (v .some-rows), v .low, v .within, c .before .before .before .before .pre .0))
+    let v = c .before .loop .inv in
+    rw (v .0) (omega (arith, mod-lt (c .before .loop .high) (v .1 .some-rows), v .1 .low, v .1 .within, c .before .before .before .before .pre .0))
 
 mul-result : tie.Need-mul-result Inv-loop μ-loop
-mul-result c =
-    let v = c .before .loop .inv .1 in
-    rw (c .before .loop .inv .0) (omega (arith, high-fits (c .before .before .before .before .args .n) (c .before .loop .i) (c .before .loop .high) (c .before .loop .low) _ _ (omega (arith, v .within)) v))
+mul-result c = let v = c .before .loop .inv in rw (v .0) (omega (arith, high-fits (v .1) (omega (arith, v .1 .within))))
 
 add-result : tie.Need-add-result Inv-loop μ-loop
-add-result c =
-    let s = c .before .before .before .before .args in
-    let v = c .before .loop .inv .1 in
-    let k : c .before .loop .i ≡ s .n = omega (arith, v .within) in
-    rw (c .before .loop .inv .0) (omega (arith, mean-fits (s .n) (c .before .loop .high) (c .before .loop .low) _ _ (rw k at v)))
+add-result c = let v = c .before .loop .inv in rw (v .0) (omega (arith, mean-fits (v .1) (omega (arith, v .1 .within))))
 
 returns-2 : tie.Need-returns-2 Inv-loop μ-loop
-returns-2 c =
-    let s = c .before .before .before .before .args in
-    let v = c .before .loop .inv .1 in
-    rw (c .before .loop .inv .0) (ages-end (s .state .now) (s .n) (c .before .loop .i) (c .before .loop .high) (c .before .loop .low) (s .time) (omega (arith, v .within)) v)
+returns-2 c = let v = c .before .loop .inv in rw (v .0) (ages-end _ _ _ _ _ _ (v .1) (omega (arith, v .1 .within)))
 
 pub mean-age-spec : {M : Type 1} → statement M
 mean-age-spec =

@@ -9,7 +9,7 @@ use Rattle.rules.specs.Calls.{ExpiryGiven}
 use Rattle.rules.specs.Statistics.{nextExpiry}
 use Rattle.rules.specs.Memory.{viewRows}
 use Rattle.rules.specs.Answers.{expirySaid}
-use Rattle.memory.proofs.RowLaws.{view-length}
+use Rattle.rules.proofs.Foreign.{view-length}
 use Rattle.statistics.proofs.Means.{expiry-none, expiry-last, expiry-turn}
 use Rattle.statistics.proofs.next_expiry_of.Statement.{statement}
 use Rattle.statistics.proofs.next_expiry_of.Tie as tie
@@ -34,11 +34,12 @@ loop-holds c =
 
 loop-again : tie.Need-loop-again Inv-loop μ-loop
 loop-again c =
-    let s = c .before .before .before .before .before .before .before .args in
-    let l = c .before .before .before .loop in
-    let rs = viewRows (s .n) (s .state .now) .rows in
+    let turn = c .before .before .before in
+    let s = turn .before .before .before .before .args in
+    let l = turn .loop in
     let e : l .i - 1 + 1 ≡ l .i = omega arith in
-    (omega arith, expiry-turn (l .i - 1) (l .soonest) rs (omega (arith, view-length (s .n) (s .state .now))) (rw e (l .inv .1)) ∙ ap (λ (x : ℕ). some (min x (l .soonest))) (sym (c .before .expires-at2 .ensures)) ∙ ap some (sym (c .lesser .ensures)))
+    let z = ap (λ (x : ℕ). some (min x (l .soonest))) (sym (c .before .expires-at2 .ensures)) ∙ ap some (sym (c .lesser .ensures)) in
+    (omega arith, expiry-turn (l .i - 1) (l .soonest) (viewRows (s .n) (s .state .now) .rows) (omega (arith, view-length (s .n) (s .state .now))) (rw e (l .inv .1)) ∙ z)
 
 returns-2 : tie.Need-returns-2 Inv-loop μ-loop
 unfolding expirySaid

@@ -2,8 +2,8 @@
 use mathlib.Core.Path.{_∙_}
 use Rattle.rules.specs.Statistics.{stats}
 use Rattle.rules.specs.Lookups.{matching}
+use Rattle.rules.proofs.Foreign.{view-length}
 use Rattle.memory.proofs.Fields.{same-head}
-use Rattle.memory.proofs.RowLaws.{view-length}
 use borrow.Author.Needs.{needs}
 use Rattle.statistics.proofs.stats_of.Statement.{statement}
 use Rattle.statistics.proofs.stats_of.Tie as tie

@@ -6,18 +6,14 @@ use Rattle.statistics.proofs.StatisticsCalls.{stats-done}
 use Rattle.statistics.proofs.stats_unchecked.Statement.{statement}
 use Rattle.statistics.proofs.stats_unchecked.Tie as tie
 
-row-count-requires : tie.Need-row-count-requires
-row-count-requires c κs = head-there (c .before .args .state .now) (c .before .pre)
-
 stats-of-requires : tie.Need-stats-of-requires
-stats-of-requires c κs =
-    let s = sound-memory (c .before .before .args .state .now) (c .row-count .result) (c .before .before .pre) (c .row-count .ensures) in
-    (s .few, s .long)
+stats-of-requires c κs = let s = sound-memory _ _ (c .before .before .pre) (c .row-count .ensures) in (s .few, s .long)
 
 returns : tie.Need-returns
 returns c =
-    let l = c .before .before .before .args .state .now in
-    stats-done l (c .before .row-count .result) (c .before .before .before .args .time) _ (c .before .before .before .pre) (c .before .row-count .ensures) (all-bytes l (λ i. c .before .before .shared-slice-known .given i .fits)) (c .stats-of .ensures)
+    let counted = c .before in
+    let start = counted .before .before in
+    stats-done _ _ (start .pre) (counted .row-count .ensures) (all-bytes (start .args .state .now) (λ i. counted .before .shared-slice-known .given i .fits)) _ _ (c .stats-of .ensures)
 
 pub stats-unchecked-spec : {M : Type 1} → statement M
-stats-unchecked-spec = tie.close (tie.spec row-count-requires stats-of-requires returns)
+stats-unchecked-spec = tie.close (tie.spec (λ c κs. head-there _ (c .before .pre)) stats-of-requires returns)

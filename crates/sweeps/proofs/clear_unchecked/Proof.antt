@@ -8,16 +8,19 @@ use Rattle.sweeps.proofs.SweepCalls.{cleared}
 use Rattle.sweeps.proofs.clear_unchecked.Statement.{statement}
 use Rattle.sweeps.proofs.clear_unchecked.Tie as tie
 
-row-count-requires : tie.Need-row-count-requires
-row-count-requires c κs = head-there (c .before .before .args .state .now) (c .before .before .pre)
-
-shrink-requires : tie.Need-shrink-requires
-shrink-requires c κs = (omega arith, sound-memory (c .before .before .before .before .args .state .now) (c .before .row-count .result) (c .before .before .before .before .pre) (c .before .row-count .ensures) .long)
-
 returns : tie.Need-returns
 returns c =
-    let m = c .before .before .shrink .last .0 in
-    cleared (c .before .before .before .before .before .before .before .args .state .now) (c .before .before .before .before .row-count .result) m (c .before .before .before .before .before .before .before .pre) (c .before .before .before .before .row-count .ensures) (all-bytes m (λ i. c .slice-known2 .given i .fits)) (c .before .before .shrink .kept .0) (c .before .before .shrink .ensures)
+    let shrunk = c .before .before in
+    let counted = shrunk .before .before in
+    let start = counted .before .before .before in
+    let r = shrunk .shrink in
+    cleared _ _ _ (start .pre) (counted .row-count .ensures) (all-bytes (r .last .0) (λ i. c .slice-known2 .given i .fits)) (r .kept .0) (r .ensures)
 
 pub clear-unchecked-spec : {M : Type 1} → statement M
-clear-unchecked-spec = tie.close (tie.spec row-count-requires shrink-requires (λ c. search needs) returns)
+clear-unchecked-spec =
+    tie.close
+    (tie.spec
+    (λ c κs. head-there _ (c .before .before .pre))
+    (λ c κs. (omega arith, sound-memory _ _ (c .before .before .before .before .pre) (c .before .row-count .ensures) .long))
+    (λ c. search needs)
+    returns)

@@ -1,21 +1,9 @@
 -- By one-said, Refused(1) and the untouched memory are the call's result where is_sound fails; else the unchecked contract is the same.
-use mathlib.Core.Path.{sym, _∙_}
-use borrow.Author.Tests.{not-true, not-false}
-use Rattle.rules.specs.Calls.{InvalidateViaNode}
 use Rattle.rules.specs.Answers.{sweepSaid}
 use borrow.Author.Needs.{needs}
-use Rattle.refusals.proofs.RefusalsSaid.{one-said}
+use Rattle.refusals.proofs.RefusalsSaid.{checked, one-said}
 use Rattle.sweeps.proofs.invalidate_via_node.Statement.{statement}
 use Rattle.sweeps.proofs.invalidate_via_node.Tie as tie
-
-returns : tie.Need-returns
-unfolding sweepSaid
-returns c =
-    let s = c .before .before .before .before in
-    one-said (s .args .state .now) (InvalidateViaNode (s .args .addr)) (sym (c .before .is-sound .ensures) ∙ not-true _ (c .if1 .taken))
-
-invalidate-via-node-unchecked-requires : tie.Need-invalidate-via-node-unchecked-requires
-invalidate-via-node-unchecked-requires c κs = sym (c .before .before .is-sound .ensures) ∙ not-false _ (c .before .if1 .left)
 
 pub invalidate-via-node-spec : {M : Type 1} → statement M
 invalidate-via-node-spec =
@@ -23,7 +11,7 @@ invalidate-via-node-spec =
     (tie.spec
     (λ c κs. search needs)
     (λ c. search needs)
-    returns
-    invalidate-via-node-unchecked-requires
+    (λ c. unfold sweepSaid in one-said _ (c .before .is-sound .ensures) _ (c .if1 .taken))
+    (λ c κs. checked _ (c .before .before .is-sound .ensures) (c .before .if1 .left))
     (λ c. search needs)
     (λ c. search needs))

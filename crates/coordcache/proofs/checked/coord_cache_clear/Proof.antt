@@ -1,16 +1,8 @@
-use mathlib.Core.Path.{refl}
-use Rattle.rules.specs.Calls.{Clear}
-use Rattle.rules.specs.Refusals.{performRequest, perform, gives}
-use Rattle.rules.specs.Lent.{call}
-use Rattle.coordcache.proofs.Telling.{told, number-told}
+-- Clear makes no memory sound: one that is not is refused by 1, and any other is emptied by the unchecked export.
 use borrow.Author.Needs.{needs}
+use Rattle.coordcache.proofs.ToldRefusals.{found-sound, one-told}
 use Rattle.coordcache.proofs.checked.coord_cache_clear.Statement.{statement}
 use Rattle.coordcache.proofs.checked.coord_cache_clear.Tie as tie
-
-returns : tie.Need-returns
-unfolding performRequest perform gives
-returns c =
-    told (call (c .before .before .before .before .before .before .before .before .args .state .now) Clear) (c .before .before .refused .result) _ _ _ (number-told (c .before .before .before .before .before .before .before .before .args .state .now) Clear (c .before .before .before .before .before .clear .result) (c .before .before .refused .result) refl (c .before .before .before .before .before .clear .ensures .0) (c .before .before .refused .ensures)) (c .tell .ensures .0) (c .tell .ensures .1) (c .before .before .before .before .before .clear .ensures .1)
 
 pub coord-cache-clear-spec : {M : Type 1} → statement M
 coord-cache-clear-spec =
@@ -20,4 +12,7 @@ coord-cache-clear-spec =
     (λ c κs. search needs)
     (λ c κs. search needs)
     (λ c. search needs)
-    returns)
+    (λ c. search one-told)
+    (λ c κs. search found-sound)
+    (λ c. search needs)
+    (λ c. search needs))

@@ -1,15 +1,8 @@
-use mathlib.Core.Path.{_∙_, ap}
-use Rattle.rules.specs.Commands.{reply}
-use Rattle.rules.specs.Calls.{Demote}
-use Rattle.coordcache.proofs.Telling.{told-call}
+-- That a key is held is said of sound memories alone, by the unchecked export; before that stands the test, with 1.
 use borrow.Author.Needs.{needs}
+use Rattle.coordcache.proofs.ToldRefusals.{found-sound, one-told}
 use Rattle.coordcache.proofs.checked.coord_cache_demote.Statement.{statement}
 use Rattle.coordcache.proofs.checked.coord_cache_demote.Tie as tie
-
-returns : tie.Need-returns
-returns c =
-    let s = c .before .before .before .before .before .before .before .before .before .args in
-    told-call (s .state .now) _ _ (c .before .before .demote-reply .result) _ _ _ (ap Demote (c .before .before .before .before .before .before .before .address .ensures .0)) (c .before .before .demote-reply .ensures ∙ ap reply (c .before .before .before .before .before .demote .ensures .0)) (c .tell .ensures .0) (c .tell .ensures .1) (c .before .before .before .before .before .demote .ensures .1)
 
 pub coord-cache-demote-spec : {M : Type 1} → statement M
 coord-cache-demote-spec =
@@ -18,6 +11,8 @@ coord-cache-demote-spec =
     (λ c κs. search needs)
     (λ c κs. search needs)
     (λ c κs. search needs)
-    (λ c κs. search needs)
     (λ c. search needs)
-    returns)
+    (λ c. search one-told)
+    (λ c κs. search found-sound)
+    (λ c. search needs)
+    (λ c. search needs))

@@ -1,11 +1,12 @@
-use mathlib.Core.Path.{refl}
-use Rattle.coordcache.proofs.Telling.{sound-bit}
+-- The byte is the truth value that the pass over the memory found, and the pass only reads.
 use borrow.Author.Needs.{needs}
+use mathlib.Core.Path.{refl}
+use Rattle.coordcache.proofs.ToldReplies.{sound-bit}
 use Rattle.coordcache.proofs.checked.coord_cache_is_sound.Statement.{statement}
 use Rattle.coordcache.proofs.checked.coord_cache_is_sound.Tie as tie
 
 returns : tie.Need-returns
-returns c = (sound-bit _ _ (c .is-sound .ensures), refl)
+returns c = (sound-bit (c .is-sound .ensures), refl)
 
 pub coord-cache-is-sound-spec : {M : Type 1} → statement M
 coord-cache-is-sound-spec =

@@ -1,14 +1,8 @@
-use mathlib.Core.Path.{_∙_, ap}
-use Rattle.rules.specs.Commands.{reply}
-use Rattle.rules.specs.Lent.{call}
-use Rattle.coordcache.proofs.Telling.{told}
+-- The two ways, 1 and the unchecked export's reply, both answer for a memory that is lent to be read.
 use borrow.Author.Needs.{needs}
+use Rattle.coordcache.proofs.ToldRefusals.{found-sound, one-told}
 use Rattle.coordcache.proofs.checked.coord_cache_next_expiry.Statement.{statement}
 use Rattle.coordcache.proofs.checked.coord_cache_next_expiry.Tie as tie
-
-returns : tie.Need-returns
-returns c =
-    told (call (c .before .before .before .before .before .args .state .now) _) (c .before .before .expiry-reply .result) _ _ _ (c .before .before .expiry-reply .ensures ∙ ap reply (c .before .before .before .next-expiry .ensures .0)) (c .tell .ensures .0) (c .tell .ensures .1) (c .before .before .before .next-expiry .ensures .1)
 
 pub coord-cache-next-expiry-spec : {M : Type 1} → statement M
 coord-cache-next-expiry-spec =
@@ -17,4 +11,6 @@ coord-cache-next-expiry-spec =
     (λ c κs. search needs)
     (λ c κs. search needs)
     (λ c κs. search needs)
-    returns)
+    (λ c. search one-told)
+    (λ c κs. search found-sound)
+    (λ c. search needs))

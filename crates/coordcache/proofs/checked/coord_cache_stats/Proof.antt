@@ -1,14 +1,8 @@
-use mathlib.Core.Path.{_∙_, ap}
-use Rattle.rules.specs.Commands.{reply}
-use Rattle.rules.specs.Lent.{call}
-use Rattle.coordcache.proofs.Telling.{told}
+-- Nothing is written on either way: 1 leaves the memory by the rules, the four figures by the unchecked export's contract.
 use borrow.Author.Needs.{needs}
+use Rattle.coordcache.proofs.ToldRefusals.{found-sound, one-told}
 use Rattle.coordcache.proofs.checked.coord_cache_stats.Statement.{statement}
 use Rattle.coordcache.proofs.checked.coord_cache_stats.Tie as tie
-
-returns : tie.Need-returns
-returns c =
-    told (call (c .before .before .before .before .before .args .state .now) _) (c .before .before .stats-reply .result) _ _ _ (c .before .before .stats-reply .ensures ∙ ap reply (c .before .before .before .stats .ensures .0)) (c .tell .ensures .0) (c .tell .ensures .1) (c .before .before .before .stats .ensures .1)
 
 pub coord-cache-stats-spec : {M : Type 1} → statement M
 coord-cache-stats-spec =
@@ -17,4 +11,6 @@ coord-cache-stats-spec =
     (λ c κs. search needs)
     (λ c κs. search needs)
     (λ c κs. search needs)
-    returns)
+    (λ c. search one-told)
+    (λ c κs. search found-sound)
+    (λ c. search needs))

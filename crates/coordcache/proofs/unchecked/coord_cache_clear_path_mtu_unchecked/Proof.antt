@@ -1,16 +1,8 @@
-use mathlib.Core.Path.{refl, ap}
-use Rattle.rules.specs.Calls.{ClearPathMtu}
-use Rattle.rules.specs.Refusals.{performRequest, perform, gives}
-use Rattle.coordcache.proofs.Telling.{told-call, number-told}
+-- The rules answer this call with done or a number and no values, so the number alone makes the reply.
 use borrow.Author.Needs.{needs}
+use Rattle.coordcache.proofs.ToldReplies.{told-number, clear-mtu-done}
 use Rattle.coordcache.proofs.unchecked.coord_cache_clear_path_mtu_unchecked.Statement.{statement}
 use Rattle.coordcache.proofs.unchecked.coord_cache_clear_path_mtu_unchecked.Tie as tie
-
-returns : tie.Need-returns
-unfolding performRequest perform gives
-returns c =
-    let s = c .before .before .before .before .before .before .before .before .before .args in
-    told-call (s .state .now) _ _ (c .before .before .refused .result) _ _ _ (ap ClearPathMtu (c .before .before .before .before .before .before .before .address .ensures .0)) (number-told (s .state .now) (ClearPathMtu (c .before .before .before .before .before .before .before .address .result)) (c .before .before .before .before .before .clear-path-mtu-unchecked .result) (c .before .before .refused .result) refl (c .before .before .before .before .before .clear-path-mtu-unchecked .ensures .0) (c .before .before .refused .ensures)) (c .tell .ensures .0) (c .tell .ensures .1) (c .before .before .before .before .before .clear-path-mtu-unchecked .ensures .1)
 
 pub coord-cache-clear-path-mtu-unchecked-spec : {M : Type 1} → statement M
 coord-cache-clear-path-mtu-unchecked-spec =
@@ -21,4 +13,4 @@ coord-cache-clear-path-mtu-unchecked-spec =
     (λ c κs. search needs)
     (λ c κs. search needs)
     (λ c. search needs)
-    returns)
+    (λ c. search (told-number, clear-mtu-done)))

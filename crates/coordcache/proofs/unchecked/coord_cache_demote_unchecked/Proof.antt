@@ -1,15 +1,8 @@
-use mathlib.Core.Path.{_∙_, ap}
-use Rattle.rules.specs.Commands.{reply}
-use Rattle.rules.specs.Calls.{Demote}
-use Rattle.coordcache.proofs.Telling.{told-call}
+-- The sixteen bytes are the key's address, and the demotion's answer for that address is what is told.
 use borrow.Author.Needs.{needs}
+use Rattle.coordcache.proofs.ToldReplies.{told-call}
 use Rattle.coordcache.proofs.unchecked.coord_cache_demote_unchecked.Statement.{statement}
 use Rattle.coordcache.proofs.unchecked.coord_cache_demote_unchecked.Tie as tie
-
-returns : tie.Need-returns
-returns c =
-    let s = c .before .before .before .before .before .before .before .before .before .args in
-    told-call (s .state .now) _ _ (c .before .before .demote-reply .result) _ _ _ (ap Demote (c .before .before .before .before .before .before .before .address .ensures .0)) (c .before .before .demote-reply .ensures ∙ ap reply (c .before .before .before .before .before .demote-unchecked .ensures .0)) (c .tell .ensures .0) (c .tell .ensures .1) (c .before .before .before .before .before .demote-unchecked .ensures .1)
 
 pub coord-cache-demote-unchecked-spec : {M : Type 1} → statement M
 coord-cache-demote-unchecked-spec =
@@ -20,4 +13,4 @@ coord-cache-demote-unchecked-spec =
     (λ c κs. search needs)
     (λ c κs. search needs)
     (λ c. search needs)
-    returns)
+    (λ c. search told-call))

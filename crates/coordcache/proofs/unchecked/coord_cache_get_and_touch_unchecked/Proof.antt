@@ -1,16 +1,18 @@
-use mathlib.Core.Path.{refl}
+-- The rules touch and then find what get finds in the memory after it, which is still sound; so the part found there gives the reply.
+use borrow.Author.Needs.{needs}
 use Rattle.rules.proofs.Sizes.{small8}
 use Rattle.rules.proofs.MemoryLaws.{all-bytes}
-use Rattle.coordcache.proofs.Finding.{touched-told}
-use borrow.Author.Needs.{needs}
+use Rattle.coordcache.proofs.ToldLookups.{part-there, place-told, touched-told}
 use Rattle.coordcache.proofs.unchecked.coord_cache_get_and_touch_unchecked.Statement.{statement}
 use Rattle.coordcache.proofs.unchecked.coord_cache_get_and_touch_unchecked.Tie as tie
 
 returns : tie.Need-returns
 returns c =
-    let s = c .before .before .before .before .before .before .before .before .before in
-    let l = s .args .state .now in
-    touched-told l _ _ (s .args .time) (c .before .before .before .before .before .touch-place .result) (c .before .before .part-reply .result) _ _ _ (s .args .at .now) _ (s .pre) (all-bytes l (λ i. c .before .before .before .before .before .before .before .before .slice-known .given i .fits)) (c .before .before .before .before .before .before .before .address .ensures .1, small8 (s .args .time) (s .fits .time .fits)) (c .before .before .before .before .before .before .before .address .ensures .0) (c .before .before .before .before .before .touch-place .ensures .0) (c .before .before .before .before .before .touch-place .ensures .1) (c .before .before .part-reply .ensures) (c .tell .ensures .0) (c .tell .ensures .1) refl
+    let touched = c .before .before .before .before .before in
+    let known = touched .before .before .before in
+    let start = known .before in
+    let bytes = all-bytes (start .args .state .now) (λ i. known .slice-known .given i .fits) in
+    search (touched-told, part-there, place-told, small8)
 
 pub coord-cache-get-and-touch-unchecked-spec : {M : Type 1} → statement M
 coord-cache-get-and-touch-unchecked-spec =

@@ -1,15 +1,8 @@
-use mathlib.Core.Path.{_∙_, ap}
-use Rattle.rules.specs.Commands.{reply}
-use Rattle.rules.specs.Calls.{InsertVerified}
-use Rattle.coordcache.proofs.Telling.{told-call, same-pair}
+-- The weight and the rows examined are told as the verified insert gave them, for the path that the bytes hold.
 use borrow.Author.Needs.{needs}
+use Rattle.coordcache.proofs.ToldReplies.{told-call}
 use Rattle.coordcache.proofs.unchecked.coord_cache_insert_verified_unchecked.Statement.{statement}
 use Rattle.coordcache.proofs.unchecked.coord_cache_insert_verified_unchecked.Tie as tie
-
-returns : tie.Need-returns
-returns c =
-    let s = c .before .before .before .before .before .before .before .before .before .before .before .args in
-    told-call (s .state .now) _ _ (c .before .before .verified-reply .result) _ _ _ (same-pair (λ k p. InsertVerified k p (s .time)) (c .before .before .before .before .before .before .before .before .address .ensures .0) (c .before .before .before .before .before .before .before .path-from .ensures)) (c .before .before .verified-reply .ensures ∙ ap reply (c .before .before .before .before .before .insert-verified-unchecked .ensures .0)) (c .tell .ensures .0) (c .tell .ensures .1) (c .before .before .before .before .before .insert-verified-unchecked .ensures .1)
 
 pub coord-cache-insert-verified-unchecked-spec : {M : Type 1} → statement M
 coord-cache-insert-verified-unchecked-spec =
@@ -21,4 +14,4 @@ coord-cache-insert-verified-unchecked-spec =
     (λ c κs. search needs)
     (λ c κs. search needs)
     (λ c. search needs)
-    returns)
+    (λ c. search told-call))

@@ -1,14 +1,8 @@
-use mathlib.Core.Path.{_∙_, ap}
-use Rattle.rules.specs.Commands.{reply}
-use Rattle.rules.specs.Lent.{call}
-use Rattle.coordcache.proofs.Telling.{told}
+-- Time crosses the boundary as a number, so nothing stands between the rules' purge and the count that is told.
 use borrow.Author.Needs.{needs}
+use Rattle.coordcache.proofs.ToldReplies.{told-call}
 use Rattle.coordcache.proofs.unchecked.coord_cache_purge_expired_unchecked.Statement.{statement}
 use Rattle.coordcache.proofs.unchecked.coord_cache_purge_expired_unchecked.Tie as tie
-
-returns : tie.Need-returns
-returns c =
-    told (call (c .before .before .before .before .before .before .before .before .args .state .now) _) (c .before .before .sweep-reply .result) _ _ _ (c .before .before .sweep-reply .ensures ∙ ap reply (c .before .before .before .before .before .purge-expired-unchecked .ensures .0)) (c .tell .ensures .0) (c .tell .ensures .1) (c .before .before .before .before .before .purge-expired-unchecked .ensures .1)
 
 pub coord-cache-purge-expired-unchecked-spec : {M : Type 1} → statement M
 coord-cache-purge-expired-unchecked-spec =
@@ -18,4 +12,4 @@ coord-cache-purge-expired-unchecked-spec =
     (λ c κs. search needs)
     (λ c κs. search needs)
     (λ c. search needs)
-    returns)
+    (λ c. search told-call))

@@ -1,15 +1,8 @@
-use mathlib.Core.Path.{_∙_, ap}
-use Rattle.rules.specs.Commands.{reply}
-use Rattle.coordcache.proofs.Finding.{removed-told}
+-- The row's bytes are saved before the row leaves, and whether one left is the reply of the removal.
 use borrow.Author.Needs.{needs}
+use Rattle.coordcache.proofs.ToldLookups.{removed-told, row-told}
 use Rattle.coordcache.proofs.unchecked.coord_cache_remove_unchecked.Statement.{statement}
 use Rattle.coordcache.proofs.unchecked.coord_cache_remove_unchecked.Tie as tie
-
-returns : tie.Need-returns
-returns c =
-    let s = c .before .before .before .before .before .before .before .before .before .before .before .before .args in
-    let u = c .before .before .before .before .before .remove-unchecked in
-    removed-told (s .state .now) _ _ (c .before .before .remove-reply .result) _ _ _ _ _ (c .before .before .before .before .before .before .before .before .before .before .address .ensures .0) (c .before .before .remove-reply .ensures (u .result .entry) ∙ ap reply (u .ensures .0)) (c .tell .ensures .0) (c .tell .ensures .1) (u .ensures .2) (c .before .before .before .before .before .before .before .keep-row .ensures)
 
 pub coord-cache-remove-unchecked-spec : {M : Type 1} → statement M
 coord-cache-remove-unchecked-spec =
@@ -21,4 +14,4 @@ coord-cache-remove-unchecked-spec =
     (λ c κs. search needs)
     (λ c κs. search needs)
     (λ c. search needs)
-    returns)
+    (λ c. search (removed-told, row-told)))

@@ -1,14 +1,8 @@
-use mathlib.Core.Path.{_∙_, ap}
-use Rattle.rules.specs.Commands.{reply}
-use Rattle.rules.specs.Lent.{call}
-use Rattle.coordcache.proofs.Telling.{told}
+-- The figures are told as the rules count them at that time, and reading them leaves the memory.
 use borrow.Author.Needs.{needs}
+use Rattle.coordcache.proofs.ToldReplies.{told-call}
 use Rattle.coordcache.proofs.unchecked.coord_cache_stats_unchecked.Statement.{statement}
 use Rattle.coordcache.proofs.unchecked.coord_cache_stats_unchecked.Tie as tie
-
-returns : tie.Need-returns
-returns c =
-    told (call (c .before .before .before .before .before .args .state .now) _) (c .before .before .stats-reply .result) _ _ _ (c .before .before .stats-reply .ensures ∙ ap reply (c .before .before .before .stats-unchecked .ensures .0)) (c .tell .ensures .0) (c .tell .ensures .1) (c .before .before .before .stats-unchecked .ensures .1)
 
 pub coord-cache-stats-unchecked-spec : {M : Type 1} → statement M
 coord-cache-stats-unchecked-spec =
@@ -17,4 +11,4 @@ coord-cache-stats-unchecked-spec =
     (λ c κs. search needs)
     (λ c κs. search needs)
     (λ c κs. search needs)
-    returns)
+    (λ c. search told-call))

@@ -1,13 +1,13 @@
 -- The whole comparison is `same` and that of the bytes from i on; a turn moves the test of one byte into `same`.
 use mathlib.Core.Path.{_≡_, refl, sym, _∙_, ap}
-use mathlib.Core.Bool.{_&&_}
+use mathlib.Core.Bool.{_&&_, and-true}
 use Prim.Native.Nat.{_-_, _≤_}
 use native.Mathlib.Omega.{arith}
 use lib.ListN.{length, drop}
 use borrow.Author.Needs.{needs}
 use Rattle.types.specs.Addresses.{sameBytes, sameAddr}
 use Rattle.rules.specs.Memory.{cut}
-use Rattle.entries.proofs.Bytes.{addr-turn, addr-end, addr-more, and-in, and-true}
+use Rattle.entries.proofs.Bytes.{addr-turn, addr-end, addr-more, and-in}
 use Rattle.entries.proofs.addr.addr_at.Statement.{statement}
 use Rattle.entries.proofs.addr.addr_at.Tie as tie
 

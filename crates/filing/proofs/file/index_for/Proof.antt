@@ -7,8 +7,8 @@ use Rattle.filing.proofs.file.index_for.Tie as tie
 
 returns : tie.Need-returns
 returns c =
-    let s = c .before .before .before .before .before in
-    only-absent (s .args .key) _ _ _ (c .before .before .before .search .result) (s .pre .2) (c .before .before .before .search .ensures) (c .before .at .given .1)
+    let found = c .before .before .before in
+    only-absent _ _ (found .before .before .pre .2) (found .search .ensures) (c .before .at .given .1)
 
 returns-2 : tie.Need-returns-2
 returns-2 c = sym (c .before .before .before .search .ensures) ∙ c .before .at2 .given .1

@@ -10,19 +10,23 @@ use Rattle.lookups.proofs.demote.demote_at.Tie as tie
 
 restamp-requires : tie.Need-restamp-requires
 restamp-requires c κs =
-    let s = c .before .before .before .before .before .before .before .before .before .args in
-    let m = c .before .before .before .before .mark-hint in
-    (c .before .before .before .before .before .before .before .before .before .pre .0, omega (arith, m .kept .0, c .before .before .before .before .before .before .before .before .before .pre .1), omega (arith, ap (λ (x : State). x .seq) (m .ensures), hinted-seq (s .i) (viewRows (s .n) (s .state .now)), c .before .before .before .before .before .before .before .before .before .pre .2))
+    let marked = c .before .before .before .before in
+    let start = marked .before .before .before .before .before in
+    let m = marked .mark-hint in
+    let seq = hinted-seq (start .args .i) (viewRows (start .args .n) (start .args .state .now)) in
+    (start .pre .0, omega (arith, m .kept .0, start .pre .1), omega (arith, ap (λ (x : State). x .seq) (m .ensures), seq, start .pre .2))
 
 returns : tie.Need-returns
 returns c =
-    let s = c .before .before .before .before .before .before .before .before .before .before .before .before .args in
-    demoted-parked (s .i) (viewRows (s .n) (s .state .now)) (viewRows (s .n) (c .before .before .before .before .before .before .before .mark-hint .last .0)) _ (sym (c .before .before .before .before .before .before .before .before .before .place .ensures) ∙ c .before .before .before .before .if1 .taken) (c .before .before .before .before .before .before .before .mark-hint .ensures) (c .before .before .restamp .ensures)
+    let stamped = c .before .before in
+    let marked = stamped .before .before .before .before .before in
+    let read = marked .before .before in
+    demoted-parked _ _ _ _ (sym (read .place .ensures) ∙ stamped .before .before .if1 .taken) (marked .mark-hint .ensures) (stamped .restamp .ensures)
 
 returns-2 : tie.Need-returns-2
 returns-2 c =
-    let s = c .before .before .before .before .before .before .before .before .args in
-    demoted-in-place (s .i) (viewRows (s .n) (s .state .now)) _ (λ e. c .if1 .left (c .before .before .before .before .before .place .ensures ∙ e)) (c .before .before .before .mark-hint .ensures)
+    let marked = c .before .before .before in
+    demoted-in-place _ _ _ (λ e. c .if1 .left (marked .before .before .place .ensures ∙ e)) (marked .mark-hint .ensures)
 
 pub demote-at-spec : {M : Type 1} → statement M
 demote-at-spec =

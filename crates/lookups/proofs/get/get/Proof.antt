@@ -1,32 +1,20 @@
--- On an unsound memory gotPart is empty and the number is 1; on a sound one Get is not refused, so the number is 0 (get-done).
-use mathlib.Core.Path.{refl, sym, _∙_}
-use borrow.Author.Tests.{not-true, not-false}
-use Rattle.rules.specs.Calls.{Get}
-use Rattle.rules.proofs.MemoryLaws.{all-bytes}
-use Rattle.rules.proofs.Public.{sound-memory}
+-- On an unsound memory gotPart is empty and the number is 1; on a sound one Get is not refused, so the number is 0 (get-zero).
 use borrow.Author.Needs.{needs}
-use Rattle.refusals.proofs.RefusalsSaid.{one-numbered}
+use Rattle.refusals.proofs.RefusalsSaid.{checked, unsound, one-numbered}
 use Rattle.lookups.proofs.UnsoundLookups.{one-got}
-use Rattle.lookups.proofs.FoundRows.{get-done}
+use Rattle.lookups.proofs.FoundRows.{get-zero}
 use Rattle.lookups.proofs.get.get.Statement.{statement}
 use Rattle.lookups.proofs.get.get.Tie as tie
 
 returns : tie.Need-returns
 returns c =
-    let s = c .before .before .before .before in
-    let l = s .args .state .now in
-    let h = sym (c .before .before .is-sound .ensures) ∙ not-true _ (c .before .if1 .taken) in
-    (one-got l (s .args .key) (s .args .time) h, (one-numbered l (Get (s .args .key) (s .args .time)) h .0, one-numbered l (Get (s .args .key) (s .args .time)) h .1))
-
-get-unchecked-requires : tie.Need-get-unchecked-requires
-get-unchecked-requires c κs = sym (c .before .is-sound .ensures) ∙ not-false _ (c .if1 .left)
+    let e = c .before .before .is-sound .ensures in
+    (one-got _ _ _ (unsound _ e (c .before .if1 .taken)), one-numbered _ e _ (c .before .if1 .taken))
 
 returns-2 : tie.Need-returns-2
 returns-2 c =
-    let s = c .before .before .before .before in
-    let l = s .args .state .now in
-    let h = sym (c .before .before .is-sound .ensures) ∙ not-false _ (c .before .if1 .left) in
-    (c .get-unchecked .ensures .0, (get-done l _ (s .args .key) (s .args .time) h (sound-memory l _ h refl) (all-bytes l (λ i. c .before .before .before .shared-slice-known .given i .fits)), c .get-unchecked .ensures .1))
+    let r = c .get-unchecked .ensures in
+    (r .0, (get-zero _ _ _ (checked _ (c .before .before .is-sound .ensures) (c .before .if1 .left)), r .1))
 
 pub get-spec : {M : Type 1} → statement M
 get-spec =
@@ -37,5 +25,5 @@ get-spec =
     (λ c. search needs)
     (λ c. search needs)
     returns
-    get-unchecked-requires
+    (λ c κs. checked _ (c .before .is-sound .ensures) (c .if1 .left))
     returns-2)

@@ -8,9 +8,8 @@ use Rattle.lookups.proofs.touch.get_and_touch_unchecked.Tie as tie
 
 returns : tie.Need-returns
 returns c =
-    let s = c .before .before .before .before .before .before .before .before .args in
-    let r = c .before .before .before .before .before .touch-place .result in
-    part-from (r .at) (r .bytes) _ _ (c .before .before .before .before .before .touch-place .ensures .0 .part) ∙ ap (gotPart (s .key) (s .time)) (c .before .before .before .before .before .touch-place .ensures .1)
+    let r = c .before .before .before .before .before .touch-place in
+    part-from (r .result .at) (r .result .bytes) _ _ (r .ensures .0 .part) ∙ ap (gotPart _ _) (r .ensures .1)
 
 pub get-and-touch-unchecked-spec : {M : Type 1} → statement M
 get-and-touch-unchecked-spec =

@@ -13,10 +13,13 @@ use Rattle.lookups.proofs.touch.refresh_at.Tie as tie
 
 returns : tie.Need-returns
 returns c =
-    let s = c .before .before .before .before .before .before .before .before .args in
+    let set = c .before .before in
+    let added = set .before .before in
+    let s = added .before .before .before .before .args in
     let v = viewRows (s .n) (s .state .now) in
-    c .before .before .set-times .ensures
-    ∙ ap (λ (x : ℕ). rewrite (withTimes (s .time) x) (s .i) v) (c .before .before .before .before .add-times .ensures ∙ ap (addTimes (s .time)) (c .before .before .before .before .before .default-ttl .ensures ∙ same-head 0 (s .n) (s .state .now) .defaultTtl))
+    let ttl = added .before .default-ttl .ensures ∙ same-head 0 (s .n) (s .state .now) .defaultTtl in
+    set .set-times .ensures
+    ∙ ap (λ (x : ℕ). rewrite (withTimes (s .time) x) (s .i) v) (added .add-times .ensures ∙ ap (addTimes (s .time)) ttl)
     ∙ refreshed (s .i) (s .time) (v .defaultTtl) v
 
 pub refresh-at-spec : {M : Type 1} → statement M

@@ -7,13 +7,16 @@ use Rattle.lookups.proofs.touch.touch_at.Tie as tie
 
 returns : tie.Need-returns
 returns c =
-    let s = c .before .before .before .before .before .before .before .before .args in
-    touched-out (s .state .now) (s .n) (s .i) (s .time) (c .before .before .remove-row .last .0) (c .before .before .before .before .before .before .before .before .pre .0) (sym (c .before .before .before .before .before .is-expired .ensures) ∙ c .before .before .before .before .if1 .taken) (c .before .before .remove-row .ensures)
+    let removed = c .before .before in
+    let tested = removed .before .before .before in
+    touched-out _ _ _ _ _ (sym (tested .is-expired .ensures) ∙ removed .before .before .if1 .taken) (removed .remove-row .ensures)
 
 returns-2 : tie.Need-returns-2
 returns-2 c =
-    let s = c .before .before .before .before .before .before .before .before .before .before .before .args in
-    touched-kept (s .state .now) (s .n) (s .i) (s .time) (c .before .before .before .before .wide .result) (c .before .before .refresh-at .last .0) (sym (c .before .before .before .before .before .before .before .before .is-expired .ensures) ∙ c .before .before .before .before .before .before .before .if1 .left) (c .before .before .before .before .wide .ensures .0 ∙ c .before .before .before .before .before .path-len .ensures) (c .before .before .refresh-at .ensures)
+    let refreshed = c .before .before in
+    let read = refreshed .before .before in
+    let tested = read .before .before .before .before in
+    touched-kept _ _ _ _ _ _ (sym (tested .is-expired .ensures) ∙ read .before .before .before .if1 .left) (read .wide .ensures .0 ∙ read .before .path-len .ensures) (refreshed .refresh-at .ensures)
 
 pub touch-at-spec : {M : Type 1} → statement M
 touch-at-spec =

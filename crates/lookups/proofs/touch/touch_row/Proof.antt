@@ -2,7 +2,6 @@
 use mathlib.Core.Path.{ap}
 use Rattle.lookups.proofs.FoundRows.{finds}
 use Rattle.lookups.proofs.PathPlaces.{placed, unplaced}
-use Rattle.rules.specs.Memory.{viewRows}
 use borrow.Author.Needs.{needs}
 use Rattle.lookups.proofs.touch.touch_row.Statement.{statement}
 use Rattle.lookups.proofs.touch.touch_row.Tie as tie
@@ -10,20 +9,22 @@ use Rattle.lookups.proofs.touch.touch_row.Tie as tie
 returns : tie.Need-returns
 unfolding finds
 returns c =
-    let s = c .before .before .before .before .before .before .before .before .before .args in
-    (placed (s .i) (s .time) (viewRows (s .n) (s .state .now)) (c .before .before .before .before .touch-at .result) _ (c .before .before .before .before .touch-at .ensures .0) (ap finds (c .enum-told .given .1)) (c .before .before .before .before .before .before .path-place .ensures), c .before .before .before .before .touch-at .ensures .1)
+    let touched = c .before .before .before .before in
+    (placed _ _ _ _ _ (touched .touch-at .ensures .0) (ap finds (c .enum-told .given .1)) (touched .before .before .path-place .ensures), touched .touch-at .ensures .1)
 
 returns-2 : tie.Need-returns-2
 unfolding finds
 returns-2 c =
-    let s = c .before .before .before .before .before .before .before .before .before .before .args in
-    (unplaced (s .i) (s .time) (viewRows (s .n) (s .state .now)) (c .before .before .before .before .before .touch-at .result) _ (c .before .before .before .before .before .touch-at .ensures .0) (ap finds (c .before .enum-told2 .given .1)) (c .no-path .ensures), c .before .before .before .before .before .touch-at .ensures .1)
+    let arm = c .before in
+    let touched = arm .before .before .before .before in
+    (unplaced _ _ _ _ _ (touched .touch-at .ensures .0) (ap finds (arm .enum-told2 .given .1)) (c .no-path .ensures), touched .touch-at .ensures .1)
 
 returns-3 : tie.Need-returns-3
 unfolding finds
 returns-3 c =
-    let s = c .before .before .before .before .before .before .before .before .before .before .args in
-    (unplaced (s .i) (s .time) (viewRows (s .n) (s .state .now)) (c .before .before .before .before .before .touch-at .result) _ (c .before .before .before .before .before .touch-at .ensures .0) (ap finds (c .before .enum-told3 .given .1)) (c .no-path2 .ensures), c .before .before .before .before .before .touch-at .ensures .1)
+    let arm = c .before in
+    let touched = arm .before .before .before .before in
+    (unplaced _ _ _ _ _ (touched .touch-at .ensures .0) (ap finds (arm .enum-told3 .given .1)) (c .no-path2 .ensures), touched .touch-at .ensures .1)
 
 pub touch-row-spec : {M : Type 1} → statement M
 touch-row-spec =

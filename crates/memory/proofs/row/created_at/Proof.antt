@@ -1,19 +1,12 @@
--- created_at stands right behind the path; `entry-number` makes the cut of the row's entry a cut of the memory.
-use mathlib.Core.Path.{refl, _∙_}
-use native.Mathlib.Omega.{arith}
-use Rattle.rules.specs.Memory.{entryOf, pathOf}
-use Rattle.rules.specs.Layout.{createdAtOffset}
-use Rattle.memory.proofs.Fields.{entry-number}
+-- created_at stands right behind the path, and `field-read` makes the cut of the memory the entry's number.
+use mathlib.Core.Path.{_∙_}
 use borrow.Author.Needs.{needs}
+use Rattle.memory.proofs.Fields.{field-read}
 use Rattle.memory.proofs.row.created_at.Statement.{statement}
 use Rattle.memory.proofs.row.created_at.Tie as tie
 
 returns : tie.Need-returns
-unfolding entryOf pathOf
-returns c =
-    let s = c .before .before in
-    c .read-u64 .ensures ∙ entry-number (λ e. e .createdAt) createdAtOffset 8 (λ c. refl) (omega arith) (s .args .state .now) (s .args .n) (s .args .i) (s .pre .0)
+returns c = c .read-u64 .ensures ∙ field-read _ _ _ (c .before .before .pre .0) .createdAt
 
 pub created-at-spec : {M : Type 1} → statement M
-created-at-spec =
-    tie.close (tie.spec (λ c. search needs) (λ c. search needs) (λ c. search needs) (λ c κs. search needs) returns)
+created-at-spec = tie.close (tie.spec (λ c. search needs) (λ c. search needs) (λ c. search needs) (λ c κs. search needs) returns)

@@ -1,30 +1,30 @@
--- Two changes of row i, of its place and then of both stamp numbers, are one change of all three, by `stamp-view`.
-use Rattle.rules.proofs.Sizes.{small1, small8}
-use Rattle.memory.proofs.Fields.{stamp-view}
+-- Three numbers stored one after the other are three changes of row i, and so one change of its place and stamp.
+use mathlib.Core.Path.{refl}
+use mathlib.Core.List.{[], _∷_}
 use borrow.Author.Needs.{needs}
+use Rattle.rules.specs.Layout.{placeOffset, stampFirstOffset, stampSeqOffset}
+use Rattle.memory.specs.Edits.{stampedAs}
+use Rattle.memory.proofs.Fields.{field-store, withNumber}
 use Rattle.memory.proofs.row.set_stamp.Statement.{statement}
 use Rattle.memory.proofs.row.set_stamp.Tie as tie
 
 returns : tie.Need-returns
+unfolding stampedAs withNumber
 returns c =
-    let s = c .before .before .before .before .before .before .before .before .before .before .before .before .before in
-    rw (c .before .before .write-u642 .ensures, c .before .before .before .before .before .before .write-u64 .ensures, c .before .before .before .before .before .before .before .before .before .before .write-u8 .ensures) (stamp-view (s .args .state .now) (s .args .n) (s .args .i) (s .args .place) (s .args .first) (s .args .seq) (small1 (s .args .place) (s .fits .place .fits)) (small8 (s .args .first) (s .fits .first .fits)) (small8 (s .args .seq) (s .fits .seq .fits)) (s .pre .0) (s .pre .1))
+    let w3 = c .before .before in
+    let w2 = w3 .before .before .before .before in
+    let w1 = w2 .before .before .before .before in
+    let s = w1 .before .before .before in
+    let a = s .args in
+    rw (w3 .write-u642 .ensures, w2 .write-u64 .ensures, w1 .write-u8 .ensures)
+    (field-store ((placeOffset, 1, a .place) ∷ (stampFirstOffset, 8, a .first) ∷ (stampSeqOffset, 8, a .seq) ∷ [])
+    ((refl, s .fits .place .fits), ((refl, s .fits .first .fits), ((refl, s .fits .seq .fits), tt))) (a .state .now) (a .n) (a .i) (s .pre .0) (s .pre .1))
 
 pub set-stamp-spec : {M : Type 1} → statement M
 set-stamp-spec =
     tie.close
     (tie.spec
-    (λ c. search needs)
-    (λ c. search needs)
-    (λ c. search needs)
-    (λ c κs. search needs)
-    (λ c. search needs)
-    (λ c. search needs)
-    (λ c. search needs)
-    (λ c κs. search needs)
-    (λ c. search needs)
-    (λ c. search needs)
-    (λ c. search needs)
-    (λ c κs. search needs)
-    (λ c. search needs)
-    returns)
+    (λ c. search needs) (λ c. search needs) (λ c. search needs) (λ c κs. search needs)
+    (λ c. search needs) (λ c. search needs) (λ c. search needs) (λ c κs. search needs)
+    (λ c. search needs) (λ c. search needs) (λ c. search needs) (λ c κs. search needs)
+    (λ c. search needs) returns)

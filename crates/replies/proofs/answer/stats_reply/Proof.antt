@@ -1,6 +1,4 @@
 -- A refusal reduces to `refuses` and statistics to `statsReply`, which the method's contract gives.
-use mathlib.Core.Path.{sym, ap, _∙_}
-use Rattle.types.specs.declared.answers.StatsAnswer.{StatsAnswer}
 use Rattle.rules.specs.Commands.{reply}
 use Rattle.rules.specs.Answers.{statsSaid}
 use borrow.Author.Needs.{needs}
@@ -9,21 +7,12 @@ use Rattle.replies.proofs.answer.stats_reply.Tie as tie
 
 returns : tie.Need-returns
 unfolding reply statsSaid
-returns c =
-    c .refused .ensures ∙ sym (ap (λ (x : StatsAnswer). reply (statsSaid x)) (c .before .before .answer .given .1))
+returns c = rw (c .before .before .answer .given .1) (c .refused .ensures)
 
 returns-2 : tie.Need-returns-2
 unfolding reply statsSaid
-returns-2 c =
-    c .reply .ensures ∙ sym (ap (λ (x : StatsAnswer). reply (statsSaid x)) (c .before .before .answer2 .given .1))
+returns-2 c = rw (c .before .before .answer2 .given .1) (c .reply .ensures)
 
 pub stats-reply-spec : {M : Type 1} → statement M
 stats-reply-spec =
-    tie.close
-    (tie.spec
-    (λ c. search needs)
-    (λ c κs. search needs)
-    (λ c. search needs)
-    (λ c κs. search needs)
-    returns
-    returns-2)
+    tie.close (tie.spec (λ c. search needs) (λ c κs. search needs) (λ c. search needs) (λ c κs. search needs) returns returns-2)

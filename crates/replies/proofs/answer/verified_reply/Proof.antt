@@ -1,6 +1,4 @@
 -- For a done insert the goal is the contract of `VerifiedInsert::reply`, and for a refused one that of `refused`.
-use mathlib.Core.Path.{sym, ap, _∙_}
-use Rattle.types.specs.declared.answers.VerifiedAnswer.{VerifiedAnswer}
 use Rattle.rules.specs.Commands.{reply}
 use Rattle.rules.specs.Answers.{verifiedSaid}
 use borrow.Author.Needs.{needs}
@@ -9,21 +7,12 @@ use Rattle.replies.proofs.answer.verified_reply.Tie as tie
 
 returns : tie.Need-returns
 unfolding reply verifiedSaid
-returns c =
-    c .refused .ensures ∙ sym (ap (λ (x : VerifiedAnswer). reply (verifiedSaid x)) (c .before .before .answer .given .1))
+returns c = rw (c .before .before .answer .given .1) (c .refused .ensures)
 
 returns-2 : tie.Need-returns-2
 unfolding reply verifiedSaid
-returns-2 c =
-    c .reply .ensures ∙ sym (ap (λ (x : VerifiedAnswer). reply (verifiedSaid x)) (c .before .before .answer2 .given .1))
+returns-2 c = rw (c .before .before .answer2 .given .1) (c .reply .ensures)
 
 pub verified-reply-spec : {M : Type 1} → statement M
 verified-reply-spec =
-    tie.close
-    (tie.spec
-    (λ c. search needs)
-    (λ c κs. search needs)
-    (λ c. search needs)
-    (λ c κs. search needs)
-    returns
-    returns-2)
+    tie.close (tie.spec (λ c. search needs) (λ c κs. search needs) (λ c. search needs) (λ c κs. search needs) returns returns-2)

@@ -1,3 +1,4 @@
+-- The definition asks the same of the number of bytes as the code: none is absent, and any other is so many whole elements.
 use borrow.Author.Tests.{ne-eqb}
 use Rattle.replies.specs.Part.{partReply}
 use borrow.Author.Needs.{needs}

@@ -1,24 +1,17 @@
 -- The answer of row_matches is sweepTest, and both results of the contract follow it as the branch does.
-use mathlib.Core.Path.{sym, _∙_}
 use borrow.Author.Needs.{needs}
 use Rattle.retention.proofs.KeptRows.{passed-out, passed-kept}
 use Rattle.retention.proofs.rows.pass_row.Statement.{statement}
 use Rattle.retention.proofs.rows.pass_row.Tie as tie
 
 returns : tie.Need-returns
-returns c = passed-out _ (c .before .before .before .before .args .j) (c .before .before .before .before .args .state .now) _ (sym (c .before .row-matches .ensures) ∙ c .if1 .taken)
+returns c = passed-out _ (c .before .row-matches .ensures) (c .if1 .taken)
 
 returns-2 : tie.Need-returns-2
-returns-2 c = passed-kept _ (c .before .before .before .before .before .before .before .before .args .j) (c .before .before .before .before .before .before .before .before .args .state .now) _ _ (sym (c .before .before .before .before .before .row-matches .ensures) ∙ c .before .before .before .before .if1 .left) (c .before .before .keep-row .ensures)
+returns-2 c =
+    let t = c .before .before .before .before in
+    passed-kept _ _ (t .before .row-matches .ensures) (t .if1 .left) (c .before .before .keep-row .ensures)
 
 pub pass-row-spec : {M : Type 1} → statement M
 pass-row-spec =
-    tie.close
-    (tie.spec
-    (λ c κs. search needs)
-    (λ c. search needs)
-    returns
-    (λ c κs. search needs)
-    (λ c. search needs)
-    (λ c. search needs)
-    returns-2)
+    tie.close (tie.spec (λ c κs. search needs) (λ c. search needs) returns (λ c κs. search needs) (λ c. search needs) (λ c. search needs) returns-2)

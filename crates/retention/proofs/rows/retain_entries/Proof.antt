@@ -7,7 +7,7 @@ use Rattle.retention.proofs.rows.retain_entries.Tie as tie
 returns-2 : tie.Need-returns-2
 returns-2 c =
     let s = c .before .before .before .before in
-    unswept (s .args .kind) (s .args .time) (s .args .addr) (s .args .n) (s .args .state .now) (s .pre .3) (s .pre .4) (c .before .any-matches .ensures (c .if1 .left))
+    unswept _ _ _ _ _ (s .pre .3) (s .pre .4) (c .before .any-matches .ensures (c .if1 .left))
 
 pub retain-entries-spec : {M : Type 1} → statement M
 retain-entries-spec =

@@ -6,9 +6,8 @@ use Rattle.retention.proofs.rows.retain_rows.Tie as tie
 
 returns : tie.Need-returns
 returns c =
-    let s = c .before .before .before .before .before .before .before .before .before .before .before .args in
-    let k = c .before .before .before .before .before .before .before .before .keep-rows .ensures in
-    (k .0, k .1, swept (s .kind) (s .time) (s .addr) (s .n) (c .before .before .before .before .before .before .before .before .keep-rows .result) (c .before .before .before .before .weight-of .result) (s .state .now) (c .before .before .before .before .before .before .before .before .keep-rows .last .0) _ (k .0) (k .1) (k .2) (c .before .before .before .before .weight-of .ensures) (c .before .before .shrink .ensures))
+    let w = c .before .before .before .before in
+    swept _ _ _ _ (w .before .before .before .before .keep-rows .ensures) (w .weight-of .ensures) (c .before .before .shrink .ensures)
 
 pub retain-rows-spec : {M : Type 1} → statement M
 retain-rows-spec =

@@ -1,15 +1,11 @@
 -- The kind selects one test of sweepTest, and a path of 1 to 32 elements is within what its reader asks.
-use Rattle.rules.specs.Rows.{rowAt}
-use Rattle.rules.specs.Memory.{viewRows}
 use borrow.Author.Needs.{needs}
 use Rattle.retention.proofs.KeptRows.{test-expired, test-via, test-root, test-aside}
 use Rattle.retention.proofs.rows.row_matches.Statement.{statement}
 use Rattle.retention.proofs.rows.row_matches.Tie as tie
 
 returns : tie.Need-returns
-returns c =
-    let s = c .before .before .before .args in
-    test-expired (s .kind) (s .time) (s .addr) (rowAt (s .i) (viewRows (s .n) (s .state .now) .rows)) _ (c .before .if1 .taken) (c .is-expired .ensures)
+returns c = test-expired _ _ _ _ _ (c .before .if1 .taken) (c .is-expired .ensures)
 
 path-contains-requires : tie.Need-path-contains-requires
 path-contains-requires c κs =
@@ -17,9 +13,7 @@ path-contains-requires c κs =
     (p .0, p .1, p .2 .short)
 
 returns-2 : tie.Need-returns-2
-returns-2 c =
-    let s = c .before .before .before .before .args in
-    test-via (s .kind) (s .time) (s .addr) (rowAt (s .i) (viewRows (s .n) (s .state .now) .rows)) _ (c .before .if2 .taken) (c .path-contains .ensures)
+returns-2 c = test-via _ _ _ _ _ (c .before .if2 .taken) (c .path-contains .ensures)
 
 root-is-requires : tie.Need-root-is-requires
 root-is-requires c κs =
@@ -27,22 +21,11 @@ root-is-requires c κs =
     (p .0, p .1, p .2 .short, p .2 .long)
 
 returns-3 : tie.Need-returns-3
-returns-3 c =
-    let s = c .before .before .before .before .before .args in
-    test-root (s .kind) (s .time) (s .addr) (rowAt (s .i) (viewRows (s .n) (s .state .now) .rows)) _ (c .before .if3 .taken) (c .root-is .ensures)
+returns-3 c = test-root _ _ _ _ _ (c .before .if3 .taken) (c .root-is .ensures)
 
 returns-4 : tie.Need-returns-4
-returns-4 c =
-    let s = c .before .before .before .before .before .args in
-    test-aside (s .kind) (s .time) _ (s .addr) (rowAt (s .i) (viewRows (s .n) (s .state .now) .rows)) (c .before .before .before .if1 .left) (c .before .before .if2 .left) (c .before .if3 .left) (c .place .ensures)
+returns-4 c = test-aside _ _ _ _ _ (c .before .before .before .if1 .left) (c .before .before .if2 .left) (c .before .if3 .left) (c .place .ensures)
 
 pub row-matches-spec : {M : Type 1} → statement M
 row-matches-spec =
-    tie.close
-    (tie.spec
-    (λ c κs. search needs)
-    returns
-    path-contains-requires
-    returns-2
-    root-is-requires
-    returns-3 (λ c κs. search needs) returns-4)
+    tie.close (tie.spec (λ c κs. search needs) returns path-contains-requires returns-2 root-is-requires returns-3 (λ c κs. search needs) returns-4)

@@ -1,13 +1,13 @@
 -- The count of main rows from i on grows by at most 1 as i falls by 1, so it never passes n.
 use mathlib.Core.Path.{ap}
-use Prim.Native.Nat.{ℕ, _-_}
+use Prim.Native.Nat.{ℕ}
 use native.Mathlib.Omega.{arith}
 use lib.Dec.{ltb}
 use borrow.Author.Needs.{needs}
 use Rattle.rules.specs.Rows.{inMain}
 use Rattle.rules.specs.Memory.{viewRows}
 use Rattle.memory.proofs.RowLaws.{view-length}
-use Rattle.stamps.proofs.RowTotals.{Counted, counted-start, counted-fits, counted-turn, counted-end}
+use Rattle.stamps.proofs.RowTotals.{Counted, one-at-most, counted-start, counted-turn, counted-end}
 use Rattle.room.proofs.closed_form.main_len.Statement.{statement}
 use Rattle.room.proofs.closed_form.main_len.Tie as tie
 
@@ -18,30 +18,14 @@ abbrev μ-loop : tie.MeasureT-loop
 μ-loop state n count₀ i₀ count i = i
 
 loop-holds : tie.Need-loop-holds Inv-loop μ-loop
-loop-holds c =
-    let s = c .before .args in
-    counted-start inMain (s .n) (viewRows (s .n) (s .state .now) .rows) (omega (arith, view-length (s .n) (s .state .now)))
-
-place-requires : tie.Need-place-requires Inv-loop μ-loop
-place-requires c κs =
-    let h = c .before .loop .inv .within in
-    omega arith
-
-add-count : tie.Need-add-count Inv-loop μ-loop
-add-count c = omega (arith, counted-fits inMain (c .before .before .before .before .args .n) (c .before .before .loop .i) (c .before .before .loop .count) (ltb (c .place .result) 2) (viewRows (c .before .before .before .before .args .n) (c .before .before .before .before .args .state .now) .rows) (c .before .loop-test .taken) (c .before .before .loop .inv))
+loop-holds c = counted-start (view-length _ _)
 
 loop-again : tie.Need-loop-again Inv-loop μ-loop
 unfolding inMain
-loop-again c =
-    let s = c .before .before .before .before .args in
-    let l = c .before .before .loop in
-    counted-turn inMain (s .n) (l .i) (l .i - 1) (l .count) (ltb (c .place .result) 2) (viewRows (s .n) (s .state .now) .rows) (omega arith) (omega (arith, view-length (s .n) (s .state .now), l .inv .within)) (ap (λ (x : ℕ). ltb x 2) (c .place .ensures)) (l .inv)
+loop-again c = counted-turn (c .before .before .loop .inv) (c .before .loop-test .taken) (ap (λ (x : ℕ). ltb x 2) (c .place .ensures))
 
 returns : tie.Need-returns Inv-loop μ-loop
-returns c =
-    let s = c .before .before .before .args in
-    let l = c .before .loop in
-    counted-end inMain (s .n) (l .i) (l .count) (viewRows (s .n) (s .state .now) .rows) (omega arith) (l .inv)
+returns c = counted-end (c .before .loop .inv) (c .loop-test .left)
 
 pub main-len-spec : {M : Type 1} → statement M
 main-len-spec =
@@ -51,9 +35,9 @@ main-len-spec =
     μ-loop
     loop-holds
     (λ c. search needs)
-    place-requires
+    (λ c κs. let h = c .before .loop .inv .within in omega arith)
     (λ c. search needs)
-    add-count
+    (λ c. omega (arith, c .before .before .loop .inv .few, one-at-most (ltb (c .place .result) 2)))
     (λ c. search needs)
     loop-again
     returns)

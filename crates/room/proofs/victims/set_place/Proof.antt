@@ -1,5 +1,4 @@
 -- The stamp written is the one just read from the row, so only its place changes.
-use Rattle.rules.specs.Memory.{viewRows}
 use Rattle.room.proofs.RowsAside.{placed}
 use borrow.Author.Needs.{needs}
 use Rattle.room.proofs.victims.set_place.Statement.{statement}
@@ -7,8 +6,8 @@ use Rattle.room.proofs.victims.set_place.Tie as tie
 
 returns : tie.Need-returns
 returns c =
-    let s = c .before .before .before .before .before .before .before .before .before .args in
-    placed (s .i) (s .place) (c .before .before .before .before .before .before .stamp-first .result) (c .before .before .before .before .stamp-seq .result) (viewRows (s .n) (s .state .now)) _ (c .before .before .before .before .before .before .stamp-first .ensures) (c .before .before .before .before .stamp-seq .ensures) (c .before .before .set-stamp .ensures)
+    let q = c .before .before .before .before in
+    placed _ _ _ _ _ _ (q .before .before .stamp-first .ensures) (q .stamp-seq .ensures) (c .before .before .set-stamp .ensures)
 
 pub set-place-spec : {M : Type 1} → statement M
 set-place-spec =

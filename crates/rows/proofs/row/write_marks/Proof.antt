@@ -3,7 +3,7 @@ use native.Mathlib.Omega.{arith}
 use Rattle.rules.specs.Memory.{leBytes}
 use Rattle.rules.proofs.ViewLaws.{length-le}
 use Rattle.rules.proofs.Sizes.{small1, small8}
-use Rattle.rows.proofs.StoreRuns.{four}
+use Rattle.memory.proofs.StoreRuns.{four}
 use borrow.Author.Needs.{needs}
 use Rattle.rows.proofs.row.write_marks.Statement.{statement}
 use Rattle.rows.proofs.row.write_marks.Tie as tie
@@ -22,12 +22,6 @@ pub write-marks-spec : {M : Type 1} → statement M
 write-marks-spec =
     tie.close
     (tie.spec
-    (λ c κs. search needs)
-    (λ c. search needs)
-    (λ c κs. search needs)
-    (λ c. search needs)
-    (λ c κs. search needs)
-    (λ c. search needs)
-    (λ c κs. search needs)
-    (λ c. search needs)
+    (λ c κs. search needs) (λ c. search needs) (λ c κs. search needs) (λ c. search needs) (λ c κs. search needs) (λ c. search needs)
+    (λ c κs. search needs) (λ c. search needs)
     returns)

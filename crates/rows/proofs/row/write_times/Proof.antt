@@ -3,7 +3,7 @@ use native.Mathlib.Omega.{arith}
 use Rattle.rules.specs.Memory.{leBytes}
 use Rattle.rules.proofs.ViewLaws.{length-le}
 use Rattle.rules.proofs.Sizes.{small8}
-use Rattle.rows.proofs.StoreRuns.{three}
+use Rattle.memory.proofs.StoreRuns.{three}
 use borrow.Author.Needs.{needs}
 use Rattle.rows.proofs.row.write_times.Statement.{statement}
 use Rattle.rows.proofs.row.write_times.Tie as tie
@@ -21,10 +21,5 @@ pub write-times-spec : {M : Type 1} → statement M
 write-times-spec =
     tie.close
     (tie.spec
-    (λ c κs. search needs)
-    (λ c. search needs)
-    (λ c κs. search needs)
-    (λ c. search needs)
-    (λ c κs. search needs)
-    (λ c. search needs)
+    (λ c κs. search needs) (λ c. search needs) (λ c κs. search needs) (λ c. search needs) (λ c κs. search needs) (λ c. search needs)
     returns)

@@ -12,21 +12,13 @@ returns c =
     let w1 = w2 .before .before .before .before in
     let s = w1 .before .before .before in
     let a = s .args in
-    w3 .set-row-count .ensures ∙ rw (w2 .store-saved .ensures .0, w1 .shift-up .ensures) (insert-view (a .state .now) (a .row) (a .n) (a .i) (s .pre .0) (s .pre .1) (w2 .store-saved .ensures .1))
+    w3 .set-row-count .ensures ∙ rw (w2 .store-saved .ensures .0)
+    (insert-view (a .state .now) _ (a .row) (a .n) (a .i) (s .pre .0) (s .pre .1) (w2 .store-saved .ensures .1) (w1 .shift-up .kept .0) (w1 .shift-up .ensures))
 
 pub insert-saved-spec : {M : Type 1} → statement M
 insert-saved-spec =
     tie.close
     (tie.spec
-    (λ c. search needs)
-    (λ c. search needs)
-    (λ c. search needs)
-    (λ c. search needs)
-    (λ c κs. search needs)
-    (λ c. search needs)
-    (λ c. search needs)
-    (λ c κs. search needs)
-    (λ c. search needs)
-    (λ c κs. search needs)
-    (λ c. search needs)
+    (λ c. search needs) (λ c. search needs) (λ c. search needs) (λ c. search needs) (λ c κs. search needs) (λ c. search needs) (λ c. search needs)
+    (λ c κs. search needs) (λ c. search needs) (λ c κs. search needs) (λ c. search needs)
     returns)

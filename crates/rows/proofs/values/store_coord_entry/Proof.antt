@@ -4,7 +4,7 @@ use native.Mathlib.Omega.{arith}
 use Rattle.rules.specs.Memory.{leBytes, coordEntriesBytes}
 use Rattle.rules.proofs.ViewLaws.{length-le}
 use Rattle.memory.proofs.OwnedValues.{owned-entry}
-use Rattle.rows.proofs.StoreRuns.{three}
+use Rattle.memory.proofs.StoreRuns.{three}
 use borrow.Author.Needs.{needs}
 use Rattle.rows.proofs.values.store_coord_entry.Statement.{statement}
 use Rattle.rows.proofs.values.store_coord_entry.Tie as tie
@@ -25,10 +25,5 @@ pub store-coord-entry-spec : {M : Type 1} → statement M
 store-coord-entry-spec =
     tie.close
     (tie.spec
-    (λ c κs. search needs)
-    (λ c. search needs)
-    (λ c κs. search needs)
-    (λ c. search needs)
-    (λ c κs. search needs)
-    (λ c. search needs)
+    (λ c κs. search needs) (λ c. search needs) (λ c κs. search needs) (λ c. search needs) (λ c κs. search needs) (λ c. search needs)
     returns)

@@ -4,7 +4,7 @@ use Prim.Native.Nat.{_-_, _≤_}
 use native.Mathlib.Omega.{arith}
 use borrow.Author.Needs.{needs}
 use Rattle.rules.specs.Memory.{viewRows}
-use Rattle.search.proofs.KeyBytes.{rows-length}
+use Rattle.rules.proofs.Foreign.{view-length}
 use Rattle.search.proofs.RisingRows.{Halved, halved-start, halved-less, halved-equal, halved-greater, halved-end}
 use Rattle.search.proofs.keys.search.Statement.{statement}
 use Rattle.search.proofs.keys.search.Tie as tie
@@ -24,7 +24,7 @@ be-u64-requires c κs = omega (arith, slice-aggregate-be-u64 c)
 loop-holds : tie.Need-loop-holds Inv-loop μ-loop
 loop-holds c =
     let s = c .before .before .before .before .before in
-    (omega arith, halved-start _ _ (s .args .n) (rows-length (s .args .n) (s .args .state .now)))
+    (omega arith, halved-start _ _ (s .args .n) (view-length (s .args .n) (s .args .state .now)))
 
 loop-again : tie.Need-loop-again Inv-loop μ-loop
 loop-again c =

@@ -13,15 +13,10 @@ returns c = rw (ne-eqb _ _ (λ e. c .if1 .taken (c .before .place .ensures ∙ e
 
 returns-2 : tie.Need-returns-2
 unfolding lowerRow atPlace
-returns-2 c = rw (eq-eqb _ _ (sym (c .before .before .before .before .place .ensures) ∙ c .before .before .before .if1 .left), c .lower-of .ensures, c .before .before .stamp-first .ensures, c .before .stamp-seq .ensures)
+returns-2 c =
+    let t = c .before .before .before in
+    rw (eq-eqb _ _ (sym (t .before .place .ensures) ∙ t .if1 .left), c .lower-of .ensures, c .before .before .stamp-first .ensures, c .before .stamp-seq .ensures)
 
 pub lower-row-spec : {M : Type 1} → statement M
 lower-row-spec =
-    tie.close
-    (tie.spec
-    (λ c κs. search needs)
-    returns
-    (λ c κs. search needs)
-    (λ c κs. search needs)
-    (λ c κs. search needs)
-    returns-2)
+    tie.close (tie.spec (λ c κs. search needs) returns (λ c κs. search needs) (λ c κs. search needs) (λ c κs. search needs) returns-2)

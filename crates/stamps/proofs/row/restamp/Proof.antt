@@ -3,7 +3,6 @@ use mathlib.Core.Path.{ap, _∙_}
 use Prim.Native.Nat.{ℕ}
 use mathlib.Core.Bool.{cond}
 use lib.Dec.{ltb}
-use Rattle.rules.specs.Memory.{viewRows}
 use Rattle.stamps.proofs.StampedRows.{restamped}
 use borrow.Author.Needs.{needs}
 use Rattle.stamps.proofs.row.restamp.Statement.{statement}
@@ -11,19 +10,11 @@ use Rattle.stamps.proofs.row.restamp.Tie as tie
 
 returns : tie.Need-returns
 returns c =
-    let s = c .before .before .before .before .before .before .before .before .before .before .args in
-    let p = c .before .before .before .before .before .before .before .place in
-    let f = c .before .before .before .before .before .before .filed-place in
-    let u = c .before .before .before .before .last-used in
-    restamped (s .i) (f .result) (u .result) (viewRows (s .n) (s .state .now)) _ (f .ensures ∙ ap (λ (x : ℕ). cond (ltb x 2) 0 x) (p .ensures)) (u .ensures) (c .before .before .draw-stamp .ensures)
+    let u = c .before .before .before .before in
+    let f = u .before .before in
+    let q = f .filed-place .ensures ∙ ap (λ (x : ℕ). cond (ltb x 2) 0 x) (f .before .place .ensures) in
+    restamped _ _ _ _ _ q (u .last-used .ensures) (c .before .before .draw-stamp .ensures)
 
 pub restamp-spec : {M : Type 1} → statement M
 restamp-spec =
-    tie.close
-    (tie.spec
-    (λ c κs. search needs)
-    (λ c κs. search needs)
-    (λ c κs. search needs)
-    (λ c κs. search needs)
-    (λ c. search needs)
-    returns)
+    tie.close (tie.spec (λ c κs. search needs) (λ c κs. search needs) (λ c κs. search needs) (λ c κs. search needs) (λ c. search needs) returns)

@@ -1,145 +1,88 @@
 -- A row restamped or parked leaves one visit fewer and the same victim to find; the visits left bound seq and examined.
-use mathlib.Core.Path.{_≡_, refl, sym, _∙_}
-use Prim.Native.Nat.{_<_}
+use Prim.Native.Nat.{ℕ}
 use native.Mathlib.Omega.{arith}
-use mathlib.Core.Option.{some}
-use lib.ListN.{length}
+use mathlib.Core.List.{List}
+use mathlib.Core.Path.{_≡_}
 use borrow.Author.Needs.{needs}
 use Rattle.rules.specs.Records.{byUse}
 use Rattle.rules.specs.Rows.{lowestStamp, total}
-use Rattle.rules.specs.Room.{mainVisits, restamp, park}
+use Rattle.rules.specs.Room.{mainVisits}
 use Rattle.rules.specs.Memory.{viewRows}
-use Rattle.rules.proofs.RowLists.{lowest-at}
 use Rattle.rules.proofs.Loops.{seeking}
-use Rattle.memory.proofs.RowLaws.{view-length}
-use Rattle.stamps.specs.Walked.{lowestOf, walkFrom}
-use Rattle.stamps.proofs.WalkLaws.{Turn, Going, Paced, found-at, found-none, stale-turn, park-turn, going-start, going-on, paced-on, some-left, none-yielded, yielded}
+use Rattle.stamps.specs.Walked.{lowestOf}
+use Rattle.stamps.proofs.WalkLaws.{Going, Found, Turned, found-row, found-none, seek-start, some-left, stale-turn, park-turn, none-yielded, yielded}
 use Rattle.stamps.proofs.walk.next_victim.Statement.{statement}
 use Rattle.stamps.proofs.walk.next_victim.Tie as tie
 
 abbrev Inv-loop : tie.InvT-loop
-Inv-loop state₀ n time examined₀ next₀ state examined next = (length state ≡ length state₀) × (lowestOf next ≡ lowestStamp byUse (viewRows n state .rows)) × Going (seeking time) time (walkFrom (viewRows n state₀) examined₀) (walkFrom (viewRows n state) examined)
+Inv-loop state₀ n time examined₀ next₀ state examined next =
+    Going seeking time n examined₀ examined state₀ state × (lowestOf next ≡ lowestStamp byUse (viewRows n state .rows))
 
 abbrev μ-loop : tie.MeasureT-loop
 μ-loop state₀ n time examined₀ next₀ state examined next = total (mainVisits time) (viewRows n state .rows)
 
--- the row that was found
-row : (c : tie.After-next Inv-loop μ-loop) → lowestStamp byUse (viewRows (c .before .before .before .before .before .before .before .before .args .n) (c .before .before .loop .state) .rows) ≡ some (c .next .given .0 .0)
-row c = found-at _ _ _ (c .before .before .loop .inv .1) (c .next .given .1)
+-- the places that the others go from: where the parked rows have returned, and where a row was found
+abbrev returned : tie.After-next Inv-loop μ-loop → tie.After-return-lapsed Inv-loop μ-loop
+returned c = c .before .before .before .before .before
 
-inside : (c : tie.After-next Inv-loop μ-loop) → c .next .given .0 .0 < c .before .before .before .before .before .before .before .before .args .n
-inside c = rw view-length at (lowest-at byUse _ _ (row c) .inside)
+abbrev at-next : tie.Else1 Inv-loop μ-loop → tie.After-next Inv-loop μ-loop
+at-next c = c .before .before .before .before
 
--- the memory is as long, and seq and examined have room for what is left
-long : (c : tie.After-next Inv-loop μ-loop) → length (c .before .before .loop .state) ≡ length (c .before .before .before .before .before .before .before .before .args .state .now)
-long c = let k = c .before .before .before .before .before .return-lapsed .kept .0 in omega arith
+found : (c : tie.After-next Inv-loop μ-loop) →
+    let r = returned c in
+    let s = r .before .before .before .args in
+    let l = c .before .before .loop in
+    Found seeking byUse (s .time) (s .n) (r .return-lapsed .result .rows) (l .examined) (c .next .given .0 .0) (r .return-lapsed .last .0) (l .state)
+found c = let l = c .before .before .loop in found-row (l .inv .0) (l .inv .1) (c .next .given .1)
 
-room : (c : tie.After-next Inv-loop μ-loop) → Paced (c .before .before .before .before .before .before .before .before .args .time) (walkFrom (viewRows (c .before .before .before .before .before .before .before .before .args .n) (c .before .before .before .before .before .before .before .before .args .state .now)) 0) (walkFrom (viewRows (c .before .before .before .before .before .before .before .before .args .n) (c .before .before .loop .state)) (c .before .before .loop .examined))
-room c = paced-on _ _ _ _ (walkFrom _ _) (c .before .before .before .before .before .return-lapsed .ensures .0) (c .before .before .loop .inv .2 .paced)
+-- the row was taken up, and memory x shows the rows then
+abbrev Goes : tie.After-next Inv-loop μ-loop → List ℕ → Type 0
+Goes c x =
+    let r = returned c in
+    let s = r .before .before .before .args in
+    let l = c .before .before .loop in
+    Turned seeking (s .time) (s .n) (r .return-lapsed .result .rows) (l .examined) (r .return-lapsed .last .0) (l .state) x
 
--- the two turns
-turn : (c : tie.Then1 Inv-loop μ-loop) →
-    let v = viewRows (c .before .before .before .before .before .before .before .before .before .before .before .before .args .n) (c .before .before .before .before .before .before .loop .state) in
-    Turn (seeking (c .before .before .before .before .before .before .before .before .before .before .before .before .args .time)) (c .before .before .before .before .before .before .before .before .before .before .before .before .args .time) (c .before .before .before .before .next .given .0 .0) (c .before .before .before .before .before .before .loop .examined) v (restamp (c .before .before .before .before .next .given .0 .0) v)
-turn c = stale-turn _ _ _ _ (row (c .before .before .before .before)) (sym (c .before .is-stale .ensures) ∙ c .if1 .taken)
+restamped : (c : tie.After-restamp Inv-loop μ-loop) → Goes (c .before .before .before .before .before .before) (c .restamp .last .0)
+restamped c =
+    let t = c .before .before in
+    stale-turn (found (t .before .before .before .before)) (t .before .is-stale .ensures) (t .if1 .taken) (c .restamp .kept .0) (c .restamp .ensures)
 
-parks : (c : tie.Then2 Inv-loop μ-loop) →
-    let v = viewRows (c .before .before .before .before .before .before .before .before .before .before .before .before .before .before .before .args .n) (c .before .before .before .before .before .before .before .before .before .loop .state) in
-    Turn (seeking (c .before .before .before .before .before .before .before .before .before .before .before .before .before .before .before .args .time)) (c .before .before .before .before .before .before .before .before .before .before .before .before .before .before .before .args .time) (c .before .before .before .before .before .before .before .next .given .0 .0) (c .before .before .before .before .before .before .before .before .before .loop .examined) v (park (c .before .before .before .before .before .before .before .next .given .0 .0) v)
-parks c = park-turn _ _ _ _ (row (c .before .before .before .before .before .before .before)) (sym (c .before .before .before .before .is-stale .ensures) ∙ c .before .before .before .if1 .left) (sym (c .before .is-verified .ensures) ∙ c .if2 .taken)
+parked : (c : tie.After-park Inv-loop μ-loop) → Goes (at-next (c .before .before .before .before .before)) (c .park .last .0)
+parked c =
+    let v = c .before .before in
+    let t = v .before .before .before in
+    park-turn (found (at-next t)) (t .before .is-stale .ensures) (t .if1 .left) (v .before .is-verified .ensures) (v .if2 .taken) (c .park .kept .0) (c .park .ensures)
 
 loop-holds : tie.Need-loop-holds Inv-loop μ-loop
-loop-holds c = (refl, c .before .before .return-lapsed .ensures .1, going-start (seeking _) _ (walkFrom _ _))
-
-add-examined : tie.Need-add-examined Inv-loop μ-loop
-add-examined c =
-    let h = room (c .before) in
-    let k = some-left (c .before .before .before .before .before .before .before .before .before .args .time) _ (viewRows (c .before .before .before .before .before .before .before .before .before .args .n) (c .before .before .before .loop .state)) (row (c .before)) in
-    omega (arith, h .left)
-
-is-stale-requires : tie.Need-is-stale-requires Inv-loop μ-loop
-is-stale-requires c κs =
-    let i = inside (c .before .before) in
-    let k = long (c .before .before) in
-    omega arith
+loop-holds c =
+    let r = c .before .before in
+    let s = r .before .before .before in
+    let k = r .return-lapsed .kept .0 in
+    (seek-start (s .args .state .now) (r .return-lapsed .ensures .0) (omega arith) (s .pre .1), r .return-lapsed .ensures .1)
 
 restamp-requires : tie.Need-restamp-requires Inv-loop μ-loop
-restamp-requires c κs =
-    let i = inside (c .before .before .before .before .before) in
-    let k = long (c .before .before .before .before .before) in
-    let h = room (c .before .before .before .before .before) in
-    let t = turn (c .before) in
-    (i, omega arith, omega (arith, t .less, h .stamps))
-
-lowest-stamp-requires : tie.Need-lowest-stamp-requires Inv-loop μ-loop
-lowest-stamp-requires c κs =
-    let k = long (c .before .before .before .before .before .before .before .before .before) in
-    let m = c .before .before .before .restamp .kept .0 in
-    omega arith
-
-loop-less : tie.Need-loop-less Inv-loop μ-loop
-loop-less c =
-    let t = turn (c .before .before .before .before .before .before) in
-    rw (c .before .before .before .before .restamp .ensures) (omega (arith, t .less))
+restamp-requires c κs = let f = found (c .before .before .before .before .before) in (f .inside, f .going .size, omega (arith, some-left f, f .going .stamps))
 
 loop-again : tie.Need-loop-again Inv-loop μ-loop
-loop-again c =
-    let l = c .before .before .before .before .before .before .before .before .before .before .before .before .loop in
-    let k = c .before .before .before .before .restamp .kept .0 in
-    (omega arith, c .lowest-stamp .ensures .row, going-on (seeking _) _ _ (l .examined) (walkFrom _ _) _ _ _ (turn (c .before .before .before .before .before .before)) (c .before .before .before .before .restamp .ensures) (l .inv .2))
-
-is-verified-requires : tie.Need-is-verified-requires Inv-loop μ-loop
-is-verified-requires c κs =
-    let i = inside (c .before .before .before .before .before) in
-    let k = long (c .before .before .before .before .before) in
-    omega arith
+loop-again c = (restamped (c .before .before .before .before) .going, c .lowest-stamp .ensures .row)
 
 park-requires : tie.Need-park-requires Inv-loop μ-loop
-park-requires c κs =
-    let i = inside (c .before .before .before .before .before .before .before .before) in
-    let k = long (c .before .before .before .before .before .before .before .before) in
-    let h = room (c .before .before .before .before .before .before .before .before) in
-    let t = parks (c .before) in
-    (i, omega arith, omega (arith, t .less, h .stamps))
-
-lowest-stamp-requires-2 : tie.Need-lowest-stamp-requires-2 Inv-loop μ-loop
-lowest-stamp-requires-2 c κs =
-    let k = long (c .before .before .before .before .before .before .before .before .before .before .before .before) in
-    let m = c .before .before .before .park .kept .0 in
-    omega arith
-
-loop-less-2 : tie.Need-loop-less-2 Inv-loop μ-loop
-loop-less-2 c =
-    let t = parks (c .before .before .before .before .before .before) in
-    rw (c .before .before .before .before .park .ensures) (omega (arith, t .less))
+park-requires c κs = let f = found (at-next (c .before .before .before .before)) in (f .inside, f .going .size, omega (arith, some-left f, f .going .stamps))
 
 loop-again-2 : tie.Need-loop-again-2 Inv-loop μ-loop
-loop-again-2 c =
-    let l = c .before .before .before .before .before .before .before .before .before .before .before .before .before .before .before .loop in
-    let k = c .before .before .before .before .park .kept .0 in
-    (omega arith, c .lowest-stamp2 .ensures .row, going-on (seeking _) _ _ (l .examined) (walkFrom _ _) _ _ _ (parks (c .before .before .before .before .before .before)) (c .before .before .before .before .park .ensures) (l .inv .2))
-
-same-length : tie.Need-same-length Inv-loop μ-loop
-same-length c =
-    let k = c .before .before .before .before .before .return-lapsed .kept .0 in
-    search needs
+loop-again-2 c = (parked (c .before .before .before .before) .going, c .lowest-stamp2 .ensures .row)
 
 returns : tie.Need-returns Inv-loop μ-loop
 returns c =
-    let l = c .before .before .loop in
-    let s = c .before .before .before .before .before .before .before .before .args in
-    none-yielded (s .time) _ (l .examined) (viewRows (s .n) (s .state .now)) _ (viewRows (s .n) (l .state)) (c .before .before .before .before .before .return-lapsed .ensures .0) (found-none _ _ (l .inv .1) (c .enum-told .given .1)) (l .inv .2)
-
-same-length-2 : tie.Need-same-length-2 Inv-loop μ-loop
-same-length-2 c =
-    let k = c .before .before .before .before .before .before .before .before .before .before .before .before .return-lapsed .kept .0 in
-    search needs
+    let l = c .before .before in
+    none-yielded _ (l .loop .inv .0) (found-none _ _ (l .loop .inv .1) (c .enum-told .given .1)) (l .before .before .before .return-lapsed .ensures .0)
 
 returns-2 : tie.Need-returns-2 Inv-loop μ-loop
 returns-2 c =
-    let l = c .before .before .before .before .before .before .before .before .before .loop in
-    let s = c .before .before .before .before .before .before .before .before .before .before .before .before .before .before .before .args in
-    yielded (s .time) _ (l .examined) _ (viewRows (s .n) (s .state .now)) _ (viewRows (s .n) (l .state)) (c .before .before .before .before .before .before .before .before .before .before .before .before .return-lapsed .ensures .0) (row (c .before .before .before .before .before .before .before)) (sym (c .before .before .before .before .is-stale .ensures) ∙ c .before .before .before .if1 .left) (sym (c .before .is-verified .ensures) ∙ c .if2 .left) (l .inv .2)
+    let t = c .before .before .before in
+    let r = returned (at-next t) .return-lapsed .ensures in
+    yielded (found (at-next t)) (t .before .is-stale .ensures) (t .if1 .left) (c .before .is-verified .ensures) _ (c .if2 .left) (r .0)
 
 pub next-victim-spec : {M : Type 1} → statement M
 next-victim-spec =
@@ -149,20 +92,19 @@ next-victim-spec =
     μ-loop
     (λ c κs. search needs)
     loop-holds
-    (λ c. search needs)
-    (λ c. search needs)
-    add-examined
-    is-stale-requires
+    (λ c. search needs) (λ c. search needs)
+    (λ c. let f = found (c .before) in omega (arith, some-left f, f .going .keys))
+    (λ c κs. let f = found (c .before .before) in (f .inside, f .going .size))
     restamp-requires
-    lowest-stamp-requires
-    loop-less
+    (λ c κs. restamped (c .before .before .before) .going .size)
+    (λ c. restamped (c .before .before .before .before) .less)
     loop-again
-    is-verified-requires
+    (λ c κs. let f = found (at-next (c .before)) in (f .inside, f .going .size))
     park-requires
-    lowest-stamp-requires-2
-    loop-less-2
+    (λ c κs. parked (c .before .before .before) .going .size)
+    (λ c. parked (c .before .before .before .before) .less)
     loop-again-2
-    same-length
+    (λ c. let k = c .before .before .before .before .before .return-lapsed .kept .0 in search needs)
     returns
-    same-length-2
+    (λ c. let k = returned (at-next (c .before .before .before)) .return-lapsed .kept .0 in search needs)
     returns-2)

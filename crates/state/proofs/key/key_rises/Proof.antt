@@ -5,7 +5,7 @@ use lib.ListN.{length}
 use borrow.Author.Needs.{needs}
 use Rattle.rules.specs.Rows.{rowAt}
 use Rattle.rules.specs.Memory.{viewRows}
-use Rattle.memory.proofs.RowLaws.{view-length}
+use Rattle.rules.proofs.Foreign.{view-length}
 use Rattle.state.proofs.KeyLaws.{keys-before, leads-next, leads-none}
 use Rattle.state.proofs.key.key_rises.Statement.{statement}
 use Rattle.state.proofs.key.key_rises.Tie as tie

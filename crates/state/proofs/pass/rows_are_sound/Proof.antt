@@ -4,7 +4,7 @@ use native.Mathlib.Omega.{arith}
 use lib.ListN.{length}
 use borrow.Author.Needs.{needs}
 use Rattle.rules.specs.Memory.{viewRows}
-use Rattle.memory.proofs.RowLaws.{view-length}
+use Rattle.rules.proofs.Foreign.{view-length}
 use Rattle.state.proofs.PassLaws.{Passing, passing-start, passing-turn, passing-end, row-stops, key-stops}
 use Rattle.state.proofs.pass.rows_are_sound.Statement.{statement}
 use Rattle.state.proofs.pass.rows_are_sound.Tie as tie

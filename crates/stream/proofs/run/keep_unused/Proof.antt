@@ -1,3 +1,4 @@
+-- The loop has moved the first n of the bytes left, as shifting down by `used` would.
 use mathlib.Core.Path.{_≡_, refl}
 use Prim.Native.Nat.{_+_, _-_, _≤_}
 use native.Mathlib.Omega.{arith}

@@ -1,82 +1,59 @@
 -- A probation row makes the conjunction false; for a main row, the count less 1 and the weight less its own are those of takeOut.
-use mathlib.Core.Path.{_∙_}
-use Prim.Native.Nat.{min}
+use mathlib.Core.Path.{_≡_, _∙_}
+use mathlib.Core.Bool.{true}
 use native.Mathlib.Omega.{arith}
-use Rattle.rules.specs.Records.{weightBound}
+use Rattle.rules.specs.Records.{State}
+use Rattle.rules.specs.Rows.{rowAt, inMain}
 use Rattle.rules.specs.Memory.{viewRows}
+use Rattle.rules.proofs.Foreign.{view-length}
 use Rattle.memory.proofs.Fields.{same-head}
-use Rattle.memory.proofs.RowLaws.{view-length}
 use Rattle.room.proofs.ClosedForm.{sound-small}
 use Rattle.room.proofs.RoomToFile.{laid-out}
 use Rattle.verification.proofs.InPlace.{stored-few, main-some, room-out, no-main, in-main}
 use Rattle.verification.proofs.in_place.has_room_without.Statement.{statement}
 use Rattle.verification.proofs.in_place.has_room_without.Tie as tie
 
-place-requires : tie.Need-place-requires
-place-requires c κs =
-    let s = c .before in
-    (s .pre .1, laid-out (s .args .n) (s .args .state .now) (s .pre .0))
+abbrev start : tie.After-max-entries → tie.Start
+start c = c .before .before .before .before
+
+abbrev state : tie.After-max-entries → State
+state c = viewRows (start c .args .n) (start c .args .state .now)
+
+row-in-main : (c : tie.After-max-entries) → inMain (rowAt (start c .args .i) (state c .rows)) ≡ true
+row-in-main c = in-main (start c .args .i) (state c) (c .before .before .place .ensures) (c .before .if1 .left)
+
+max-is : (c : tie.After-max-entries) → c .max-entries .result ≡ state c .maxEntries
+max-is c = c .max-entries .ensures ∙ same-head 0 (start c .args .n) (start c .args .state .now) .maxEntries
 
 returns : tie.Need-returns
-returns c =
-    let s = c .before .before .before in
-    no-main (s .args .i) (c .before .place .result) _ (viewRows (s .args .n) (s .args .state .now)) (c .before .place .ensures) (c .if1 .taken)
-
-max-entries-requires : tie.Need-max-entries-requires
-max-entries-requires c κs =
-    let s = c .before .before .before in
-    omega (arith, laid-out (s .args .n) (s .args .state .now) (s .pre .0))
-
-other-main-rows-requires : tie.Need-other-main-rows-requires
-other-main-rows-requires c κs =
-    let s = c .before .before .before .before in
-    let n = s .args .n in
-    let l = s .args .state .now in
-    (laid-out n l (s .pre .0), main-some (s .args .i) (viewRows n l) (omega (arith, view-length n l, s .pre .1)) (in-main (s .args .i) (c .before .before .place .result) (viewRows n l) (c .before .before .place .ensures) (c .before .if1 .left)))
-
-stored-without-requires : tie.Need-stored-without-requires
-stored-without-requires c κs =
-    let p = c .before .before .before in
-    let s = p .before .before in
-    (s .pre .0, s .pre .1, in-main (s .args .i) (p .place .result) (viewRows (s .args .n) (s .args .state .now)) (p .place .ensures) (c .before .before .if1 .left))
+returns c = no-main _ _ (viewRows _ _) (c .before .place .ensures) (c .if1 .taken)
 
 cut-to-bound-requires : tie.Need-cut-to-bound-requires
-cut-to-bound-requires c κs =
-    let m = c .before .before in
-    let s = m .before .before .before .before in
-    omega (arith, m .max-entries .ensures, same-head 0 (s .args .n) (s .args .state .now) .maxEntries, sound-small _ _ (s .pre .0) .max)
+cut-to-bound-requires c κs = let m = c .before .before in omega (arith, max-is m, sound-small _ _ (start m .pre .0) .max)
 
 has-room-requires : tie.Need-has-room-requires
 has-room-requires c κs =
     let t = c .before in
     let m = t .before .before in
-    let s = m .before .before .before .before in
-    let z = sound-small _ _ (s .pre .0) in
-    (omega (arith, m .max-entries .ensures, same-head 0 (s .args .n) (s .args .state .now) .maxEntries, z .max), omega (arith, t .stored-without .ensures, stored-few _ (s .args .i) (viewRows (s .args .n) (s .args .state .now)) (s .pre .0)), omega (arith, c .cut-to-bound .ensures))
+    let h = start m .pre .0 in
+    (omega (arith, max-is m, sound-small _ _ h .max), omega (arith, t .stored-without .ensures, stored-few _ (start m .args .i) (state m) h), omega (arith, c .cut-to-bound .ensures))
 
 returns-2 : tie.Need-returns-2
 returns-2 c =
-    let x = c .before in
-    let t = x .before in
+    let t = c .before .before in
     let o = t .before in
     let m = o .before in
-    let p = m .before .before in
-    let s = p .before .before in
-    let n = s .args .n in
-    let l = s .args .state .now in
-    let v = viewRows n l in
-    let e = m .max-entries .ensures ∙ same-head 0 n l .maxEntries in
-    room-out (s .args .i) (m .max-entries .result) (o .other-main-rows .result) (t .stored-without .result) (min (s .args .w) (weightBound (v .maxEntries))) v (c .has-room .result) (omega (arith, view-length n l, s .pre .1)) (in-main (s .args .i) (p .place .result) v (p .place .ensures) (m .before .if1 .left)) e (o .other-main-rows .ensures) (t .stored-without .ensures) (c .has-room .ensures ∙ rw (x .cut-to-bound .ensures, e))
+    room-out _ _ _ _ _ (start m .pre .1) (row-in-main m) (max-is m) (o .other-main-rows .ensures) (t .stored-without .ensures) (c .before .cut-to-bound .ensures) (c .has-room .ensures)
 
 pub has-room-without-spec : {M : Type 1} → statement M
 has-room-without-spec =
     tie.close
     (tie.spec
-    place-requires
+    (λ c κs. (c .before .pre .1, laid-out _ _ (c .before .pre .0)))
     returns
-    max-entries-requires
-    other-main-rows-requires
-    stored-without-requires
+    (λ c κs. omega (arith, laid-out _ _ (c .before .before .before .pre .0)))
+    (λ c κs. (laid-out _ _ (start c .pre .0), main-some _ _ _ (start c .pre .1) (row-in-main c)))
+    (λ c κs. (start (c .before) .pre .0, start (c .before) .pre .1, row-in-main (c .before)))
     cut-to-bound-requires
     has-room-requires
     returns-2)

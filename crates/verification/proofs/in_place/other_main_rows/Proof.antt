@@ -7,19 +7,15 @@ use borrow.Author.Needs.{needs}
 use Rattle.verification.proofs.in_place.other_main_rows.Statement.{statement}
 use Rattle.verification.proofs.in_place.other_main_rows.Tie as tie
 
-sub-result : tie.Need-sub-result
-sub-result c =
-    let s = c .before .before in
-    few-rows (s .args .n) (s .args .max) (s .args .state .now) (s .pre .1) (c .if1 .taken) .0
-
-returns : tie.Need-returns
-returns c =
-    let s = c .before .before in
-    few-rows (s .args .n) (s .args .max) (s .args .state .now) (s .pre .1) (c .if1 .taken) .1
-
 returns-2 : tie.Need-returns-2
 returns-2 c = ap (λ (x : ℕ). ltb (x - 1) (c .before .before .before .args .max)) (c .main-len .ensures)
 
 pub other-main-rows-spec : {M : Type 1} → statement M
 other-main-rows-spec =
-    tie.close (tie.spec sub-result returns (λ c κs. search needs) (λ c. search needs) returns-2)
+    tie.close
+    (tie.spec
+    (λ c. few-rows _ _ _ (c .before .before .pre .1) (c .if1 .taken) .0)
+    (λ c. few-rows _ _ _ (c .before .before .pre .1) (c .if1 .taken) .1)
+    (λ c κs. search needs)
+    (λ c. search needs)
+    returns-2)

@@ -2,84 +2,60 @@
 use mathlib.Core.Path.{ap}
 use native.Mathlib.Omega.{arith}
 use Rattle.types.specs.declared.coord.Path.{Path}
-use Rattle.rules.specs.Placement.{withoutKey}
-use Rattle.rules.specs.Memory.{viewRows}
 use Rattle.rules.proofs.Others.{weight-ok}
-use Rattle.room.proofs.RoomToFile.{laid-out, Reached}
-use Rattle.entries.specs.NewEntries.{entryFrom}
+use Rattle.room.proofs.RoomToFile.{laid-out}
 use Rattle.filing.proofs.RoomSought.{Sought, sought}
-use Rattle.verification.specs.Mtu.{mtuOf}
-use Rattle.verification.proofs.VerifiedRows.{found-within, room-asked, row-asked, insert-said, insert-left}
+use Rattle.verification.proofs.VerifiedRows.{KeyOut, found-within, room-asked, row-asked, insert-said, insert-left}
 use borrow.Author.Needs.{needs}
 use Rattle.verification.proofs.insert.file_anew.Statement.{statement}
 use Rattle.verification.proofs.insert.file_anew.Tie as tie
 
--- the key's row is out
-key-out : (c : tie.After-take-out) → (let a = c .before .before .before .before .before .args in Reached (a .state .now) (c .take-out .last .0) (c .take-out .result) (withoutKey (a .key) (viewRows (a .n) (a .state .now))))
+abbrev taken : tie.After-weight → tie.After-take-out
+taken c = c .before .before .before
+
+abbrev start : tie.After-weight → tie.Start
+start c = taken c .before .before .before .before .before
+
+key-out : (c : tie.After-weight) → (let a = start c .args in KeyOut (a .key) (a .path) (a .n) (taken c .take-out .result) (c .weight .result) (a .state .now) (taken c .take-out .last .0))
 key-out c =
-    let s = c .before .before .before .before .before in
-    record { size = c .take-out .kept .0; state = c .take-out .ensures (s .args .key) (s .pre .4) }
+    let o = taken c .take-out in
+    record { sound = start c .pre .0; reached = record { size = o .kept .0; state = o .ensures _ (start c .pre .4) }; weight = c .weight .ensures }
 
 -- then room was sought
-room-sought : (c : tie.After-make-room) → (let w = c .before .before in let o = w .before .before .before in Sought (o .take-out .last .0) (c .make-room .last .0) (o .take-out .result) (o .before .before .before .before .before .args .time) (w .weight .result) (c .make-room .result))
-room-sought c =
-    let w = c .before .before in
-    let o = w .before .before .before in
-    sought (o .take-out .last .0) (c .make-room .last .0) (o .take-out .result) (o .before .before .before .before .before .args .time) (w .weight .result) (c .make-room .result) (c .make-room .kept .0) (c .make-room .ensures)
-
-verified-entry-of-requires : tie.Need-verified-entry-of-requires
-verified-entry-of-requires c κs =
-    let s = c .before .before in
-    (laid-out (s .args .n) (s .args .state .now) (s .pre .0), found-within (s .args .n) (s .args .state .now) (s .args .key) (s .args .at) (s .pre .4))
-
-take-out-requires : tie.Need-take-out-requires
-take-out-requires c κs =
-    let s = c .before .before .before .before in
-    (s .pre .0, found-within (s .args .n) (s .args .state .now) (s .args .key) (s .args .at) (s .pre .4))
+room-sought : (c : tie.After-make-room) → (let w = c .before .before in
+    Sought (taken w .take-out .last .0) (c .make-room .last .0) (taken w .take-out .result) (start w .args .time) (w .weight .result) (c .make-room .result))
+room-sought c = sought _ _ _ _ _ _ (c .make-room .kept .0) (c .make-room .ensures)
 
 cast-row-weight : tie.Need-cast-row-weight
 cast-row-weight c =
-    let s = c .before .before .before .before .before .before .before .before in
+    let s = start c in
     record { fits = omega (arith, c .weight .ensures, weight-ok (s .args .path) (record { long = s .pre .1 .long; short = s .pre .1 .short })) }
-
-make-room-requires : tie.Need-make-room-requires
-make-room-requires c κs =
-    let w = c .before in
-    let o = w .before .before .before in
-    let s = o .before .before .before .before .before in
-    let a = s .args in
-    room-asked (a .key) (a .path) (a .time) (a .n) (o .take-out .result) (w .weight .result) (a .state .now) (o .take-out .last .0) (s .pre .0) (key-out o) (w .weight .ensures) (s .pre .2)
 
 file-in-room-requires : tie.Need-file-in-room-requires
 file-in-room-requires c κs =
-    let r = c .before .before .before in
-    let w = r .before .before in
-    let o = w .before .before .before in
-    let e = o .before .before in
-    let s = e .before .before .before in
-    let a = s .args in
-    (row-asked (a .key) (a .path) (a .time) (a .n) (o .take-out .result) (w .weight .result) (a .state .now) (o .take-out .last .0) (s .pre .0) (key-out o) (w .weight .ensures) (r .make-room .last .0) (r .make-room .result) (room-sought r) (s .pre .2) (s .pre .3), omega (arith, ap (λ (p : Path). p .len) (e .verified-entry-of .ensures .1), s .pre .1 .short))
+    let sought = c .before .before .before in
+    let w = sought .before .before in
+    let s = start w in
+    let e = taken w .before .before .verified-entry-of in
+    (row-asked (key-out w) _ (room-sought sought) (s .pre .2) (s .pre .3), omega (arith, ap (λ (p : Path). p .len) (e .ensures .1), s .pre .1 .short))
 
 returns : tie.Need-returns
 returns c =
-    let f = c .before .before in
-    let r = f .before .before .before .before in
-    let w = r .before .before in
-    let o = w .before .before .before in
-    let e = o .before .before in
-    let s = e .before .before .before in
-    let a = s .args in
-    (insert-said (a .key) (a .path) (a .time) (a .n) (o .take-out .result) (w .weight .result) (a .state .now) (o .take-out .last .0) (s .pre .0) (key-out o) (w .weight .ensures) (r .make-room .last .0) (r .make-room .result) (room-sought r) (mtuOf (a .mtu)), insert-left (a .key) (a .path) (a .time) (a .n) (o .take-out .result) (w .weight .result) (a .state .now) (o .take-out .last .0) (s .pre .0) (key-out o) (w .weight .ensures) (r .make-room .last .0) (r .make-room .result) (room-sought r) (mtuOf (a .mtu)) (f .file-in-room .last .0) (entryFrom (e .verified-entry-of .result)) (e .verified-entry-of .ensures .0 (a .key) (s .pre .4)) (f .file-in-room .ensures))
+    let filed = c .before .before in
+    let sought = filed .before .before .before .before in
+    let w = sought .before .before in
+    let e = taken w .before .before .verified-entry-of in
+    (insert-said (key-out w) _ (room-sought sought) _, insert-left (key-out w) _ (room-sought sought) _ (e .ensures .0 _ (start w .pre .4)) _ _ (filed .file-in-room .ensures))
 
 pub file-anew-spec : {M : Type 1} → statement M
 file-anew-spec =
     tie.close
     (tie.spec
-    verified-entry-of-requires
-    take-out-requires
+    (λ c κs. let s = c .before .before in (laid-out _ _ (s .pre .0), found-within _ _ _ _ (s .pre .4)))
+    (λ c κs. let s = c .before .before .before .before in (s .pre .0, found-within _ _ _ _ (s .pre .4)))
     (λ c κs. search needs)
     cast-row-weight
-    make-room-requires
+    (λ c κs. room-asked (key-out (c .before)) _ (start (c .before) .pre .2))
     file-in-room-requires
     (λ c. search needs)
     returns)

@@ -1,12 +1,12 @@
--- The value is equal to the definition field by field once `emptyPath` and `zeroEntry` are unfolded.
-use mathlib.Core.Path.{refl}
-use Rattle.types.specs.Paths.{emptyPath, zeroEntry}
+-- Every place holds the zero entry, as emptyPath says.
+use Rattle.types.specs.Paths.{emptyPath}
+use borrow.Author.Needs.{needs}
 use Rattle.types.proofs.coord.Path.empty.Statement.{statement}
 use Rattle.types.proofs.coord.Path.empty.Tie as tie
 
 returns : tie.Need-returns
-unfolding emptyPath zeroEntry
-returns c = refl
+unfolding emptyPath
+returns c = rw (c .zero-entry .ensures)
 
 pub empty-spec : {M : Type 1} → statement M
-empty-spec = tie.close (tie.spec returns)
+empty-spec = tie.close (tie.spec (λ c κs. search needs) returns)
