@@ -19,7 +19,7 @@ use Rattle.rules.specs.Entries.{addTimes, expired, lastTime, refresh}
 use Rattle.rules.specs.Room.{takeOut}
 use Rattle.rules.specs.Lookups.{get, rewrite, touched, unexpiredRow, withEntry}
 use Rattle.rules.specs.Calls.{Answer, Done, EntryRemoved, ExpiryGiven, Get, GetAndTouch, Hinted, KeyHeld, PathFound, Refused, RowsRemoved, StatsGiven, VerifiedDone, drawsStamps, pathGiven, verifiedWrite}
-use Rattle.rules.specs.Refusals.{Asked, Step, firstGiven, gives, perform, performRequest, reason, reasons, refusal, serve, step}
+use Rattle.rules.specs.Refusals.{Asked, Step, gives, perform, performRequest, reasons, refusal, serve, step}
 use Rattle.rules.specs.Memory.{capacity, coordEntriesBytes, coordEntriesOf, coordEntryOf, cut, entryOf, heldRows, pathOf, rowOf, view, viewRows}
 use Rattle.rules.specs.Lent.{Bytes, Typed, call, foundPart, gotPart, lent, pathPart}
 use Rattle.rules.proofs.Addresses.{contradiction, same-ne}
@@ -27,7 +27,7 @@ use Rattle.rules.proofs.RowLists.{by-cond, by-maybe, cores, every-at, f
 use Rattle.rules.proofs.SoundTest.{RowOk, Sound, sound-is}
 use Rattle.rules.proofs.MemoryLaws.{bytes-cut, bytes-drop, bytes-take, cut-front, elem-memory, entries-cons, held-fits, length-cut, no-entries}
 use Rattle.rules.proofs.Others.{takeOut-gone}
-use Rattle.rules.proofs.Refused.{allowed}
+use Rattle.rules.proofs.Refused.{allowed, refused-only-one}
 use Rattle.rules.proofs.SoundKept.{step-sound}
 use Rattle.rules.proofs.Sizes.{small8-less}
 use Rattle.rules.proofs.Foreign.{row-of-rows, rows-of-length}
@@ -195,8 +195,8 @@ unfolding refusal reasons pathGiven drawsStamps verifiedWrite
 same-refusal R k now s = refl
 
 get-allowed : (R : ℕ) (k : NodeAddr) (now : ℕ) (s : State) → sound R s ≡ true → refusal R s (Asked (Get k now)) ≡ none
-unfolding refusal reasons firstGiven reason pathGiven drawsStamps verifiedWrite
-get-allowed R k now s h = rw h
+unfolding pathGiven drawsStamps verifiedWrite
+get-allowed R k now s h = refused-only-one R s (Get k now) h refl refl refl
 
 get-answer : (R : ℕ) (k : NodeAddr) (now : ℕ) (s : State) → sound R s ≡ true → step R s (Get k now) .answer ≡ PathFound (get k now s)
 unfolding serve performRequest perform gives

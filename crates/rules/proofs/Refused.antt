@@ -1,19 +1,20 @@
 -- Refusals: each number is given exactly if document 01 says so, and a refusal leaves the state.
 use Prim.Native.Nat.{ℕ, _≤_}
-use mathlib.Core.Path.{_≡_, refl, sym, _∙_, ap}
-use mathlib.Core.List.{[], _∷_}
+use mathlib.Core.Path.{_≡_, refl, sym, _∙_, ap, subst}
+use mathlib.Core.List.{List, [], _∷_}
 use mathlib.Core.Option.{Option, none, some}
-use mathlib.Core.Bool.{Bool, true, false, cond, _&&_, not}
+use mathlib.Core.Bool.{Bool, true, false, cond, _&&_, _||_, not, or-true}
+use lib.Dec.{eqb}
 use native.Mathlib.Omega.{arith}
-use borrow.Author.Tests.{not-false, not-true}
-use Rattle.rules.specs.Cases.{maybe}
+use borrow.Author.Tests.{eq-eqb, eqb-false, eqb-true, not-false, not-true}
+use Rattle.rules.specs.Cases.{Every, maybe}
 use Rattle.rules.specs.Records.{State}
 use Rattle.rules.specs.Sound.{sound}
 use Rattle.rules.specs.Calls.{Answer, Call, Clear, ClearPathMtu, Demote, Done, EntryRemoved, ExpiryGiven, Get, GetAndTouch, Hinted, Insert, InsertFunded, InsertStated, InsertVerified, InsertVerifiedWithPathMtu, InsertWithTtl, InvalidateOtherRoots, InvalidateViaNode, KeyHeld, NextExpiry, PathFound, PurgeExpired, Refused, Remove, RowsRemoved, Stats, StatsGiven, VerifiedDone, drawsStamps, pathGiven, verifiedWrite, wasRefused}
-use Rattle.rules.specs.Refusals.{Asked, Fresh, Request, Step, badPath, badSize, firstGiven, gives, hinted, noPlaceFor, perform, performRequest, reason, reasons, refusal, seqSpent, serve, step, sweeps, verifies}
+use Rattle.rules.specs.Refusals.{Asked, Fresh, Reason, Request, Step, badPath, badSize, firstGiven, gives, hinted, noPlaceFor, perform, performRequest, reason, reasons, refusal, seqSpent, serve, step, sweeps, verifies}
 use Rattle.rules.specs.Answers.{refusalOf}
 use Rattle.rules.proofs.Addresses.{contradiction}
-use Rattle.rules.proofs.RowLists.{by-maybe}
+use Rattle.rules.proofs.RowLists.{by-maybe, cond-some}
 
 -- ---- what holds of a call that is not refused
 
@@ -23,76 +24,109 @@ pub record Allowed (R : ℕ) (s : State) (q : Call) : Type 0 where
   pub stamps : drawsStamps q && seqSpent s ≡ false
   pub place : maybe (verifiedWrite q) false (noPlaceFor R s) ≡ false
 
--- the first of four reasons: its number, with those before it not given
-record First (a b c d : Bool) (o : Option ℕ) : Type 0 where
-  none-given : o ≡ none → (a ≡ false) × (b ≡ false) × (c ≡ false) × (d ≡ false)
-  one : (a ≡ true → o ≡ some 1) × (o ≡ some 1 → a ≡ true)
-  two : (a ≡ false → b ≡ true → o ≡ some 2) × (o ≡ some 2 → (a ≡ false) × (b ≡ true))
-  three : (a ≡ false → b ≡ false → c ≡ true → o ≡ some 3) × (o ≡ some 3 → (a ≡ false) × (b ≡ false) × (c ≡ true))
-  four : (a ≡ false → b ≡ false → c ≡ false → d ≡ true → o ≡ some 4) × (o ≡ some 4 → (a ≡ false) × (b ≡ false) × (c ≡ false) × (d ≡ true))
-  number : (n : ℕ) → o ≡ some n → (1 ≤ n) × (n ≤ 4)
+-- ---- the first of a list of reasons that holds
 
-no-number : {C : Type 0} {m n : ℕ} {o : Option ℕ} → o ≡ some m → o ≡ some n → (m ≡ n → ⊥) → C
-no-number {C} {m} {n} p q h = absurd (h (let e : m ≡ n = cc in e))
+abbrev pub Iff : Type 0 → Type 0 → Type 0
+Iff A B = (A → B) × (B → A)
+
+abbrev pub numbers : List Reason → List ℕ
+numbers [] = []
+numbers (r ∷ rs) = r .number ∷ numbers rs
+
+abbrev pub isOneOf : ℕ → List ℕ → Bool
+isOneOf n [] = false
+isOneOf n (m ∷ ms) = eqb m n || isOneOf n ms
+
+abbrev pub distinct : List ℕ → Bool
+distinct [] = true
+distinct (m ∷ ms) = not (isOneOf m ms) && distinct ms
+
+-- the reason of number n holds, and none before it does
+abbrev pub GivenFirst : ℕ → List Reason → Type 0
+GivenFirst n [] = ⊥
+GivenFirst n (r ∷ rs) = cond (eqb (r .number) n) (r .given ≡ true) ((r .given ≡ false) × GivenFirst n rs)
 
 some-none : {C : Type 0} {m : ℕ} {o : Option ℕ} → o ≡ some m → o ≡ none → C
 some-none p q = contradiction {b = true} refl (cc)
 
-tf : {C : Type 0} → true ≡ false → C
-tf e = contradiction {b = true} refl e
+-- a number that is given is one of the list's
+given-listed : (n : ℕ) (rs : List Reason) → firstGiven rs ≡ some n → isOneOf n (numbers rs) ≡ true
+unfolding firstGiven
+given-listed n [] e = some-none {o = none} e refl
+given-listed n (r ∷ rs) e = cond-some (r .given) e (λ g z. rw (eq-eqb (r .number) n z)) (λ g f. rw (given-listed n rs f, or-true))
 
-ft : {C : Type 0} → false ≡ true → C
-ft e = contradiction {b = false} e refl
+first-number : (n : ℕ) (rs : List Reason) → distinct (numbers rs) ≡ true → firstGiven rs ≡ some n → GivenFirst n rs
+unfolding firstGiven
+first-number n [] d e = some-none {o = none} e refl
+first-number n (r ∷ rs) d e = go (isOneOf (r .number) (numbers rs)) refl d (eqb (r .number) n) refl (r .given) refl e (first-number n rs)
+  where
+    go : (a : Bool) → isOneOf (r .number) (numbers rs) ≡ a → not a && distinct (numbers rs) ≡ true → (b : Bool) → eqb (r .number) n ≡ b → (g : Bool) → r .given ≡ g → cond g (some (r .number)) (firstGiven rs) ≡ some n
+        → (distinct (numbers rs) ≡ true → firstGiven rs ≡ some n → GivenFirst n rs) → cond b (r .given ≡ true) ((r .given ≡ false) × GivenFirst n rs)
+    go true o d b i g h f later = contradiction {b = false} d refl
+    go false o d true i true h f later = h
+    go false o d true i false h f later = contradiction (given-listed n rs f) (subst (λ (m : ℕ). isOneOf m (numbers rs) ≡ false) (eqb-true (r .number) n i) o)
+    go false o d false i true h f later = absurd (eqb-false (r .number) n i (cc))
+    go false o d false i false h f later = (h, later d f)
 
-first-of : (a b c d : Bool) → First a b c d (firstGiven (reason 1 a ∷ reason 2 b ∷ reason 3 c ∷ reason 4 d ∷ []))
-unfolding firstGiven reason
-first-of true b c d = record {
-  none-given = λ e. some-none {o = some 1} refl e;
-  one = ((λ p. refl), (λ e. refl));
-  two = ((λ p q. tf p), (λ e. no-number {o = some 1} refl e (λ z. let w : ⊥ = omega arith in w)));
-  three = ((λ p q r. tf p), (λ e. no-number {o = some 1} refl e (λ z. let w : ⊥ = omega arith in w)));
-  four = ((λ p q r t. tf p), (λ e. no-number {o = some 1} refl e (λ z. let w : ⊥ = omega arith in w)));
-  number = λ m e. let z : 1 ≡ m = cc in (omega arith, omega arith);
-}
-first-of false true c d = record {
-  none-given = λ e. some-none {o = some 2} refl e;
-  one = ((λ p. ft p), (λ e. no-number {o = some 2} refl e (λ z. let w : ⊥ = omega arith in w)));
-  two = ((λ p q. refl), (λ e. (refl, refl)));
-  three = ((λ p q r. tf q), (λ e. no-number {o = some 2} refl e (λ z. let w : ⊥ = omega arith in w)));
-  four = ((λ p q r t. tf q), (λ e. no-number {o = some 2} refl e (λ z. let w : ⊥ = omega arith in w)));
-  number = λ m e. let z : 2 ≡ m = cc in (omega arith, omega arith);
-}
-first-of false false true d = record {
-  none-given = λ e. some-none {o = some 3} refl e;
-  one = ((λ p. ft p), (λ e. no-number {o = some 3} refl e (λ z. let w : ⊥ = omega arith in w)));
-  two = ((λ p q. ft q), (λ e. no-number {o = some 3} refl e (λ z. let w : ⊥ = omega arith in w)));
-  three = ((λ p q r. refl), (λ e. (refl, refl, refl)));
-  four = ((λ p q r t. tf r), (λ e. no-number {o = some 3} refl e (λ z. let w : ⊥ = omega arith in w)));
-  number = λ m e. let z : 3 ≡ m = cc in (omega arith, omega arith);
-}
-first-of false false false true = record {
-  none-given = λ e. some-none {o = some 4} refl e;
-  one = ((λ p. ft p), (λ e. no-number {o = some 4} refl e (λ z. let w : ⊥ = omega arith in w)));
-  two = ((λ p q. ft q), (λ e. no-number {o = some 4} refl e (λ z. let w : ⊥ = omega arith in w)));
-  three = ((λ p q r. ft r), (λ e. no-number {o = some 4} refl e (λ z. let w : ⊥ = omega arith in w)));
-  four = ((λ p q r t. refl), (λ e. (refl, refl, refl, refl)));
-  number = λ m e. let z : 4 ≡ m = cc in (omega arith, omega arith);
-}
-first-of false false false false = record {
-  none-given = λ e. (refl, refl, refl, refl);
-  one = ((λ p. ft p), (λ e. some-none {o = none} e refl));
-  two = ((λ p q. ft q), (λ e. some-none {o = none} e refl));
-  three = ((λ p q r. ft r), (λ e. some-none {o = none} e refl));
-  four = ((λ p q r t. ft t), (λ e. some-none {o = none} e refl));
-  number = λ m e. some-none {o = none} e refl;
-}
+number-first : (n : ℕ) (rs : List Reason) → GivenFirst n rs → firstGiven rs ≡ some n
+unfolding firstGiven
+number-first n [] x = absurd x
+number-first n (r ∷ rs) x = go (eqb (r .number) n) refl x (number-first n rs)
+  where
+    go : (b : Bool) → eqb (r .number) n ≡ b → cond b (r .given ≡ true) ((r .given ≡ false) × GivenFirst n rs) → (GivenFirst n rs → firstGiven rs ≡ some n) → cond (r .given) (some (r .number)) (firstGiven rs) ≡ some n
+    go true i h later = rw h (ap some (eqb-true (r .number) n i))
+    go false i h later = rw (h .0) (later (h .1))
 
-refusal-first : (R : ℕ) (s : State) (q : Call) → First (not (sound R s)) (maybe (pathGiven q) false badPath) (drawsStamps q && seqSpent s) (maybe (verifiedWrite q) false (noPlaceFor R s)) (refusal R s (Asked q))
-unfolding refusal reasons
-refusal-first R s q = first-of (not (sound R s)) (maybe (pathGiven q) false badPath) (drawsStamps q && seqSpent s) (maybe (verifiedWrite q) false (noPlaceFor R s))
+-- NUMBER n IS GIVEN EXACTLY IF THE REASON OF THAT NUMBER HOLDS AND NONE BEFORE IT DOES
+pub given-first : (n : ℕ) (rs : List Reason) → distinct (numbers rs) ≡ true → Iff (firstGiven rs ≡ some n) (GivenFirst n rs)
+given-first n rs d = (first-number n rs d, number-first n rs)
+
+-- NONE IS GIVEN EXACTLY IF NO REASON HOLDS
+pub none-given : (rs : List Reason) → Iff (firstGiven rs ≡ none) (Every (λ r. r .given ≡ false) rs)
+unfolding firstGiven
+none-given [] = (λ e. tt, λ h. refl)
+none-given (r ∷ rs) = (λ e. go (r .given) refl e (none-given rs .0), λ h. rw (h .0) (none-given rs .1 (h .1)))
+  where
+    go : (g : Bool) → r .given ≡ g → cond g (some (r .number)) (firstGiven rs) ≡ none → (firstGiven rs ≡ none → Every (λ x. x .given ≡ false) rs) → (r .given ≡ false) × Every (λ x. x .given ≡ false) rs
+    go true h e later = some-none {o = some (r .number)} refl e
+    go false h e later = (h, later e)
+
+-- ---- the table's reasons
+
+table-distinct : (R : ℕ) (s : State) (x : Request) → distinct (numbers (reasons R s x)) ≡ true
+unfolding reasons reason
+table-distinct R s (Fresh m ttl) = refl
+table-distinct R s (Asked q) = refl
+
+table-given : (R : ℕ) (s : State) (x : Request) (n : ℕ) → Iff (refusal R s x ≡ some n) (GivenFirst n (reasons R s x))
+unfolding refusal
+table-given R s x n = given-first n (reasons R s x) (table-distinct R s x)
+
+table-number : (R : ℕ) (s : State) (x : Request) (n : ℕ) → refusal R s x ≡ some n → isOneOf n (numbers (reasons R s x)) ≡ true
+unfolding refusal
+table-number R s x n = given-listed n (reasons R s x)
+
+table-none : (R : ℕ) (s : State) (x : Request) → Iff (refusal R s x ≡ none) (Every (λ r. r .given ≡ false) (reasons R s x))
+unfolding refusal
+table-none R s x = none-given (reasons R s x)
+
+table-without-six : (R : ℕ) (s : State) (x : Request) → isOneOf 6 (numbers (reasons R s x)) ≡ false
+unfolding reasons reason
+table-without-six R s (Fresh m ttl) = refl
+table-without-six R s (Asked q) = refl
+
+-- 6 is the command stream's alone
+pub not-six : (R : ℕ) (s : State) (x : Request) (n : ℕ) → refusal R s x ≡ some n → n ≡ 6 → ⊥
+not-six R s x n e z = contradiction (subst (λ (m : ℕ). isOneOf m (numbers (reasons R s x)) ≡ true) z (table-number R s x n e)) (table-without-six R s x)
 
 pub allowed : (R : ℕ) (s : State) (q : Call) → refusal R s (Asked q) ≡ none → Allowed R s q
-allowed R s q e = let f = refusal-first R s q .none-given e in record { sound = not-false (sound R s) (f .0); path = f .1; stamps = f .2; place = f .3 }
+unfolding reasons reason
+allowed R s q e =
+    let unsound = table-none R s (Asked q) .0 e in
+    let path = unsound .1 in
+    let stamps = path .1 in
+    let place = stamps .1 in
+    record { sound = not-false (sound R s) (unsound .0); path = path .0; stamps = stamps .0; place = place .0 }
 
 -- ---- a request is refused, or done
 
@@ -172,8 +206,9 @@ refusal-number R s x = go (refusal R s x)
 
 -- ---- each number is given exactly if
 
-abbrev pub Iff : Type 0 → Type 0 → Type 0
-Iff A B = (A → B) × (B → A)
+-- THE TABLE, of any request
+pub refused-exactly : (R : ℕ) (s : State) (x : Request) (n : ℕ) → Iff (serve R s x .answer ≡ Refused n) (GivenFirst n (reasons R s x))
+refused-exactly R s x n = (λ e. table-given R s x n .0 (refused-by R s x n e), λ g. gives-number R s x n (table-given R s x n .1 g))
 
 -- a call on any state, in the order 1, 2, 3, 4
 pub record GivenExactly (R : ℕ) (s : State) (q : Call) (m : Answer) : Type 0 where
@@ -181,19 +216,18 @@ pub record GivenExactly (R : ℕ) (s : State) (q : Call) (m : Answer) : Type 0 w
   pub two : Iff (m ≡ Refused 2) ((sound R s ≡ true) × (maybe (pathGiven q) false badPath ≡ true))
   pub three : Iff (m ≡ Refused 3) ((sound R s ≡ true) × (maybe (pathGiven q) false badPath ≡ false) × (drawsStamps q && seqSpent s ≡ true))
   pub four : Iff (m ≡ Refused 4) ((sound R s ≡ true) × (maybe (pathGiven q) false badPath ≡ false) × (drawsStamps q && seqSpent s ≡ false) × (maybe (verifiedWrite q) false (noPlaceFor R s) ≡ true))
-  pub no-other : (n : ℕ) → m ≡ Refused n → (1 ≤ n) × (n ≤ 4)
+  pub no-other : (n : ℕ) → m ≡ Refused n → isOneOf n (numbers (reasons R s (Asked q))) ≡ true
 
 pub given-exactly : (R : ℕ) (s : State) (q : Call) → GivenExactly R s q (step R s q .answer)
+unfolding reasons reason
 given-exactly R s q =
-    let f = refusal-first R s q in
-    let by = refused-by R s (Asked q) in
-    let is = gives-number R s (Asked q) in
+    let is = refused-exactly R s (Asked q) in
     record {
-      one = (λ e. not-true (sound R s) (f .one .1 (by 1 e)), λ e. is 1 (f .one .0 (rw e)));
-      two = (λ e. let g = f .two .1 (by 2 e) in (not-false (sound R s) (g .0), g .1), λ g. is 2 (f .two .0 (ap not (g .0)) (g .1)));
-      three = (λ e. let g = f .three .1 (by 3 e) in (not-false (sound R s) (g .0), g .1, g .2), λ g. is 3 (f .three .0 (ap not (g .0)) (g .1) (g .2)));
-      four = (λ e. let g = f .four .1 (by 4 e) in (not-false (sound R s) (g .0), g .1, g .2, g .3), λ g. is 4 (f .four .0 (ap not (g .0)) (g .1) (g .2) (g .3)));
-      no-other = λ n e. f .number n (by n e);
+      one = (λ e. not-true (sound R s) (is 1 .0 e), λ g. is 1 .1 (ap not g));
+      two = (λ e. let g = is 2 .0 e in (not-false (sound R s) (g .0), g .1), λ g. is 2 .1 (ap not (g .0), g .1));
+      three = (λ e. let g = is 3 .0 e in (not-false (sound R s) (g .0), g .1 .0, g .1 .1), λ g. is 3 .1 (ap not (g .0), (g .1, g .2)));
+      four = (λ e. let g = is 4 .0 e in (not-false (sound R s) (g .0), g .1 .0, g .1 .1 .0, g .1 .1 .1), λ g. is 4 .1 (ap not (g .0), (g .1, (g .2, g .3))));
+      no-other = λ n e. table-number R s (Asked q) n (refused-by R s (Asked q) n e);
     }
 
 -- fresh, on any state
@@ -201,54 +235,52 @@ pub fresh-refusal : (R m ttl : ℕ) (s : State) → refusal R s (Fresh m ttl) �
 unfolding refusal reasons firstGiven reason
 fresh-refusal R m ttl s = refl
 
-fresh-number : (b : Bool) (n : ℕ) → cond {A = Option ℕ} b (some 5) none ≡ some n → (b ≡ true) × (n ≡ 5)
-fresh-number true n h = (refl, cc)
-fresh-number false n h = some-none {o = none} h refl
-
 -- fresh is refused by 5 exactly if the size is bad, and by no other number
 pub record FiveExactly (R m : ℕ) (a : Answer) : Type 0 where
   pub five : Iff (a ≡ Refused 5) (badSize R m ≡ true)
   pub no-other : (n : ℕ) → a ≡ Refused n → n ≡ 5
 
 pub five-exactly : (R m ttl : ℕ) (s : State) → FiveExactly R m (serve R s (Fresh m ttl) .answer)
+unfolding reasons reason
 five-exactly R m ttl s =
-    let by : (n : ℕ) → serve R s (Fresh m ttl) .answer ≡ Refused n → (badSize R m ≡ true) × (n ≡ 5) = λ n e. fresh-number (badSize R m) n (sym (fresh-refusal R m ttl s) ∙ refused-by R s (Fresh m ttl) n e) in
-    record { five = (λ e. by 5 e .0, λ e. gives-number R s (Fresh m ttl) 5 (fresh-refusal R m ttl s ∙ rw e)); no-other = λ n e. by n e .1 }
-
--- a request is refused by 1 to 5 alone
-pub refused-one-to-five : (R : ℕ) (s : State) (x : Request) (n : ℕ) → refusal R s x ≡ some n → (1 ≤ n) × (n ≤ 5)
-refused-one-to-five R s (Fresh m ttl) n e = let z = fresh-number (badSize R m) n (sym (fresh-refusal R m ttl s) ∙ e) .1 in (omega arith, omega arith)
-refused-one-to-five R s (Asked q) n e = let z = refusal-first R s q .number n e in (z .0, omega (arith, z .1))
+    record {
+      five = refused-exactly R s (Fresh m ttl) 5;
+      no-other = λ n e. go n (eqb 5 n) refl (table-number R s (Fresh m ttl) n (refused-by R s (Fresh m ttl) n e));
+    }
+  where
+    go : (n : ℕ) (b : Bool) → eqb 5 n ≡ b → b || false ≡ true → n ≡ 5
+    go n true i h = sym (eqb-true 5 n i)
+    go n false i h = contradiction {b = false} h refl
 
 pub fresh-allowed : (R m ttl : ℕ) (s : State) → refusal R s (Fresh m ttl) ≡ none → badSize R m ≡ false
-fresh-allowed R m ttl s e = go (badSize R m) (sym (fresh-refusal R m ttl s) ∙ e)
-  where
-    go : (b : Bool) → cond {A = Option ℕ} b (some 5) none ≡ none → b ≡ false
-    go true h = some-none {o = some 5} refl h
-    go false h = refl
+unfolding reasons reason
+fresh-allowed R m ttl s e = table-none R s (Fresh m ttl) .0 e .0
 
 -- ---- the table's answer, as a call finds it: each number where none before it is given, and none
 
 pub refused-one : (R : ℕ) (s : State) (q : Call) → sound R s ≡ false → refusal R s (Asked q) ≡ some 1
-unfolding refusal reasons firstGiven reason
-refused-one R s q h = rw h
+unfolding reasons reason
+refused-one R s q h = table-given R s (Asked q) 1 .1 (ap not h)
 
 pub refused-two : (R : ℕ) (s : State) (q : Call) → sound R s ≡ true → maybe (pathGiven q) false badPath ≡ true → refusal R s (Asked q) ≡ some 2
-refused-two R s q h p = refusal-first R s q .two .0 (ap not h) p
+unfolding reasons reason
+refused-two R s q h p = table-given R s (Asked q) 2 .1 (ap not h, p)
 
 pub refused-three : (R : ℕ) (s : State) (q : Call) → sound R s ≡ true → maybe (pathGiven q) false badPath ≡ false → drawsStamps q ≡ true → seqSpent s ≡ true → refusal R s (Asked q) ≡ some 3
-refused-three R s q h p d w = refusal-first R s q .three .0 (ap not h) p (rw (d, w))
+unfolding reasons reason
+refused-three R s q h p d w = table-given R s (Asked q) 3 .1 (ap not h, (p, rw (d, w)))
 
 unspent : (b : Bool) {c : Bool} → c ≡ false → b && c ≡ false
 unspent true h = h
 unspent false h = refl
 
 pub refused-four : (R : ℕ) (s : State) (q : Call) → sound R s ≡ true → maybe (pathGiven q) false badPath ≡ false → seqSpent s ≡ false → maybe (verifiedWrite q) false (noPlaceFor R s) ≡ true → refusal R s (Asked q) ≡ some 4
-refused-four R s q h p w v = refusal-first R s q .four .0 (ap not h) p (unspent (drawsStamps q) w) v
+unfolding reasons reason
+refused-four R s q h p w v = table-given R s (Asked q) 4 .1 (ap not h, (p, (unspent (drawsStamps q) w, v)))
 
 pub refused-by-none : (R : ℕ) (s : State) (q : Call) → Allowed R s q → refusal R s (Asked q) ≡ none
-unfolding refusal reasons firstGiven reason
-refused-by-none R s q a = rw (a .sound, a .path, a .stamps, a .place)
+unfolding reasons reason
+refused-by-none R s q a = table-none R s (Asked q) .1 (ap not (a .sound), (a .path, (a .stamps, (a .place, tt))))
 
 -- a call that takes a path and draws stamps
 pub write-allowed : (R : ℕ) (s : State) (q : Call) → sound R s ≡ true → maybe (pathGiven q) false badPath ≡ false → seqSpent s ≡ false → maybe (verifiedWrite q) false (noPlaceFor R s) ≡ false → refusal R s (Asked q) ≡ none
@@ -257,3 +289,20 @@ write-allowed R s q h p w v = refused-by-none R s q (record { sound = h; path = 
 -- a call that takes no path and draws no stamps is refused by 1 alone
 pub refused-only-one : (R : ℕ) (s : State) (q : Call) → sound R s ≡ true → pathGiven q ≡ none → verifiedWrite q ≡ none → drawsStamps q && seqSpent s ≡ false → refusal R s (Asked q) ≡ none
 refused-only-one R s q h p v d = refused-by-none R s q (record { sound = h; path = rw p; stamps = d; place = rw v })
+
+-- a request is refused by 1 to 5 alone
+one-to-five : (R : ℕ) (s : State) (x : Request) → Every (λ m. (1 ≤ m) × (m ≤ 5)) (numbers (reasons R s x))
+unfolding reasons reason
+one-to-five R s (Fresh m ttl) = ((omega arith, omega arith), tt)
+one-to-five R s (Asked q) = ((omega arith, omega arith), ((omega arith, omega arith), ((omega arith, omega arith), ((omega arith, omega arith), tt))))
+
+listed-bounded : (n : ℕ) (ms : List ℕ) → Every (λ m. (1 ≤ m) × (m ≤ 5)) ms → isOneOf n ms ≡ true → (1 ≤ n) × (n ≤ 5)
+listed-bounded n [] h f = contradiction {b = false} f refl
+listed-bounded n (m ∷ ms) h f = go (eqb m n) refl f (listed-bounded n ms (h .1))
+  where
+    go : (b : Bool) → eqb m n ≡ b → b || isOneOf n ms ≡ true → (isOneOf n ms ≡ true → (1 ≤ n) × (n ≤ 5)) → (1 ≤ n) × (n ≤ 5)
+    go true i g later = let z = eqb-true m n i in let w = h .0 in (omega arith, omega arith)
+    go false i g later = later g
+
+pub refused-one-to-five : (R : ℕ) (s : State) (x : Request) (n : ℕ) → refusal R s x ≡ some n → (1 ≤ n) × (n ≤ 5)
+refused-one-to-five R s x n e = listed-bounded n (numbers (reasons R s x)) (one-to-five R s x) (table-number R s x n e)
