@@ -13,10 +13,10 @@ use Rattle.types.specs.declared.placed.HintOutcome.the-variants.{Changed, Rejec
 use Rattle.types.specs.declared.placed.Segment.the-variants.{Main, Probation}
 use Rattle.types.specs.Values.{refuses, says}
 use Rattle.rules.specs.Cases.{maybe}
-use Rattle.rules.specs.Calls.{Clear, ClearPathMtu, Demote, Done, EntryRemoved, ExpiryGiven, Get, GetAndTouch, Insert, InsertFunded, InsertStated, InsertVerified, InsertVerifiedWithPathMtu, InsertWithTtl, InvalidateOtherRoots, InvalidateViaNode, KeyHeld, NextExpiry, PathFound, PurgeExpired, Refused, Remove, RowsRemoved, Stats, StatsGiven}
+use Rattle.rules.specs.Calls.{Clear, ClearPathMtu, Demote, Done, EntryRemoved, ExpiryGiven, Get, GetAndTouch, InvalidateOtherRoots, InvalidateViaNode, KeyHeld, NextExpiry, PathFound, PurgeExpired, Refused, Remove, RowsRemoved, Stats, StatsGiven}
 use Rattle.rules.specs.Refusals.{Asked, Fresh, Request, fresh}
 use Rattle.rules.specs.Commands.{Command, Element, Plain, WithPath, codeOf, codes, decimal, decode, line, lineText, reply, runCommands, tallyAfter}
-use Rattle.rules.proofs.Compute.{done, elementsFrom, hint, linesOf, path}
+use Rattle.rules.proofs.Compute.{done, elementsFrom, hint, insert, insertFunded, insertStated, insertVerified, insertVerifiedWithPathMtu, insertWithTtl, linesOf, path}
 
 -- ---- operands of every code
 
@@ -45,31 +45,31 @@ operands-00 : asks 0x00 (counted 10 1) ≡ some (Fresh 513 723118041428460547)
 unfolding asks requestIn counted K linesOf
 operands-00 = refl
 
-operands-10 : asks 0x10 (counted 24 1) ≡ some (Asked (Insert K (path 1) T))
+operands-10 : asks 0x10 (counted 24 1) ≡ some (Asked (insert K (path 1) T))
 unfolding asks requestIn counted K linesOf
 operands-10 = refl
 
-operands-11 : asks 0x11 (counted 32 1) ≡ some (Asked (InsertWithTtl K (path 1) T 2314601843866147353))
+operands-11 : asks 0x11 (counted 32 1) ≡ some (Asked (insertWithTtl K (path 1) T 2314601843866147353))
 unfolding asks requestIn counted K linesOf
 operands-11 = refl
 
-operands-12 : asks 0x12 (counted 24 1 ++ (1 ∷ counted 8 26)) ≡ some (Asked (InsertFunded K (path 1) T (Upto 2386942016704224026)))
+operands-12 : asks 0x12 (counted 24 1 ++ (1 ∷ counted 8 26)) ≡ some (Asked (insertFunded K (path 1) T (Upto 2386942016704224026)))
 unfolding asks requestIn counted K linesOf
 operands-12 = refl
 
-operands-12-uncharged : asks 0x12 (counted 24 1 ++ (0 ∷ counted 8 26)) ≡ some (Asked (InsertFunded K (path 1) T Uncharged))
+operands-12-uncharged : asks 0x12 (counted 24 1 ++ (0 ∷ counted 8 26)) ≡ some (Asked (insertFunded K (path 1) T Uncharged))
 unfolding asks requestIn counted K linesOf
 operands-12-uncharged = refl
 
-operands-13 : asks 0x13 (counted 24 1 ++ (1 ∷ counted 8 26)) ≡ some (Asked (InsertStated K (path 1) T (Upto 2386942016704224026)))
+operands-13 : asks 0x13 (counted 24 1 ++ (1 ∷ counted 8 26)) ≡ some (Asked (insertStated K (path 1) T (Upto 2386942016704224026)))
 unfolding asks requestIn counted K linesOf
 operands-13 = refl
 
-operands-14 : asks 0x14 (counted 24 1) ≡ some (Asked (InsertVerified K (path 1) T))
+operands-14 : asks 0x14 (counted 24 1) ≡ some (Asked (insertVerified K (path 1) T))
 unfolding asks requestIn counted K linesOf
 operands-14 = refl
 
-operands-15 : asks 0x15 (counted 26 1) ≡ some (Asked (InsertVerifiedWithPathMtu K (path 1) T 6681))
+operands-15 : asks 0x15 (counted 26 1) ≡ some (Asked (insertVerifiedWithPathMtu K (path 1) T 6681))
 unfolding asks requestIn counted K linesOf
 operands-15 = refl
 

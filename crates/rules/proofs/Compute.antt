@@ -1,4 +1,4 @@
--- What closed examples are made of: addresses and paths, lists of calls on a fresh state, commands on coordrun's state.
+-- What closed examples are made of: addresses and paths, the six inserts, lists of calls on a fresh state, commands on coordrun's state.
 -- Every definition that a call may need is unfolded here, once.
 use Prim.Native.Nat.{ℕ, zero, suc}
 use mathlib.Core.List.{List, [], _∷_, _++_, map}
@@ -10,6 +10,7 @@ use Rattle.types.specs.declared.coord.Path.{Path}
 use Rattle.types.specs.declared.node_addr.NodeAddr.{NodeAddr}
 use Rattle.types.specs.Addresses.{addrBefore, bytesBefore, sameAddr, sameBytes}
 use Rattle.types.specs.Paths.{among, appended, asWritten, contains, elements, emptyPath, firstIs, lastAddr, pathWeight, rootOf, sameEntries, sameEntry, samePath, startsAt, zeroEntry, pathPlaces}
+use Rattle.types.specs.declared.placed.Funding.{Funding}
 use Rattle.types.specs.declared.placed.HintOutcome.{HintOutcome}
 use Rattle.types.specs.declared.placed.Segment.{Segment}
 use Rattle.types.specs.Values.{bit, covers, outcomeCode, placedReply, refuses, says, segmentCode, sourceOf, statsReply, tallied, verifiedReply}
@@ -18,10 +19,11 @@ use Rattle.rules.specs.Rows.{atPlace, changeRow, find, inMain, insertInO
 use Rattle.rules.specs.Sound.{all, ascends, leads, legal, rowSound, sound, sourced, weighed}
 use Rattle.rules.specs.Entries.{addTimes, dropMtu, expired, markHint, markVerified, newEntry, refresh, setMtu, update, verified}
 use Rattle.rules.specs.Room.{atNewPlace, chooseVictims, evictProbation, fileNew, hasRoom, mainVisits, makeProbationRoom, makeRoom, nextVictim, park, parkedAt, probationVisits, putBack, raised, refile, refiled, restamp, returnLapsed, roomCanBeMade, seek, setAside, settled, sought, stale, stamp, takeOut, takeUp, untouched, verifiedInMain}
-use Rattle.rules.specs.Placement.{grow, heldOutcome, insertVerified, newInProbation, newWithoutRoom, placeHeld, placeHint, placeMain, placeNew, placeProbation, placeResult, promote, rejected, staysVerified, verifiedEntry, withoutKey}
+use Rattle.rules.specs.Placement
+use Rattle.rules.specs.Placement.{grow, heldOutcome, newInProbation, newWithoutRoom, placeHeld, placeHint, placeMain, placeNew, placeProbation, placeResult, promote, rejected, staysVerified, verifiedEntry, withoutKey}
 use Rattle.rules.specs.Lookups.{clearPathMtu, demoted, get, holds, matching, removedEntry, rewrite, sweep, touched, unexpiredRow, withEntry}
 use Rattle.rules.specs.Statistics.{mean, nextExpiry, stats, totalAge}
-use Rattle.rules.specs.Calls.{Answer, Call, Hinted, PathFound, VerifiedDone, chargeOf, drawsStamps, examinedOf, fundingOf, keyNamed, pathGiven, sweepMatches, timeGiven, verifiedWrite, wasRefused}
+use Rattle.rules.specs.Calls.{Answer, Call, Hinted, Insert, InsertFunded, InsertStated, InsertVerified, InsertVerifiedWithPathMtu, InsertWithTtl, PathFound, VerifiedDone, chargeOf, drawsStamps, examinedOf, fundingOf, keyNamed, pathGiven, sweepMatches, timeGiven, verifiedWrite, wasRefused}
 use Rattle.rules.specs.Refusals.{badPath, badSize, firstGiven, fresh, gives, hinted, keyInMain, noPlaceFor, perform, performRequest, reason, reasons, refusal, seqSpent, serve, sweeps, verifies}
 use Rattle.rules.specs.Lists.{run}
 use Rattle.rules.specs.Memory.{coordEntryOf, leNumber}
@@ -69,6 +71,26 @@ found n = PathFound (some (elementsFrom 90 n))
 abbrev pub missing : Answer
 missing = PathFound none
 
+-- ---- the six inserts
+
+abbrev pub insert : NodeAddr → Path → ℕ → Call
+insert k p t = Insert k p t
+
+abbrev pub insertWithTtl : NodeAddr → Path → ℕ → ℕ → Call
+insertWithTtl k p t l = InsertWithTtl k p t l
+
+abbrev pub insertFunded : NodeAddr → Path → ℕ → Funding → Call
+insertFunded k p t f = InsertFunded k p t f
+
+abbrev pub insertStated : NodeAddr → Path → ℕ → Funding → Call
+insertStated k p t f = InsertStated k p t f
+
+abbrev pub insertVerified : NodeAddr → Path → ℕ → Call
+insertVerified k p t = InsertVerified k p t
+
+abbrev pub insertVerifiedWithPathMtu : NodeAddr → Path → ℕ → ℕ → Call
+insertVerifiedWithPathMtu k p t m = InsertVerifiedWithPathMtu k p t m
+
 -- ---- what is seen
 
 -- a row in numbers: key, length, created_at, last_used, expires_at, MTU mark and value, source, verified_until, place, stamp, weight
@@ -87,7 +109,7 @@ pub record Seen : Type 0 where
   pub storedWeight : ℕ
 
 unfoldable pub seenFrom : ℕ → State → List Call → Seen
-unfolding addr elementsFrom pathFrom path rowNumbers sameBytes bytesBefore sameAddr addrBefore zeroEntry elements asWritten sameEntry sameEntries samePath among contains lastAddr rootOf firstIs startsAt pathWeight covers sourceOf entryValue atPlace inMain stampBefore nextIndex find lowerOf lowestStamp changeRow withoutRow keepRows insertInOrder total withRows withOnlyRows leads ascends all legal weighed sourced rowSound sound addTimes expired verified update newEntry refresh markVerified markHint setMtu dropMtu refiled parkedAt raised stamp refile restamp park fileNew takeOut takeUp untouched stale mainVisits returnLapsed sought seek nextVictim hasRoom atNewPlace setAside chooseVictims putBack settled makeRoom verifiedInMain roomCanBeMade probationVisits evictProbation makeProbationRoom placeResult rejected newInProbation newWithoutRoom placeNew heldOutcome staysVerified placeProbation promote placeMain grow placeHeld placeHint withoutKey verifiedEntry insertVerified unexpiredRow get withEntry rewrite touched removedEntry demoted holds clearPathMtu sweep matching totalAge mean stats nextExpiry keyNamed pathGiven timeGiven fundingOf drawsStamps verifiedWrite sweepMatches wasRefused chargeOf examinedOf badSize badPath seqSpent keyInMain noPlaceFor reason reasons firstGiven refusal gives hinted verifies sweeps perform fresh performRequest serve run
+unfolding addr elementsFrom pathFrom path rowNumbers sameBytes bytesBefore sameAddr addrBefore zeroEntry elements asWritten sameEntry sameEntries samePath among contains lastAddr rootOf firstIs startsAt pathWeight covers sourceOf entryValue atPlace inMain stampBefore nextIndex find lowerOf lowestStamp changeRow withoutRow keepRows insertInOrder total withRows withOnlyRows leads ascends all legal weighed sourced rowSound sound addTimes expired verified update newEntry refresh markVerified markHint setMtu dropMtu refiled parkedAt raised stamp refile restamp park fileNew takeOut takeUp untouched stale mainVisits returnLapsed sought seek nextVictim hasRoom atNewPlace setAside chooseVictims putBack settled makeRoom verifiedInMain roomCanBeMade probationVisits evictProbation makeProbationRoom placeResult rejected newInProbation newWithoutRoom placeNew heldOutcome staysVerified placeProbation promote placeMain grow placeHeld placeHint withoutKey verifiedEntry Placement.insertVerified unexpiredRow get withEntry rewrite touched removedEntry demoted holds clearPathMtu sweep matching totalAge mean stats nextExpiry keyNamed pathGiven timeGiven fundingOf drawsStamps verifiedWrite sweepMatches wasRefused chargeOf examinedOf badSize badPath seqSpent keyInMain noPlaceFor reason reasons firstGiven refusal gives hinted verifies sweeps perform fresh performRequest serve run
 seenFrom R s qs = let r = run R s qs in record { answers = map (λ e. e .answer) (r .events); rows = map rowNumbers (r .state .rows); seq = r .state .seq; storedWeight = r .state .storedWeight }
 
 -- on a fresh state of R rows, with these limits

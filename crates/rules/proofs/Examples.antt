@@ -15,11 +15,11 @@ use Rattle.types.specs.declared.placed.Segment.the-variants.{Main}
 use Rattle.types.specs.Values.{mtuMarkOf, sourceCode}
 use Rattle.rules.specs.Records.{Row, State, hintSource, noMtu, someMtu, verifiedSource, maxRows}
 use Rattle.rules.specs.Rows.{inMain, weighRows, zeroRows}
-use Rattle.rules.specs.Calls.{Answer, Call, Clear, ClearPathMtu, Demote, Done, Get, GetAndTouch, Insert, InsertFunded, InsertStated, InsertVerified, InsertVerifiedWithPathMtu, InsertWithTtl, InvalidateOtherRoots, InvalidateViaNode, NextExpiry, PathFound, PurgeExpired, Refused, Remove, RowsRemoved, Stats}
+use Rattle.rules.specs.Calls.{Answer, Call, Clear, ClearPathMtu, Demote, Done, Get, GetAndTouch, InvalidateOtherRoots, InvalidateViaNode, NextExpiry, PathFound, PurgeExpired, Refused, Remove, RowsRemoved, Stats}
 use Rattle.rules.specs.Refusals.{Asked, Fresh, fresh, refusal, serve, step}
 use Rattle.rules.specs.Lists.{run}
 use Rattle.rules.specs.Memory.{coordEntriesBytes, entryBytes, leBytes, memory, rowBytes, rowsBytes}
-use Rattle.rules.proofs.Compute.{A, B, C, addr, answersOf, done, elementsFrom, hint, path, seenFrom}
+use Rattle.rules.proofs.Compute.{A, B, C, addr, answersOf, done, elementsFrom, hint, insert, insertFunded, insertStated, insertVerified, insertVerifiedWithPathMtu, insertWithTtl, path, seenFrom}
 
 -- ---- foreign states
 
@@ -43,7 +43,7 @@ keysOn s qs = map (λ xs. firstOf xs) (seenFrom 24 s qs .rows)
     firstOf (x ∷ xs) = x
 
 -- equal stamps go to the lower key
-equal-stamps-lower-key : keysOn (holding 2 5 (rowOn 1 3 5 ∷ rowOn 2 3 5 ∷ [])) (InsertFunded C (path 1) 4 (Upto 16) ∷ []) ≡ 2 ∷ 3 ∷ []
+equal-stamps-lower-key : keysOn (holding 2 5 (rowOn 1 3 5 ∷ rowOn 2 3 5 ∷ [])) (insertFunded C (path 1) 4 (Upto 16) ∷ []) ≡ 2 ∷ 3 ∷ []
 unfolding rowOn holding keysOn
 equal-stamps-lower-key = refl
 
@@ -69,21 +69,21 @@ too-few-rows = refl
 -- ---- number 3, and the order of numbers
 
 -- at the limit a hint is done; past it hints, verified inserts and demote are refused, a touch and a sweep are not
-seq-at-the-limit : answersOn (holding 2 18446744073709547519 []) (InsertFunded A (path 1) 0 (Upto 16) ∷ InsertFunded B (path 1) 0 (Upto 16) ∷ []) ≡ hint Inserted 16 Main false 0 ∷ Refused 3 ∷ []
+seq-at-the-limit : answersOn (holding 2 18446744073709547519 []) (insertFunded A (path 1) 0 (Upto 16) ∷ insertFunded B (path 1) 0 (Upto 16) ∷ []) ≡ hint Inserted 16 Main false 0 ∷ Refused 3 ∷ []
 unfolding holding seenFrom
 seq-at-the-limit = refl
 
-seq-spent : answersOn (holding 2 18446744073709551615 (rowOn 1 1 1 ∷ [])) (Insert B (path 1) 0 ∷ InsertVerified B (path 1) 0 ∷ Demote B ∷ GetAndTouch A 5 ∷ PurgeExpired 0 ∷ []) ≡ Refused 3 ∷ Refused 3 ∷ Refused 3 ∷ PathFound (some (elementsFrom 90 1)) ∷ RowsRemoved 0 ∷ []
+seq-spent : answersOn (holding 2 18446744073709551615 (rowOn 1 1 1 ∷ [])) (insert B (path 1) 0 ∷ insertVerified B (path 1) 0 ∷ Demote B ∷ GetAndTouch A 5 ∷ PurgeExpired 0 ∷ []) ≡ Refused 3 ∷ Refused 3 ∷ Refused 3 ∷ PathFound (some (elementsFrom 90 1)) ∷ RowsRemoved 0 ∷ []
 unfolding rowOn holding seenFrom
 seq-spent = refl
 
 -- 2 before 3
-bad-path-before-spent : answersOn (holding 2 18446744073709551615 []) (Insert A (path 0) 0 ∷ InsertVerified A (path 33) 0 ∷ []) ≡ Refused 2 ∷ Refused 2 ∷ []
+bad-path-before-spent : answersOn (holding 2 18446744073709551615 []) (insert A (path 0) 0 ∷ insertVerified A (path 33) 0 ∷ []) ≡ Refused 2 ∷ Refused 2 ∷ []
 unfolding holding seenFrom
 bad-path-before-spent = refl
 
 -- 1 before 2 and 3
-unsound-before-all : answersOn (holding 2 18446744073709551615 (rowOn 2 1 1 ∷ rowOn 1 2 2 ∷ [])) (Insert A (path 0) 0 ∷ []) ≡ Refused 1 ∷ []
+unsound-before-all : answersOn (holding 2 18446744073709551615 (rowOn 2 1 1 ∷ rowOn 1 2 2 ∷ [])) (insert A (path 0) 0 ∷ []) ≡ Refused 1 ∷ []
 unfolding rowOn holding seenFrom
 unsound-before-all = refl
 
@@ -92,12 +92,12 @@ fullAt : ℕ → State
 fullAt q = record { maxEntries = 1; defaultTtl = 300000; seq = q; storedWeight = 16; rowCount = 1; rows = record { key = A; entry = record { path = path 1; createdAt = 0; lastUsed = 0; expiresAt = 300000; mtuMark = 0; mtu = 0; source = 0; verifiedUntil = 300000 }; place = 0; stampFirst = 0; stampSeq = 0; weight = 16 } ∷ []; rest = [] }
 
 -- 3 before 4
-spent-before-no-place : map (λ q. refusal 2 (fullAt q) (Asked (InsertVerified B (path 1) 0))) (0 ∷ 18446744073709551615 ∷ []) ≡ some 4 ∷ some 3 ∷ []
+spent-before-no-place : map (λ q. refusal 2 (fullAt q) (Asked (insertVerified B (path 1) 0))) (0 ∷ 18446744073709551615 ∷ []) ≡ some 4 ∷ some 3 ∷ []
 unfolding fullAt seenFrom
 spent-before-no-place = refl
 
 -- exactly hints, verified inserts and demote, even where nothing would change: A is verified and C not held
-three-exactly : map (λ q. refusal 24 (fullAt 18446744073709551615) (Asked q)) (Insert A (path 1) 0 ∷ InsertWithTtl A (path 1) 0 5 ∷ InsertFunded A (path 1) 0 (Upto 0) ∷ InsertStated A (path 1) 0 (Upto 0) ∷ InsertVerified A (path 1) 0 ∷ InsertVerifiedWithPathMtu A (path 1) 0 9 ∷ Demote C ∷ [])
+three-exactly : map (λ q. refusal 24 (fullAt 18446744073709551615) (Asked q)) (insert A (path 1) 0 ∷ insertWithTtl A (path 1) 0 5 ∷ insertFunded A (path 1) 0 (Upto 0) ∷ insertStated A (path 1) 0 (Upto 0) ∷ insertVerified A (path 1) 0 ∷ insertVerifiedWithPathMtu A (path 1) 0 9 ∷ Demote C ∷ [])
     ≡ replicate 7 (some 3)
 unfolding fullAt seenFrom
 three-exactly = refl
@@ -109,7 +109,7 @@ three-for-no-other = refl
 
 -- ---- numbers 4 and 5: 01's examples
 
-four : answersOf 2 1 300000 (InsertVerified A (path 1) 0 ∷ InsertVerified B (path 1) 0 ∷ []) ≡ done 16 0 ∷ Refused 4 ∷ []
+four : answersOf 2 1 300000 (insertVerified A (path 1) 0 ∷ insertVerified B (path 1) 0 ∷ []) ≡ done 16 0 ∷ Refused 4 ∷ []
 unfolding answersOf
 four = refl
 
@@ -149,7 +149,7 @@ shortPath : Path
 shortPath = record { entries = record { «node_addr» = addr 0xaa; sequence = 1; timestamp = 2 } ∷ replicate 31 zeroEntry; len = 1 }
 
 packedState : State
-packedState = run 1 (fresh 1 0 300000 []) (InsertFunded (addr 0xaa) shortPath 5 (Upto 15) ∷ []) .state
+packedState = run 1 (fresh 1 0 300000 []) (insertFunded (addr 0xaa) shortPath 5 (Upto 15) ∷ []) .state
 
 packed : memory packedState
     ≡ (0 ∷ 0 ∷ 0 ∷ 0 ∷ 0 ∷ 0 ∷ 0 ∷ 0 ∷ []) ++ ((0xe0 ∷ 0x93 ∷ 0x04 ∷ 0 ∷ 0 ∷ 0 ∷ 0 ∷ 0 ∷ []) ++ ((1 ∷ 0 ∷ 0 ∷ 0 ∷ 0 ∷ 0 ∷ 0 ∷ 0 ∷ []) ++ ((0 ∷ 0 ∷ 0 ∷ 0 ∷ 0 ∷ 0 ∷ 0 ∷ 0 ∷ []) ++ ((1 ∷ 0 ∷ 0 ∷ 0 ∷ 0 ∷ 0 ∷ 0 ∷ 0 ∷ [])
