@@ -10,7 +10,7 @@ use lib.ListN.{length, drop, length-replicate}
 use lib.Seq.{drop-at}
 use Rattle.types.specs.declared.node_addr.NodeAddr.{NodeAddr}
 use Rattle.types.specs.Addresses.{sameAddr, addrBefore}
-use Rattle.rules.specs.Records.{Entry, Row, State}
+use Rattle.rules.specs.Records.{Entry, Row, State, withSeq}
 use Rattle.rules.specs.Rows.{rowAt, find, nextIndex, total, withoutRow, withRows, withOnlyRows, zeroRows}
 use Rattle.rules.specs.Sound.{ascends}
 use Rattle.rules.specs.Room.{fileNew, takeOut}
@@ -24,7 +24,7 @@ use Rattle.search.specs.ByKey.{rowsBefore, searched}
 use Rattle.search.proofs.RisingRows.{first-before, rest-ascends}
 use Rattle.search.proofs.SearchLaws.{absent-inside, absent-none, none-searched}
 use Rattle.memory.proofs.RowLaws.{length-without, view-length}
-use Rattle.memory.specs.Edits.{withSeq, withStoredWeight, withRowCount}
+use Rattle.memory.specs.Edits.{withStoredWeight, withRowCount}
 use Rattle.rows.specs.Insertions.{exchanged}
 use Rattle.filing.specs.Filings.{Over}
 use Rattle.filing.proofs.FiledRows.{in-order}

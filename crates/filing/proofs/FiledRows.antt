@@ -8,7 +8,7 @@ use native.Mathlib.Omega.{arith}
 use lib.Dec.{ltb}
 use lib.ListN.{length, take, drop, length-append, length-take, length-drop}
 use Rattle.types.specs.declared.node_addr.NodeAddr.{NodeAddr}
-use Rattle.rules.specs.Records.{Entry, Row, State, maxRows, weightLimit}
+use Rattle.rules.specs.Records.{Entry, Row, State, maxRows, weightLimit, withSeq}
 use Rattle.rules.specs.Rows.{rowAt, inMain, find, changeRow, insertInOrder, weighRows, mainWeight, withRows}
 use Rattle.rules.specs.Sound.{ascends}
 use Rattle.rules.specs.Room.{fileNew, stamp, raised}
@@ -22,7 +22,7 @@ use Rattle.search.specs.declared.outcome.Search.the-variants.{At, Absent}
 use Rattle.search.specs.declared.outcome.Search.{Search}
 use Rattle.search.specs.ByKey.{searched}
 use Rattle.search.proofs.SearchLaws.{absent-inside, absent-insert, none-searched}
-use Rattle.memory.specs.Edits.{withSeq, withStoredWeight, stampedAs}
+use Rattle.memory.specs.Edits.{withStoredWeight, stampedAs}
 use Rattle.memory.proofs.Fields.{same-head}
 use Rattle.rows.specs.Insertions.{inserted}
 use Rattle.filing.specs.Filings.{Free}

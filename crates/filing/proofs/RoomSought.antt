@@ -6,7 +6,7 @@ use mathlib.Core.List.{List}
 use mathlib.Core.Bool.{true, false, cond}
 use lib.ListN.{length}
 use Rattle.types.specs.declared.node_addr.NodeAddr.{NodeAddr}
-use Rattle.rules.specs.Records.{State, mainBound, maxRows}
+use Rattle.rules.specs.Records.{State, mainLimit, maxRows}
 use Rattle.rules.specs.Rows.{inProbation, total, mainCount, probationCount, withOnlyRows}
 use Rattle.rules.specs.Sound.{sound}
 use Rattle.rules.specs.Room.{Room, takeOut, makeRoom, mainVisits, probationVisits}
@@ -121,7 +121,7 @@ module _ (k : NodeAddr) (n : ℕ) (l m : List ℕ) (time w : ℕ) (r : RoomAnswe
       (room-sound (capacity l) (viewRows n l) s time w) (room-gone k time w (viewRows n l) s (without-gone k n l wo))
 
   -- a row is free in main
-  pub free-main : mainCount (makeRoom time w (viewRows n l) .state) < mainBound (capacity l) (makeRoom time w (viewRows n l) .state .maxEntries) → r .victim ≡ Nothing → r .rows < capacity m
+  pub free-main : mainCount (makeRoom time w (viewRows n l) .state) < mainLimit (capacity l) (makeRoom time w (viewRows n l) .state) → r .victim ≡ Nothing → r .rows < capacity m
   free-main c e = free-in-main (r .rows) m (still-without e .sound) (rw (capacity-same l m (so .size), free-state e) c)
 
   pub made-in-main : r .made ≡ true → r .victim ≡ Nothing → r .rows < capacity m

@@ -3,19 +3,16 @@ use Prim.Native.Nat.{ℕ, _+_, _*_, _-_}
 use mathlib.Core.Path.{_≡_}
 use mathlib.Core.List.{List, _++_}
 use lib.ListN.{length, take, drop}
-use Rattle.rules.specs.Records.{Entry, Row, State}
+use Rattle.rules.specs.Records.{Entry, Row, State, withHeld}
 use Rattle.rules.specs.Rows.{zeroRows}
 use Rattle.rules.specs.Memory.{viewRows}
 use Rattle.rules.specs.Layout.{headSize, rowSize}
 
-unfoldable pub withSeq : ℕ → State → State
-withSeq v s = record { maxEntries = s .maxEntries; defaultTtl = s .defaultTtl; seq = v; storedWeight = s .storedWeight; rowCount = s .rowCount; rows = s .rows; rest = s .rest }
-
 unfoldable pub withStoredWeight : ℕ → State → State
-withStoredWeight v s = record { maxEntries = s .maxEntries; defaultTtl = s .defaultTtl; seq = s .seq; storedWeight = v; rowCount = s .rowCount; rows = s .rows; rest = s .rest }
+withStoredWeight v s = withHeld v (s .rowCount) (s .rows) (s .rest) s
 
 unfoldable pub withRowCount : ℕ → State → State
-withRowCount v s = record { maxEntries = s .maxEntries; defaultTtl = s .defaultTtl; seq = s .seq; storedWeight = s .storedWeight; rowCount = v; rows = s .rows; rest = s .rest }
+withRowCount v s = withHeld (s .storedWeight) v (s .rows) (s .rest) s
 
 -- a place and a stamp
 unfoldable pub stampedAs : ℕ → ℕ → ℕ → Row → Row
@@ -42,7 +39,7 @@ pub record OnlyRows (n j : ℕ) (rs : List Row) (l m : List ℕ) : Type 0 where
 
 -- the first j of n rows stay, with this stored weight; the others become zero
 unfoldable pub shrunk : ℕ → ℕ → ℕ → List ℕ → State
-shrunk n j w l = record { maxEntries = viewRows n l .maxEntries; defaultTtl = viewRows n l .defaultTtl; seq = viewRows n l .seq; storedWeight = w; rowCount = j; rows = viewRows j l .rows; rest = zeroRows (n - j) ++ viewRows n l .rest }
+shrunk n j w l = withHeld w j (viewRows j l .rows) (zeroRows (n - j) ++ viewRows n l .rest) (viewRows n l)
 
 -- while rows are kept together: of a memory l, m has the same head, these j rows in front, and from row i on the same bytes
 pub record Keeping (i j : ℕ) (rs : List Row) (l m : List ℕ) : Type 0 where

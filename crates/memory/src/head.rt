@@ -7,7 +7,8 @@ ghost use Prim.Native.Nat.{_+_, _≤_, _<_};
 ghost use lib.ListN.{length};
 ghost use Rattle.rules.specs.Memory.{capacity, viewRows};
 ghost use Rattle.rules.specs.Layout.{headSize};
-ghost use Rattle.memory.specs.Edits.{withSeq, withStoredWeight, withRowCount};
+ghost use Rattle.rules.specs.Records.{withSeq};
+ghost use Rattle.memory.specs.Edits.{withStoredWeight, withRowCount};
 
 // R: the rows that fit whole; 0 where the head doesn't fit.
 pub fn rows_that_fit(state: &[u8]) -> usize

@@ -26,7 +26,8 @@ use Rattle.rules.proofs.RowLists.{cores, every-at, rising-unique, total-without
 use Rattle.rules.proofs.LentMemory.{capacity-same}
 use Rattle.rules.proofs.Walks.{Roomed, room-roomed}
 use Rattle.rules.proofs.Moves.{ready, takeOut-sound}
-use Rattle.rules.proofs.Others.{takeOut-gone, takeOut-seq, takeOut-max, takeOut-main}
+use Rattle.rules.proofs.Limits.{limitsOf, probationOf}
+use Rattle.rules.proofs.Others.{takeOut-gone, takeOut-seq, takeOut-limits, takeOut-main}
 use Rattle.rules.specs.Layout.{headSize, rowSize}
 use Rattle.rules.proofs.Foreign.{view-length}
 use Rattle.memory.proofs.Fields.{row-at}
@@ -93,19 +94,19 @@ module _ {k : NodeAddr} {n i : ℕ} {l m : List ℕ} (u : Out k n i l m) where
     made : Roomed time w (viewRows (n - 1) m) (makeRoom time w (viewRows (n - 1) m))
     made = room-roomed time w (viewRows (n - 1) m) (ready (shown (n - 1) m (out-without .sound)))
 
-    max-kept : makeRoom time w (viewRows (n - 1) m) .state .maxEntries ≡ viewRows n l .maxEntries
-    max-kept = made .maxEntries ∙ rw (u .state) (takeOut-max i (viewRows n l))
+    limits-kept : limitsOf (makeRoom time w (viewRows (n - 1) m) .state) ≡ limitsOf (viewRows n l)
+    limits-kept = made .limits ∙ rw (u .state) (takeOut-limits i (viewRows n l))
 
     -- the row that was taken out left one free
     freed : (b : Bool) → inMain (rowIn n i l) ≡ b → r .victim ≡ Nothing → r .rows < capacity x
     freed true e v =
         let a : mainCount (viewRows (n - 1) m) + 1 ≡ mainCount (viewRows n l) = rw (u .state) (takeOut-main i (viewRows n l) inside e) in
-        free-main k (n - 1) m x time w r out-without so (rw (max-kept, capacity-same l m (u .size)) (omega (arith, made .mains, a, whole .mains))) v
+        free-main k (n - 1) m x time w r out-without so (omega (arith, ap probationOf limits-kept, capacity-same l m (u .size), made .mains, a, whole .mains)) v
     freed false e v =
         let p = not-main (rowIn n i l) (every-at (RowOk (viewRows n l .seq)) i (viewRows n l .rows) inside (whole .each) .place) e in
         let a : probationCount (viewRows (n - 1) m) + 1 ≡ probationCount (viewRows n l) = rw (u .state) (probation-one-less i (viewRows n l) inside p) in
         free-in-probation (r .rows) x (still-without k (n - 1) m x time w r out-without so v .sound)
-        (rw (free-state k (n - 1) m x time w r out-without so v, max-kept) (omega (arith, made .probations, a, whole .probations)))
+        (rw (free-state k (n - 1) m x time w r out-without so v) (omega (arith, ap probationOf limits-kept, made .probations, a, whole .probations)))
 
     -- what filing asks
     pub out-takes : {p : Path} {o : HintOutcome} {b : Bool} → HeldHint k p o b n i l → Takes k (r .victim) (r .stored) (r .rows) x

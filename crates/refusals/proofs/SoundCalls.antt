@@ -1,6 +1,7 @@
 -- What an unchecked call may use of a sound memory, and what it has to show.
 use mathlib.Core.Path.{_≡_, refl, sym, ap, _∙_, subst}
 use Prim.Native.Nat.{ℕ, _+_, _*_, _-_, _≤_, _<_}
+use native.Mathlib.Omega.{arith}
 use mathlib.Core.List.{List}
 use mathlib.Core.Option.{none, some}
 use mathlib.Core.Bool.{true, false}
@@ -55,7 +56,7 @@ not-refused l q h p v d = refused-only-one (capacity l) (view l) q h p v (rw d)
 -- ---- what the code meets
 
 pub head-there : (l : List ℕ) → sound (capacity l) (view l) ≡ true → headSize ≤ length l
-head-there l h = let s = sound-is (capacity l) (view l) h in head-fits l (view l .maxEntries) (s .space)
+head-there l h = let s = sound-is (capacity l) (view l) h in head-fits l (omega (arith, s .space))
 
 -- n rows, as the head counts them
 pub searchable : (l : List ℕ) (n : ℕ) → sound (capacity l) (view l) ≡ true → n ≡ viewRows 0 l .rowCount → (ascends (viewRows n l .rows) ≡ true) × (headSize + n * rowSize ≤ length l)

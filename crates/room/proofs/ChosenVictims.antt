@@ -14,6 +14,7 @@ use Rattle.rules.specs.Entries.{verified}
 use Rattle.rules.specs.Room.{Walk, Sought, mainVisits, visitsLeft, takeUp, restamp, park, stamp, raised, untouched, stale, returnLapsed, seek, sought, nextVictim, hasRoom, atNewPlace, setAside}
 use Rattle.rules.specs.Memory.{capacity, viewRows}
 use Rattle.rules.specs.Layout.{headSize, rowSize}
+use Rattle.rules.proofs.Limits.{maxOf}
 use Rattle.rules.proofs.Addresses.{contradiction}
 use Rattle.rules.proofs.RowLists.{by-cond, by-maybe, lowest-at, total-change}
 use Rattle.rules.proofs.SoundTest.{sound-is}
@@ -163,7 +164,7 @@ module _ {q : Call} {count stored i e : ℕ} {m : List ℕ} (k : Choice q count 
 
   choice-test : hasRoom (q .w) (viewRows (q .n) m) ≡ fits q count stored
   unfolding hasRoom
-  choice-test = sym (rw (k .choosing .mains, k .choosing .loads, k .max, ← k .choosing .led .maxEntries))
+  choice-test = sym (rw (k .choosing .mains, k .choosing .loads, k .max, ← ap maxOf (k .choosing .led .limits)))
 
   -- seq has room for the walk that is left
   pub choice-seq : viewRows (q .n) m .seq + total (mainVisits (q .now)) (viewRows (q .n) m .rows) < 18446744073709551616

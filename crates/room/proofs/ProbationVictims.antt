@@ -8,13 +8,14 @@ use mathlib.Core.Bool.{Bool, true, false, cond}
 use lib.Dec.{ltb}
 use lib.ListN.{length}
 use borrow.Author.Tests.{eqb-true, lt-ltb, le-ltb}
-use Rattle.rules.specs.Records.{Row, State, probation, probationBound, maxRows, weightLimit}
+use Rattle.rules.specs.Records.{Row, State, probation, probationBound, probationLimit, maxRows, weightLimit}
 use Rattle.rules.specs.Rows.{rowAt, atPlace, inMain, inProbation, changeRow, withoutRow, lowestStamp, probationCount, total, withRows, withOnlyRows}
 use Rattle.rules.specs.Sound.{sound}
-use Rattle.rules.specs.Room.{Walk, takeUp, takeOut, restamp, stamp, raised, refiled, stale, probationVisits, evictProbation, makeProbationRoom}
+use Rattle.rules.specs.Room.{Walk, takeUp, takeOut, restamp, stamp, raised, refiled, stale, probationVisits, evictBelow, makeProbationRoom}
 use Rattle.rules.specs.Memory.{capacity, viewRows}
 use Rattle.rules.specs.Layout.{headSize, rowSize}
 use Rattle.rules.proofs.RowLists.{core, cores, change-cores, lowest-at, total-change, total-some, total-without}
+use Rattle.rules.proofs.Limits.{limitsOf, probationOf}
 use Rattle.rules.proofs.SoundTest.{Sound, sound-is}
 use Rattle.rules.proofs.Moves.{restamp-sound, visits-of, visits-restamped}
 use Rattle.rules.proofs.Sizes.{few-rows, light}
@@ -34,8 +35,8 @@ visits s = total probationVisits (s .rows)
 abbrev guests : List Row → ℕ
 guests rs = total (λ x. cond (inProbation x) 1 0) rs
 
-abbrev evicting : Walk → Walk
-evicting w = evictProbation (visits (w .state)) w
+abbrev evicting : ℕ → Walk → Walk
+evicting b w = evictBelow b (visits (w .state)) w
 
 -- ---- a probation row restamped
 
@@ -53,24 +54,24 @@ same-core q r p = rw (eqb-true (r .place) 2 p)
 
 -- ---- the walk's equations
 
-evict-done : (n : ℕ) (w : Walk) → ltb (probationCount (w .state)) (probationBound (w .state .maxEntries)) ≡ true → evictProbation n w ≡ w
-unfolding evictProbation
-evict-done zero w h = refl
-evict-done (suc n) w h = rw h
+evict-done : (b n : ℕ) (w : Walk) → ltb (probationCount (w .state)) b ≡ true → evictBelow b n w ≡ w
+unfolding evictBelow
+evict-done b zero w h = refl
+evict-done b (suc n) w h = rw h
 
-evict-none : (n : ℕ) (w : Walk) → lowestStamp probation (w .state .rows) ≡ none → evictProbation n w ≡ w
-unfolding evictProbation
-evict-none zero w l = refl
-evict-none (suc n) w l = rw l (go (ltb (probationCount (w .state)) (probationBound (w .state .maxEntries))))
+evict-none : (b n : ℕ) (w : Walk) → lowestStamp probation (w .state .rows) ≡ none → evictBelow b n w ≡ w
+unfolding evictBelow
+evict-none b zero w l = refl
+evict-none b (suc n) w l = rw l (go (ltb (probationCount (w .state)) b))
   where
-    go : (b : Bool) → cond b w w ≡ w
+    go : (c : Bool) → cond c w w ≡ w
     go true = refl
     go false = refl
 
-evict-turn : (f : ℕ → State → State) (i n : ℕ) (w : Walk) → ltb (probationCount (w .state)) (probationBound (w .state .maxEntries)) ≡ false →
-    lowestStamp probation (w .state .rows) ≡ some i → cond (stale (rowAt i (w .state .rows))) restamp takeOut ≡ f → visits (w .state) ≡ suc n → evicting w ≡ evictProbation n (takeUp f i w)
-unfolding evictProbation
-evict-turn f i n w h l e v = rw (v, h, l, e)
+evict-turn : (b : ℕ) (f : ℕ → State → State) (i n : ℕ) (w : Walk) → ltb (probationCount (w .state)) b ≡ false →
+    lowestStamp probation (w .state .rows) ≡ some i → cond (stale (rowAt i (w .state .rows))) restamp takeOut ≡ f → visits (w .state) ≡ suc n → evicting b w ≡ evictBelow b n (takeUp f i w)
+unfolding evictBelow
+evict-turn b f i n w h l e v = rw (v, h, l, e)
 
 -- ---- from the rows of l to those of m, after e keys; k is the weight that is stored
 
@@ -79,10 +80,11 @@ pub record Evicting (n e k : ℕ) (l m : List ℕ) : Type 0 where
   pub size : headSize + n * rowSize ≤ length m
   first : sound (capacity l) (viewRows n l) ≡ true
   sound : Sound (capacity l) (viewRows n m)
-  same : evicting (walkFrom (viewRows n l) 0) ≡ evicting (walkFrom (viewRows n m) e)
+  limits : limitsOf (viewRows n m) ≡ limitsOf (viewRows n l)
+  same : evicting (probationLimit (viewRows n l)) (walkFrom (viewRows n l) 0) ≡ evicting (probationLimit (viewRows n l)) (walkFrom (viewRows n m) e)
   keys : e + total probationVisits (viewRows n m .rows) < 18446744073709551616
   stamps : viewRows n m .seq + total probationVisits (viewRows n m .rows) < 18446744073709551616
-  full : probationBound (viewRows n m .maxEntries) ≤ probationCount (viewRows n m)
+  full : probationLimit (viewRows n l) ≤ probationCount (viewRows n m)
   stored : k ≡ viewRows n m .storedWeight
   cores : cores (viewRows n m .rows) ≡ cores (viewRows n l .rows)
 
@@ -92,13 +94,13 @@ Evicted n v k e l m = (walkFrom (withoutVictim v (viewRows n m)) e ≡ makeProba
 
 module _ (n : ℕ) (l : List ℕ) {max bound : ℕ} {r : LowestStamp}
     (em : max ≡ viewRows 0 l .maxEntries) (eb : bound ≡ probationBound max) (c : LowestIs probation r (viewRows n l .rows)) where
-  limit : bound ≡ probationBound (viewRows n l .maxEntries)
+  limit : bound ≡ probationLimit (viewRows n l)
   limit = eb ∙ ap probationBound (em ∙ same-head 0 n l .maxEntries)
 
   -- there is room
   pub room-free : {k : ℕ} → r .count < bound → Evicted n Nothing k 0 l l
   unfolding makeProbationRoom withoutVictim
-  room-free h = (sym (evict-done (visits (viewRows n l)) (walkFrom (viewRows n l) 0) (rw (← limit, ← c .count) (lt-ltb (r .count) bound h))), at-none _ _ refl)
+  room-free h = (sym (evict-done (probationLimit (viewRows n l)) (visits (viewRows n l)) (walkFrom (viewRows n l) 0) (rw (← limit, ← c .count) (lt-ltb (r .count) bound h))), at-none _ _ refl)
 
   pub evict-start : {k : ℕ} → headSize + n * rowSize ≤ length l → sound (capacity l) (viewRows n l) ≡ true →
       viewRows n l .seq + total probationVisits (viewRows n l .rows) < 18446744073709551616 → k ≡ viewRows 0 l .storedWeight → bound ≤ r .count → Evicting n 0 k l l
@@ -108,6 +110,7 @@ module _ (n : ℕ) (l : List ℕ) {max bound : ℕ} {r : LowestStamp}
         size = h;
         first = z;
         sound = sound-is (capacity l) (viewRows n l) z;
+        limits = refl;
         same = refl;
         keys = omega arith;
         stamps = s;
@@ -120,9 +123,9 @@ module _ (n : ℕ) (l : List ℕ) {max bound : ℕ} {r : LowestStamp}
 pub evict-ends : {n e k : ℕ} {l m : List ℕ} {v : Lowest} → Evicting n e k l m → lowestOf v ≡ lowestStamp probation (viewRows n m .rows) → v ≡ Nothing →
     Evicted n v k e l m
 unfolding makeProbationRoom withoutVictim
-evict-ends {n} {e} {m = m} {v = v} g h q =
+evict-ends {n} {e} {l = l} {m = m} {v = v} g h q =
     let s = viewRows n m in
-    (ap (λ (x : State). walkFrom x e) (without-none v s q) ∙ sym (g .same ∙ evict-none (visits s) (walkFrom s e) (found-none v _ h q)), at-none _ v q)
+    (ap (λ (x : State). walkFrom x e) (without-none v s q) ∙ sym (g .same ∙ evict-none (probationLimit (viewRows n l)) (visits s) (walkFrom s e) (found-none v _ h q)), at-none _ v q)
 
 -- row i is taken up in m
 pub record Taken (n e k i : ℕ) (l m : List ℕ) : Type 0 where
@@ -153,8 +156,8 @@ module _ {n e k i : ℕ} {l m : List ℕ} (u : Taken n e k i l m) where
   here : i < length (viewRows n m .rows)
   here = omega (arith, u .inside, view-length n m)
 
-  full : ltb (probationCount (viewRows n m)) (probationBound (viewRows n m .maxEntries)) ≡ false
-  full = le-ltb (probationCount (viewRows n m)) (probationBound (viewRows n m .maxEntries)) (u .going .full)
+  full : ltb (probationCount (viewRows n m)) (probationLimit (viewRows n l)) ≡ false
+  full = le-ltb (probationCount (viewRows n m)) (probationLimit (viewRows n l)) (u .going .full)
 
   pub key-fits : e + 1 < 18446744073709551616
   key-fits = omega (arith, u .visit, u .going .keys)
@@ -185,7 +188,8 @@ module _ {n e k i : ℕ} {l m : List ℕ} (u : Taken n e k i l m) where
           size = omega (arith, g .size);
           first = g .first;
           sound = rw z (restamp-sound (capacity l) i t (g .sound) here (u .there));
-          same = rw z (g .same ∙ evict-turn restamp i (total probationVisits (changeRow f i rs)) (walkFrom t e) full (u .lowest) (rw a) v);
+          limits = rw z (g .limits);
+          same = rw z (g .same ∙ evict-turn (probationLimit (viewRows n l)) restamp i (total probationVisits (changeRow f i rs)) (walkFrom t e) full (u .lowest) (rw a) v);
           keys = rw z (omega (arith, g .keys));
           stamps = rw z (omega (arith, g .stamps));
           full = rw z (omega (arith, g .full));
@@ -206,10 +210,11 @@ module _ {n e k i : ℕ} {l m : List ℕ} (u : Taken n e k i l m) where
       let j = total probationVisits (withoutRow i rs) in
       let v : visits t ≡ suc j = omega (arith, total-without probationVisits i rs here, visits-of r false (u .there) a) in
       let c : guests (withoutRow i rs) + 1 ≡ guests rs = rw (u .there) at (total-without (λ x. cond (inProbation x) 1 0) i rs here) in
-      let d : probationCount (takeOut i t) < probationBound (t .maxEntries) = omega (arith, g .sound .probations) in
-      let z = evict-done j (walkFrom (takeOut i t) (e + 1)) (lt-ltb (probationCount (takeOut i t)) (probationBound (t .maxEntries)) d) in
+      let q = probationLimit (viewRows n l) in
+      let d : probationCount (takeOut i t) < q = omega (arith, g .sound .probations, ap probationOf (g .limits)) in
+      let z = evict-done q j (walkFrom (takeOut i t) (e + 1)) (lt-ltb (probationCount (takeOut i t)) q d) in
       let y = light (t .seq) rs (g .sound .each) in
       let small : k ≤ maxRows * weightLimit = omega (arith, g .stored, g .sound .storedWeight, few-rows (capacity l) t (g .sound), g .sound .small) in
       let rising = sound-is (capacity l) (viewRows n l) (g .first) .rising in
       let x = left-at i k (viewRows n l .rows) rs rising (g .cores) here (not-main r (u .there)) (g .stored ∙ g .sound .storedWeight) small in
-      (sym (g .same ∙ evict-turn takeOut i j (walkFrom t e) full (u .lowest) (rw a) v ∙ z), at-one (λ y. LeftAt y k (viewRows n l .rows) rs) _ _ refl x)
+      (sym (g .same ∙ evict-turn q takeOut i j (walkFrom t e) full (u .lowest) (rw a) v ∙ z), at-one (λ y. LeftAt y k (viewRows n l .rows) rs) _ _ refl x)

@@ -6,7 +6,7 @@ use mathlib.Core.List.{List}
 use mathlib.Core.Bool.{true}
 use lib.ListN.{length}
 use Rattle.types.specs.declared.node_addr.NodeAddr.{NodeAddr}
-use Rattle.rules.specs.Records.{Entry, State, mainBound, probationBound, maxRows}
+use Rattle.rules.specs.Records.{Entry, State, mainLimit, probationLimit, maxRows}
 use Rattle.rules.specs.Rows.{mainCount, probationCount}
 use Rattle.rules.specs.Sound.{ascends, sound}
 use Rattle.rules.specs.Room.{fileNew}
@@ -42,10 +42,10 @@ pub few : (n : ℕ) (l : List ℕ) → sound (capacity l) (viewRows n l) ≡ tru
 few n l h = let s = shown n l h in omega (arith, both n l s, s .mains, s .probations, s .space, s .small)
 
 -- a row is free where a segment is not full
-pub free-in-main : (n : ℕ) (l : List ℕ) → sound (capacity l) (viewRows n l) ≡ true → mainCount (viewRows n l) < mainBound (capacity l) (viewRows n l .maxEntries) → n < capacity l
+pub free-in-main : (n : ℕ) (l : List ℕ) → sound (capacity l) (viewRows n l) ≡ true → mainCount (viewRows n l) < mainLimit (capacity l) (viewRows n l) → n < capacity l
 free-in-main n l h m = let s = shown n l h in omega (arith, both n l s, s .probations, s .space)
 
-pub free-in-probation : (n : ℕ) (l : List ℕ) → sound (capacity l) (viewRows n l) ≡ true → probationCount (viewRows n l) < probationBound (viewRows n l .maxEntries) → n < capacity l
+pub free-in-probation : (n : ℕ) (l : List ℕ) → sound (capacity l) (viewRows n l) ≡ true → probationCount (viewRows n l) < probationLimit (viewRows n l) → n < capacity l
 free-in-probation n l h m = let s = shown n l h in omega (arith, both n l s, s .mains, s .space)
 
 -- ---- states that the code reached, as the rules name them

@@ -6,7 +6,8 @@ use native.Mathlib.Omega.{arith}
 use lib.ListN.{length, take, drop, length-append, length-drop}
 use lib.Seq.{sets, take-all}
 use Rattle.types.specs.Paths.{asWritten, pathPlaces}
-use Rattle.rules.specs.Records.{Row, State}
+use Rattle.rules.specs.Records.{Row, State, withHeld}
+use Rattle.rules.specs.Refusals.{fresh}
 use Rattle.rules.specs.Memory.{leBytes, entryBytes, rowBytes, rowsBytes, memory, rowOf, rowsOf, heldRows, view, viewRows}
 use Rattle.rules.specs.Lent.{Small, AddrFits, PathFits}
 use Rattle.rules.proofs.ViewLaws.{RowFits, Fits, length-le, memory-length, memory-view}
@@ -58,13 +59,14 @@ new-row-fits r k p h t m s =
 -- ---- a row's bytes are read as the row: the memory of a state of one row is read as that state
 
 abbrev alone : Row → State
-alone r = record { maxEntries = 0; defaultTtl = 0; seq = 0; storedWeight = 0; rowCount = 1; rows = r ∷ []; rest = [] }
+alone r = withHeld 0 1 (r ∷ []) [] (fresh 0 0 0 [])
 
 alone-fits : (r : Row) → RowFits r → Fits (memorySize 1) (alone r)
+unfolding fresh
 alone-fits r h = record { maxEntries = omega arith; defaultTtl = omega arith; seq = omega arith; storedWeight = omega arith; rowCount = omega arith; counted = refl; rows = (h, tt); rest = tt; size = omega arith }
 
 alone-row : (r : Row) → drop headSize (memory (alone r)) ≡ rowBytes r
-unfolding memory rowsBytes leBytes
+unfolding memory rowsBytes leBytes fresh
 alone-row r = append-nil (rowBytes r ++ []) ∙ append-nil (rowBytes r)
 
 pub row-length : (r : Row) → RowFits r → length (rowBytes r) ≡ rowSize

@@ -5,7 +5,7 @@ use mathlib.Core.List.{List, _∷_, _++_}
 use lib.ListN.{length, take, drop}
 use Rattle.types.specs.declared.coord.Path.{Path}
 use Rattle.types.specs.Paths.{asWritten}
-use Rattle.rules.specs.Records.{Entry, Row, State}
+use Rattle.rules.specs.Records.{Entry, Row, State, withHeld}
 use Rattle.rules.specs.Rows.{withoutRow, withRows}
 use Rattle.rules.specs.Memory.{leBytes, coordEntriesBytes}
 use Rattle.rules.specs.Layout.{rowSize}
@@ -29,7 +29,7 @@ rowFrom r =
 
 -- row r goes in at i; what is past the rows loses a row's bytes
 unfoldable pub inserted : ℕ → Row → State → State
-inserted i r s = record { maxEntries = s .maxEntries; defaultTtl = s .defaultTtl; seq = s .seq; storedWeight = s .storedWeight; rowCount = length (s .rows) + 1; rows = take i (s .rows) ++ r ∷ drop i (s .rows); rest = drop rowSize (s .rest) }
+inserted i r s = withHeld (s .storedWeight) (length (s .rows) + 1) (take i (s .rows) ++ r ∷ drop i (s .rows)) (drop rowSize (s .rest)) s
 
 -- row i leaves, and row r goes in at j of those that stay
 unfoldable pub exchanged : ℕ → ℕ → Row → State → State

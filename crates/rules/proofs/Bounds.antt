@@ -9,7 +9,7 @@ use lib.ListN.{length}
 use borrow.Author.Tests.{leb-true}
 use Rattle.types.specs.Paths.{pathWeight}
 use Rattle.rules.specs.Cases.{maybe}
-use Rattle.rules.specs.Records.{State, mainBound, probationBound}
+use Rattle.rules.specs.Records.{State, mainLimit, probationLimit}
 use Rattle.rules.specs.Rows.{mainCount, probationCount}
 use Rattle.rules.specs.Sound.{sound}
 use Rattle.rules.specs.Room.{makeProbationRoom, makeRoom, roomCanBeMade}
@@ -31,7 +31,7 @@ room-exact R now w s h = room-roomed now w s (ready (sound-is R s h)) .exact
 -- what number 4 says of a verified insert: the key is not in main, M main rows are taken, and seeking room fails
 pub record NoPlace (R : ℕ) (s : State) (v : VerifiedWrite) : Type 0 where
   pub outside : keyInMain (v .key) s ≡ false
-  pub taken : mainBound R (s .maxEntries) ≤ mainCount s
+  pub taken : mainLimit R s ≤ mainCount s
   pub unmade : makeRoom (v .time) (pathWeight (v .path)) (withoutKey (v .key) s) .made ≡ false
 
 -- NUMBER 4 IS GIVEN ONLY WHERE NO MAIN ROW IS FREE AND ROOM IS SOUGHT IN VAIN
@@ -42,8 +42,8 @@ four-without-room R s q v w e =
     let p : maybe (some v) false (noPlaceFor R s) ≡ true = subst (λ (o : Option VerifiedWrite). maybe o false (noPlaceFor R s) ≡ true) w (g .3) in
     let d = withoutKey (v .key) s in
     let h : sound R d ≡ true = is-sound R d (withoutKey-out R (v .key) (v .time) s (sound-is R s (g .0)) .sound) in
-    let k = parts (keyInMain (v .key) s) (leb (mainBound R (s .maxEntries)) (mainCount s)) (roomCanBeMade (v .time) (pathWeight (v .path)) d) p in
-    record { outside = k .0; taken = leb-true (mainBound R (s .maxEntries)) (mainCount s) (k .1); unmade = room-exact R (v .time) (pathWeight (v .path)) d h ∙ k .2 }
+    let k = parts (keyInMain (v .key) s) (leb (mainLimit R s) (mainCount s)) (roomCanBeMade (v .time) (pathWeight (v .path)) d) p in
+    record { outside = k .0; taken = leb-true (mainLimit R s) (mainCount s) (k .1); unmade = room-exact R (v .time) (pathWeight (v .path)) d h ∙ k .2 }
   where
     parts : (a b c : Bool) → not a && (b && not c) ≡ true → (a ≡ false) × (b ≡ true) × (c ≡ false)
     parts true b c h = contradiction {b = false} h refl
@@ -52,7 +52,7 @@ four-without-room R s q v w e =
     parts false true false h = (refl, refl, refl)
 
 -- PROBATION ROOM CAN ALWAYS BE MADE
-pub probation-room : (R : ℕ) (s : State) → sound R s ≡ true → probationCount (makeProbationRoom s .state) < probationBound (makeProbationRoom s .state .maxEntries)
+pub probation-room : (R : ℕ) (s : State) → sound R s ≡ true → probationCount (makeProbationRoom s .state) < probationLimit (makeProbationRoom s .state)
 probation-room R s h = probation-evict R s (sound-is R s h) .few
 
 -- EXAMINED IS AT MOST TWICE THE ROWS HELD BEFORE THE CALL

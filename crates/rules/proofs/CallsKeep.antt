@@ -14,7 +14,7 @@ use Rattle.types.specs.Addresses.{sameAddr}
 use Rattle.types.specs.Paths.{asWritten, contains, pathWeight, rootOf, startsAt, pathPlaces}
 use Rattle.types.specs.Values.{covers}
 use Rattle.rules.specs.Cases.{Every, maybe}
-use Rattle.rules.specs.Records.{Entry, Row, State, byUse, mainBound, parked, verifiedSource}
+use Rattle.rules.specs.Records.{Entry, Row, State, byUse, mainLimit, parked, verifiedSource}
 use Rattle.rules.specs.Rows.{atPlace, find, inMain, keepRows, mainCount, rowAt, total, withOnlyRows, withRows}
 use Rattle.rules.specs.Sound.{fromVerified}
 use Rattle.rules.specs.Entries.{dropMtu, expired, markHint, markVerified, newEntry, refresh, setMtu, update, verified}
@@ -28,11 +28,12 @@ use Rattle.rules.specs.Lists.{Event}
 use Rattle.rules.specs.Demand.{accountAfter, accountsAfter, expiryOf, mustSpare, namesOther, notPast, verifiedUntilOf, withinFunding}
 use Rattle.rules.proofs.Addresses.{contradiction, same-false, same-true}
 use Rattle.rules.proofs.RowLists.{Core, Found, by-cond, by-maybe, core, cores, every-all, every-at, every-both, every-keep, every-map, find-at, find-none, look, look-keep, of-cores, rising-unique, to-cores}
+use Rattle.rules.proofs.Limits.{limitsOf, probationOf, ttlOf}
 use Rattle.rules.proofs.SoundTest.{RowOk, Sound, and-left, and-right}
 use Rattle.rules.proofs.Walks.{room-roomed}
 use Rattle.rules.proofs.Loops.{from}
 use Rattle.rules.proofs.Moves.{EntryOk, Gone, change-sound, file-main, keep-sound, only-sound, ready, refile-sound, takeOut-sound}
-use Rattle.rules.proofs.Others.{LeavesOthers, Own, PathOk, change-leaves, change-own, charge, covers-zero, file-leaves, file-own, fileNew-seq, gone-own, leaves-refl, leaves-trans, made-free, placeHint-kept, refile-leaves, refile-own, refile-seq, room-from, room-gone, segmentRows, takeOut-gone, takeOut-leaves, takeOut-main, takeOut-mains, takeOut-max, takeOut-rows, takeOut-seq, weight-ok}
+use Rattle.rules.proofs.Others.{LeavesOthers, Own, PathOk, change-leaves, change-own, charge, covers-zero, file-leaves, file-own, fileNew-seq, gone-own, leaves-refl, leaves-trans, made-free, placeHint-kept, refile-leaves, refile-own, refile-seq, room-from, room-gone, segmentRows, takeOut-gone, takeOut-leaves, takeOut-main, takeOut-mains, takeOut-limits, takeOut-rows, takeOut-seq, weight-ok}
 use Rattle.rules.proofs.Refused.{Allowed}
 
 abbrev pub Accounted : (NodeAddr → ℕ) → State → Type 0
@@ -108,7 +109,7 @@ demand-named : (a : NodeAddr → ℕ) (s : State) (q : Call) (t : Step) (k : Nod
     → LeavesOthers k (clock q) s (t .state) → Own k (accountAfter q (t .answer) (a k)) (t .state) → withinFunding (event q t) ≡ true → Accounted a s → DemandStep a s q t
 unfolding accountsAfter mustSpare namesOther
 demand-named a s q t k named notRefused leaves own paid h = record {
-  defaultTtl = leaves .defaultTtl;
+  defaultTtl = ap ttlOf (leaves .limits);
   accounted = every-both (λ y f g. rw named (by-cond (λ n. n ≡ charge y) (sameAddr (y .key) k)
       (λ e. let z = same-true (y .key) k e in rw z (sym (g z)))
       (λ e. f (same-false (y .key) k e))))
@@ -150,45 +151,45 @@ pub record Out (R : ℕ) (k : NodeAddr) (now : ℕ) (s d : State) : Type 1 where
   pub gone : Gone k d
   pub rows : segmentRows d ≤ segmentRows s
   pub mains : mainCount d ≤ mainCount s
-  pub maxEntries : d .maxEntries ≡ s .maxEntries
+  pub limits : limitsOf d ≡ limitsOf s
   pub seq : d .seq ≡ s .seq
 
 taken-out : (R : ℕ) (k : NodeAddr) (now i : ℕ) (s : State) → Sound R s → Found k (s .rows) i → Out R k now s (takeOut i s)
-taken-out R k now i s h g = record { sound = takeOut-sound R i s h; leaves = takeOut-leaves k i s (g .key); gone = takeOut-gone k i s (rising-unique (cores (s .rows)) (h .rising)) (g .inside) (g .key); rows = takeOut-rows i s; mains = takeOut-mains i s; maxEntries = takeOut-max i s; seq = takeOut-seq i s }
+taken-out R k now i s h g = record { sound = takeOut-sound R i s h; leaves = takeOut-leaves k i s (g .key); gone = takeOut-gone k i s (rising-unique (cores (s .rows)) (h .rising)) (g .inside) (g .key); rows = takeOut-rows i s; mains = takeOut-mains i s; limits = takeOut-limits i s; seq = takeOut-seq i s }
 
 pub withoutKey-out : (R : ℕ) (k : NodeAddr) (now : ℕ) (s : State) → Sound R s → Out R k now s (withoutKey k s)
 unfolding withoutKey
 withoutKey-out R k now s h = by-maybe (Out R k now s) (find k (s .rows))
-    (λ e. record { sound = h; leaves = leaves-refl s; gone = find-none k (s .rows) e; rows = omega arith; mains = omega arith; maxEntries = refl; seq = refl })
+    (λ e. record { sound = h; leaves = leaves-refl s; gone = find-none k (s .rows) e; rows = omega arith; mains = omega arith; limits = refl; seq = refl })
     (λ i e. taken-out R k now i s h (find-at k (s .rows) i e))
 
-room-free : {R : ℕ} (d : State) (now w : ℕ) → Sound R d → mainCount d < mainBound R (d .maxEntries) → mainCount (makeRoom now w d .state) < mainBound R (makeRoom now w d .state .maxEntries)
-room-free d now w h l = let m = room-roomed now w d (ready h) in rw (m .maxEntries) (omega (arith, m .mains))
+room-free : {R : ℕ} (d : State) (now w : ℕ) → Sound R d → mainCount d < mainLimit R d → mainCount (makeRoom now w d .state) < mainLimit R (makeRoom now w d .state)
+room-free d now w h l = let m = room-roomed now w d (ready h) in omega (arith, ap probationOf (m .limits), m .mains)
 
-main-out : (R : ℕ) (k : NodeAddr) (s : State) → Sound R s → keyInMain k s ≡ true → mainCount (withoutKey k s) < mainBound R (withoutKey k s .maxEntries)
+main-out : (R : ℕ) (k : NodeAddr) (s : State) → Sound R s → keyInMain k s ≡ true → mainCount (withoutKey k s) < mainLimit R (withoutKey k s)
 unfolding keyInMain withoutKey
 main-out R k s h e = go (find k (s .rows)) refl e
   where
-    go : (o : Option ℕ) → find k (s .rows) ≡ o → maybe o false (λ i. inMain (rowAt i (s .rows))) ≡ true → mainCount (maybe o s (λ i. takeOut i s)) < mainBound R (maybe o s (λ i. takeOut i s) .maxEntries)
+    go : (o : Option ℕ) → find k (s .rows) ≡ o → maybe o false (λ i. inMain (rowAt i (s .rows))) ≡ true → mainCount (maybe o s (λ i. takeOut i s)) < mainLimit R (maybe o s (λ i. takeOut i s))
     go none q m = contradiction {b = false} m refl
-    go (some i) q m = rw (takeOut-max i s) (omega (arith, takeOut-main i s (find-at k (s .rows) i q .inside) m, h .mains))
+    go (some i) q m = omega (arith, ap probationOf (takeOut-limits i s), takeOut-main i s (find-at k (s .rows) i q .inside) m, h .mains)
 
 -- number 4 is given exactly where no main row is left for the key
-pub verified-free : (R : ℕ) (k : NodeAddr) (p : Path) (now : ℕ) (s : State) → Sound R s → noPlaceFor R s (record { key = k; path = p; time = now }) ≡ false → mainCount (makeRoom now (pathWeight p) (withoutKey k s) .state) < mainBound R (makeRoom now (pathWeight p) (withoutKey k s) .state .maxEntries)
+pub verified-free : (R : ℕ) (k : NodeAddr) (p : Path) (now : ℕ) (s : State) → Sound R s → noPlaceFor R s (record { key = k; path = p; time = now }) ≡ false → mainCount (makeRoom now (pathWeight p) (withoutKey k s) .state) < mainLimit R (makeRoom now (pathWeight p) (withoutKey k s) .state)
 unfolding noPlaceFor
-verified-free R k p now s h f = go (keyInMain k s) refl (leb (mainBound R (s .maxEntries)) (mainCount s)) refl (roomCanBeMade now (pathWeight p) (withoutKey k s)) refl f
+verified-free R k p now s h f = go (keyInMain k s) refl (leb (mainLimit R s) (mainCount s)) refl (roomCanBeMade now (pathWeight p) (withoutKey k s)) refl f
   where
     out : Out R k now s (withoutKey k s)
     out = withoutKey-out R k now s h
 
-    held : keyInMain k s ≡ true → mainCount (withoutKey k s) < mainBound R (withoutKey k s .maxEntries)
+    held : keyInMain k s ≡ true → mainCount (withoutKey k s) < mainLimit R (withoutKey k s)
     held e = main-out R k s h e
 
-    go : (a : Bool) → keyInMain k s ≡ a → (b : Bool) → leb (mainBound R (s .maxEntries)) (mainCount s) ≡ b → (c : Bool) → roomCanBeMade now (pathWeight p) (withoutKey k s) ≡ c → not a && (b && not c) ≡ false → mainCount (makeRoom now (pathWeight p) (withoutKey k s) .state) < mainBound R (makeRoom now (pathWeight p) (withoutKey k s) .state .maxEntries)
+    go : (a : Bool) → keyInMain k s ≡ a → (b : Bool) → leb (mainLimit R s) (mainCount s) ≡ b → (c : Bool) → roomCanBeMade now (pathWeight p) (withoutKey k s) ≡ c → not a && (b && not c) ≡ false → mainCount (makeRoom now (pathWeight p) (withoutKey k s) .state) < mainLimit R (makeRoom now (pathWeight p) (withoutKey k s) .state)
     go true e b x c y g = room-free (withoutKey k s) now (pathWeight p) (out .sound) (held e)
     go false e true x true y g = made-free (withoutKey k s) (out .sound) now (pathWeight p) (room-roomed now (pathWeight p) (withoutKey k s) (ready (out .sound)) .exact ∙ y)
     go false e true x false y g = contradiction {b = true} refl g
-    go false e false x c y g = room-free (withoutKey k s) now (pathWeight p) (out .sound) (rw (out .maxEntries) (omega (arith, out .mains, leb-false (mainBound R (s .maxEntries)) (mainCount s) x)))
+    go false e false x c y g = room-free (withoutKey k s) now (pathWeight p) (out .sound) (omega (arith, ap probationOf (out .limits), out .mains, leb-false (mainLimit R s) (mainCount s) x))
 
 verified-is : (k : NodeAddr) (p : Path) (now : ℕ) (mtu : Option ℕ) (s : State) → fromVerified (verifiedEntry k p now mtu s) ≡ true
 unfolding verifiedEntry markVerified setMtu
@@ -257,7 +258,7 @@ rewrite-sound R f i s h l g = change-sound R s (rewrite f i s) (λ r. withEntry 
 
 rewrite-leaves : {now : ℕ} (k : NodeAddr) (f : Entry → Entry) (i : ℕ) (s : State) → rowAt i (s .rows) .key ≡ k → LeavesOthers k now s (rewrite f i s)
 unfolding rewrite withRows withEntry
-rewrite-leaves k f i s e = change-leaves k (λ r. withEntry (f (r .entry)) r) i s (rewrite f i s) e refl refl refl refl
+rewrite-leaves k f i s e = change-leaves k (λ r. withEntry (f (r .entry)) r) i s (rewrite f i s) e refl refl refl
 
 rewrite-own : (k : NodeAddr) (a : ℕ) (f : Entry → Entry) (i : ℕ) (s : State) → Own k a s → Own k a (rewrite f i s)
 unfolding rewrite withRows withEntry atPlace

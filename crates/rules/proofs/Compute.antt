@@ -14,11 +14,11 @@ use Rattle.types.specs.declared.placed.Funding.{Funding}
 use Rattle.types.specs.declared.placed.HintOutcome.{HintOutcome}
 use Rattle.types.specs.declared.placed.Segment.{Segment}
 use Rattle.types.specs.Values.{bit, covers, outcomeCode, placedReply, refuses, says, segmentCode, sourceOf, statsReply, tallied, verifiedReply}
-use Rattle.rules.specs.Records.{Row, State, entryValue}
+use Rattle.rules.specs.Records.{Row, State, entryValue, withSeq}
 use Rattle.rules.specs.Rows.{atPlace, changeRow, find, inMain, insertInOrder, keepRows, lowerOf, lowestStamp, nextIndex, stampBefore, total, withOnlyRows, withRows, withoutRow}
 use Rattle.rules.specs.Sound.{all, ascends, leads, legal, rowSound, sound, sourced, weighed}
 use Rattle.rules.specs.Entries.{addTimes, dropMtu, expired, markHint, markVerified, newEntry, refresh, setMtu, update, verified}
-use Rattle.rules.specs.Room.{atNewPlace, chooseVictims, evictProbation, fileNew, hasRoom, mainVisits, makeProbationRoom, makeRoom, nextVictim, park, parkedAt, probationVisits, putBack, raised, refile, refiled, restamp, returnLapsed, roomCanBeMade, seek, setAside, settled, sought, stale, stamp, takeOut, takeUp, untouched, verifiedInMain}
+use Rattle.rules.specs.Room.{atNewPlace, chooseVictims, evictBelow, fileNew, hasRoom, mainVisits, makeProbationRoom, makeRoom, nextVictim, park, parkedAt, probationVisits, putBack, raised, refile, refiled, restamp, returnLapsed, roomCanBeMade, seek, setAside, settled, sought, stale, stamp, takeOut, takeUp, untouched, verifiedInMain}
 use Rattle.rules.specs.Placement
 use Rattle.rules.specs.Placement.{grow, heldOutcome, newInProbation, newWithoutRoom, placeHeld, placeHint, placeMain, placeNew, placeProbation, placeResult, promote, rejected, staysVerified, verifiedEntry, withoutKey}
 use Rattle.rules.specs.Lookups.{clearPathMtu, demoted, get, holds, matching, removedEntry, rewrite, sweep, touched, unexpiredRow, withEntry}
@@ -109,7 +109,7 @@ pub record Seen : Type 0 where
   pub storedWeight : ℕ
 
 unfoldable pub seenFrom : ℕ → State → List Call → Seen
-unfolding addr elementsFrom pathFrom path rowNumbers sameBytes bytesBefore sameAddr addrBefore zeroEntry elements asWritten sameEntry sameEntries samePath among contains lastAddr rootOf firstIs startsAt pathWeight covers sourceOf entryValue atPlace inMain stampBefore nextIndex find lowerOf lowestStamp changeRow withoutRow keepRows insertInOrder total withRows withOnlyRows leads ascends all legal weighed sourced rowSound sound addTimes expired verified update newEntry refresh markVerified markHint setMtu dropMtu refiled parkedAt raised stamp refile restamp park fileNew takeOut takeUp untouched stale mainVisits returnLapsed sought seek nextVictim hasRoom atNewPlace setAside chooseVictims putBack settled makeRoom verifiedInMain roomCanBeMade probationVisits evictProbation makeProbationRoom placeResult rejected newInProbation newWithoutRoom placeNew heldOutcome staysVerified placeProbation promote placeMain grow placeHeld placeHint withoutKey verifiedEntry Placement.insertVerified unexpiredRow get withEntry rewrite touched removedEntry demoted holds clearPathMtu sweep matching totalAge mean stats nextExpiry keyNamed pathGiven timeGiven fundingOf drawsStamps verifiedWrite sweepMatches wasRefused chargeOf examinedOf badSize badPath seqSpent keyInMain noPlaceFor reason reasons firstGiven refusal gives hinted verifies sweeps perform fresh performRequest serve run
+unfolding addr elementsFrom pathFrom path rowNumbers sameBytes bytesBefore sameAddr addrBefore zeroEntry elements asWritten sameEntry sameEntries samePath among contains lastAddr rootOf firstIs startsAt pathWeight covers sourceOf entryValue atPlace inMain stampBefore nextIndex find lowerOf lowestStamp changeRow withoutRow keepRows insertInOrder total withSeq withRows withOnlyRows leads ascends all legal weighed sourced rowSound sound addTimes expired verified update newEntry refresh markVerified markHint setMtu dropMtu refiled parkedAt raised stamp refile restamp park fileNew takeOut takeUp untouched stale mainVisits returnLapsed sought seek nextVictim hasRoom atNewPlace setAside chooseVictims putBack settled makeRoom verifiedInMain roomCanBeMade probationVisits evictBelow makeProbationRoom placeResult rejected newInProbation newWithoutRoom placeNew heldOutcome staysVerified placeProbation promote placeMain grow placeHeld placeHint withoutKey verifiedEntry Placement.insertVerified unexpiredRow get withEntry rewrite touched removedEntry demoted holds clearPathMtu sweep matching totalAge mean stats nextExpiry keyNamed pathGiven timeGiven fundingOf drawsStamps verifiedWrite sweepMatches wasRefused chargeOf examinedOf badSize badPath seqSpent keyInMain noPlaceFor reason reasons firstGiven refusal gives hinted verifies sweeps perform fresh performRequest serve run
 seenFrom R s qs = let r = run R s qs in record { answers = map (λ e. e .answer) (r .events); rows = map rowNumbers (r .state .rows); seq = r .state .seq; storedWeight = r .state .storedWeight }
 
 -- on a fresh state of R rows, with these limits

@@ -13,7 +13,7 @@ use Rattle.types.specs.declared.placed.Funding.the-variants.{Upto}
 use Rattle.types.specs.declared.placed.HintOutcome.the-variants.{Inserted}
 use Rattle.types.specs.declared.placed.Segment.the-variants.{Main}
 use Rattle.types.specs.Values.{mtuMarkOf, sourceCode}
-use Rattle.rules.specs.Records.{Row, State, hintSource, noMtu, someMtu, verifiedSource, maxRows}
+use Rattle.rules.specs.Records.{Row, State, hintSource, noMtu, someMtu, verifiedSource, maxRows, withHeld, withSeq}
 use Rattle.rules.specs.Rows.{inMain, weighRows, zeroRows}
 use Rattle.rules.specs.Calls.{Answer, Call, Clear, ClearPathMtu, Demote, Done, Get, GetAndTouch, InvalidateOtherRoots, InvalidateViaNode, NextExpiry, PathFound, PurgeExpired, Refused, Remove, RowsRemoved, Stats}
 use Rattle.rules.specs.Refusals.{Asked, Fresh, fresh, refusal, serve, step}
@@ -29,7 +29,7 @@ rowOn n first q = record { key = addr n; entry = record { path = path 1; created
 
 holding : ℕ → ℕ → List Row → State
 unfolding seenFrom
-holding m q rs = record { maxEntries = m; defaultTtl = 300000; seq = q; storedWeight = weighRows inMain rs; rowCount = length rs; rows = rs; rest = 9 ∷ 9 ∷ [] }
+holding m q rs = withSeq q (withHeld (weighRows inMain rs) (length rs) rs (9 ∷ 9 ∷ []) (fresh 0 m 300000 []))
 
 abbrev answersOn : State → List Call → List Answer
 answersOn s qs = seenFrom 24 s qs .answers
@@ -89,7 +89,7 @@ unsound-before-all = refl
 
 -- A verified in main, which R 2 and max 1 leave no row beside
 fullAt : ℕ → State
-fullAt q = record { maxEntries = 1; defaultTtl = 300000; seq = q; storedWeight = 16; rowCount = 1; rows = record { key = A; entry = record { path = path 1; createdAt = 0; lastUsed = 0; expiresAt = 300000; mtuMark = 0; mtu = 0; source = 0; verifiedUntil = 300000 }; place = 0; stampFirst = 0; stampSeq = 0; weight = 16 } ∷ []; rest = [] }
+fullAt q = withSeq q (withHeld 16 1 (record { key = A; entry = record { path = path 1; createdAt = 0; lastUsed = 0; expiresAt = 300000; mtuMark = 0; mtu = 0; source = 0; verifiedUntil = 300000 }; place = 0; stampFirst = 0; stampSeq = 0; weight = 16 } ∷ []) [] (fresh 0 1 300000 []))
 
 -- 3 before 4
 spent-before-no-place : map (λ q. refusal 2 (fullAt q) (Asked (insertVerified B (path 1) 0))) (0 ∷ 18446744073709551615 ∷ []) ≡ some 4 ∷ some 3 ∷ []

@@ -108,7 +108,7 @@ got-part l k now b = go (refusal (capacity l) (view l) (Asked (Get k now))) refl
     found h (some i) e =
         let s = sound-is (capacity l) (view l) h in
         let u = unexpired-row (capacity l) k now (view l) i s e in
-        sym (path-in-memory i (rowAt i (view l .rows) .entry .path .len) l (head-fits l (view l .maxEntries) (s .space)) b (u .0) (u .1))
+        sym (path-in-memory i (rowAt i (view l .rows) .entry .path .len) l (head-fits l (omega (arith, s .space))) b (u .0) (u .1))
 
     go : (o : Option ℕ) → refusal (capacity l) (view l) (Asked (Get k now)) ≡ o → gotPart k now l ≡ answerBytes (call l (Get k now) .answer)
     go none e = rw e (found (allowed (capacity l) (view l) (Get k now) e .sound) (unexpiredRow k now (view l)) refl)

@@ -38,21 +38,21 @@ leaves-done : (l : List ℕ) (t : Step) → wasRefused (t .answer) ≡ false →
 leaves-done l t e f = rw e (memory-bytes (length l) (t .state) f, memory-length (length l) (t .state) f, memory-view (length l) (t .state) f)
 
 -- the rows of a sound state, and so its head, are in the memory
-pub head-fits : (l : List ℕ) (m : ℕ) → m + probationBound m ≤ capacity l → headSize ≤ length l
+pub head-fits : (l : List ℕ) → 1 ≤ capacity l → headSize ≤ length l
 unfolding capacity
-head-fits l m h = omega arith
+head-fits l h = omega arith
 
 rows-fit : (l : List ℕ) → capacity l * rowSize ≤ length l - headSize
 unfolding capacity
 rows-fit l = omega arith
 
 pub sound-fits : (l : List ℕ) → Bytes l → sound (capacity l) (view l) ≡ true → Fits (length l) (view l)
-sound-fits l b h = let s = sound-is (capacity l) (view l) h in view-fits l (head-fits l (view l .maxEntries) (s .space)) b (s .counted)
+sound-fits l b h = let s = sound-is (capacity l) (view l) h in view-fits l (head-fits l (omega (arith, s .space))) b (s .counted)
 
 call-leaves : (l : List ℕ) (q : Call) → Bytes l → Typed q → Leaves l (step (capacity l) (view l) q)
 unfolding gives wasRefused
 call-leaves l q b g = by-step (capacity l) (view l) q (λ (t : Step). (sound (capacity l) (view l) ≡ true → Fits (length l) (t .state)) → Leaves l t) (λ n f. (b, refl, refl)) (λ o f. leaves-done l (perform (view l) q) (done-perform (view l) q) (f (o .sound)))
-    (λ h. let s = sound-is (capacity l) (view l) h in step-fits (capacity l) (length l) (view l) q (head-fits l (view l .maxEntries) (s .space)) (rows-fit l) g (sound-fits l b h))
+    (λ h. let s = sound-is (capacity l) (view l) h in step-fits (capacity l) (length l) (view l) q (head-fits l (omega (arith, s .space))) (rows-fit l) g (sound-fits l b h))
 
 -- what stays past the R rows
 abbrev pub tailOf : List ℕ → List ℕ
@@ -78,7 +78,7 @@ size-allowed R m h = go (ltb maxRows R) (ltb R (m + probationBound m)) refl h
 fresh-leaves : (l : List ℕ) (m ttl : ℕ) → Bytes l → Small 8 m → Small 8 ttl → Leaves l (serve (capacity l) (view l) (Fresh m ttl))
 unfolding gives wasRefused performRequest
 fresh-leaves l m ttl b hm ht = by-serve (capacity l) (view l) (Fresh m ttl) (Leaves l) (λ n e. (b, refl, refl))
-    (λ e. let h = head-fits l m (size-allowed (capacity l) m (fresh-allowed (capacity l) m ttl (view l) e)) in
+    (λ e. let h = head-fits l (omega (arith, size-allowed (capacity l) m (fresh-allowed (capacity l) m ttl (view l) e))) in
     leaves-done l (performRequest (capacity l) (view l) (Fresh m ttl)) refl (subst (λ (L : ℕ). Fits L (fresh (capacity l) m ttl (tailOf l))) (fresh-size l h) (fresh-fits (capacity l) m ttl (tailOf l) hm ht (tail-bytes l b))))
 
 pub record OnBytes (l : List ℕ) (x : Request) : Type 0 where
@@ -141,7 +141,7 @@ reads-same s NextExpiry h = refl
 pub read-leaves : (l : List ℕ) (q : Call) → Bytes l → reads q ≡ true → call l q .memory ≡ l
 unfolding lent gives wasRefused
 read-leaves l q b h = by-step (capacity l) (view l) q (λ (t : Step). cond (wasRefused (t .answer)) l (memory (t .state)) ≡ l) (λ n. refl)
-    (λ o. let s = sound-is (capacity l) (view l) (o .sound) in rw (done-perform (view l) q, reads-same (view l) q h) (view-memory l (head-fits l (view l .maxEntries) (s .space)) b))
+    (λ o. let s = sound-is (capacity l) (view l) (o .sound) in rw (done-perform (view l) q, reads-same (view l) q h) (view-memory l (head-fits l (omega (arith, s .space))) b))
 
 -- ---- lists of calls
 

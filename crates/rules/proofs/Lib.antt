@@ -1,5 +1,6 @@
 pub mod Addresses
 pub mod RowLists
+pub mod Limits
 pub mod SoundTest
 pub mod Walks
 pub mod Loops

@@ -11,12 +11,13 @@ use native.Mathlib.Omega.{arith}
 use Rattle.types.specs.declared.node_addr.NodeAddr.{NodeAddr}
 use Rattle.types.specs.Paths.{pathWeight, pathPlaces}
 use Rattle.rules.specs.Cases.{Every}
-use Rattle.rules.specs.Records.{Entry, Row, State, byUse, mainBound, probation, probationBound, weightLimit}
+use Rattle.rules.specs.Records.{Entry, Row, State, byUse, mainLimit, probation, probationLimit, weightLimit}
 use Rattle.rules.specs.Rows.{atPlace, changeRow, countRows, inMain, inProbation, keepRows, lowestStamp, mainCount, probationCount, rowAt, total, withOnlyRows, withRows, withoutRow}
 use Rattle.rules.specs.Sound.{fromVerified}
-use Rattle.rules.specs.Room.{Walk, evictProbation, fileNew, makeProbationRoom, makeRoom, probationVisits, raised, refile, refiled, restamp, stale, stamp, takeOut, takeUp}
+use Rattle.rules.specs.Room.{Walk, evictBelow, fileNew, makeProbationRoom, makeRoom, probationVisits, raised, refile, refiled, restamp, stale, stamp, takeOut, takeUp}
 use Rattle.rules.proofs.Addresses.{contradiction}
 use Rattle.rules.proofs.RowLists.{Core, Rising, by-cond, by-maybe, change-cores, core, cores, every-at, every-insert, every-keep, every-map, every-turned, every-without, length-change, look, look-at, look-without, lowest-at, lowest-none, of-cores, rising-change, rising-insert, rising-keep, rising-unique, rising-without, to-cores, total-change, total-insert, total-keep-le, total-le, total-twice, total-without, total-without-le}
+use Rattle.rules.proofs.Limits.{limitsOf, maxOf, probationOf}
 use Rattle.rules.proofs.SoundTest.{RowOk, Sound}
 use Rattle.rules.proofs.Walks.{Ready, room-roomed}
 
@@ -55,16 +56,16 @@ same-load true x y f = f refl
 same-load false x y f = refl
 
 pub change-sound : (R : ℕ) (s s′ : State) (f : Row → Row) (i : ℕ) → Sound R s → i < length (s .rows) → ((r : Row) → f r .key ≡ r .key) → InPlace (s′ .seq) (rowAt i (s .rows)) (f (rowAt i (s .rows)))
-    → s′ .maxEntries ≡ s .maxEntries → s′ .rows ≡ changeRow f i (s .rows) → s′ .rowCount ≡ s .rowCount → s′ .storedWeight ≡ s .storedWeight → s .seq ≤ s′ .seq → Sound R s′
+    → limitsOf s′ ≡ limitsOf s → s′ .rows ≡ changeRow f i (s .rows) → s′ .rowCount ≡ s .rowCount → s′ .storedWeight ≡ s .storedWeight → s .seq ≤ s′ .seq → Sound R s′
 change-sound R s s′ f i h l k p m e c d q =
     let rs = s .rows in
     let r = rowAt i rs in
     let keeps : (g : Row → ℕ) → g (f r) ≡ g r → total g (s′ .rows) ≡ total g rs = λ g z. rw e (omega (arith, total-change g f i rs l)) in
     record {
       small = h .small;
-      space = rw m (h .space);
-      mains = rw m (omega (arith, keeps (λ x. cond (inMain x) 1 0) (rw (p .mainly)), h .mains));
-      probations = rw m (omega (arith, keeps (λ x. cond (inProbation x) 1 0) (rw (p .onProbation)), h .probations));
+      space = omega (arith, ap maxOf m, ap probationOf m, h .space);
+      mains = omega (arith, ap probationOf m, keeps (λ x. cond (inMain x) 1 0) (rw (p .mainly)), h .mains);
+      probations = omega (arith, ap probationOf m, keeps (λ x. cond (inProbation x) 1 0) (rw (p .onProbation)), h .probations);
       counted = c ∙ h .counted ∙ sym (ap length e ∙ length-change f i rs);
       storedWeight = d ∙ h .storedWeight ∙ sym (keeps (λ x. cond (inMain x) (x .weight) 0) (rw (p .mainly) (same-load (inMain r) (f r .weight) (r .weight) (p .load))));
       rising = rw e (rising-change f i rs k (h .rising));
@@ -120,7 +121,7 @@ restamp-sound R i s h l p =
 -- ---- a row enters
 
 pub file-sound : (R : ℕ) (k : NodeAddr) (e : Entry) (w p : ℕ) (s : State) → Sound R s → Gone k s → p ≤ 2 → (p ≡ 1 → ⊥) → (p ≡ 2 → fromVerified e ≡ false)
-    → cond (ltb p 2) 1 0 + mainCount s ≤ mainBound R (s .maxEntries) → cond (eqb p 2) 1 0 + probationCount s ≤ probationBound (s .maxEntries) → EntryOk e w → Sound R (fileNew k e w p s)
+    → cond (ltb p 2) 1 0 + mainCount s ≤ mainLimit R s → cond (eqb p 2) 1 0 + probationCount s ≤ probationLimit s → EntryOk e w → Sound R (fileNew k e w p s)
 unfolding fileNew inMain atPlace
 file-sound R k e w p s h g a np tr m t o =
     let r : Row = record { key = k; entry = e; place = p; stampFirst = e .lastUsed; stampSeq = s .seq + 1; weight = w } in
@@ -135,24 +136,24 @@ file-sound R k e w p s h g a np tr m t o =
       each = every-insert (RowOk (s .seq + 1)) r (s .rows) (record { place = a; source = o .source; mtuMark = o .mtuMark; long = o .long; short = o .short; heavy = o .heavy; light = o .light; stamped = omega arith; hinted = o .hinted; onProbation = λ z. tr (eqb-true p 2 z); parked = λ z. absurd (np (eqb-true p 1 z)) }) (every-map (later-ok (s .seq) (s .seq + 1) (omega arith)) (s .rows) (h .each));
     }
 
-pub file-main : (R : ℕ) (k : NodeAddr) (e : Entry) (w : ℕ) (s : State) → Sound R s → Gone k s → mainCount s < mainBound R (s .maxEntries) → EntryOk e w → Sound R (fileNew k e w byUse s)
+pub file-main : (R : ℕ) (k : NodeAddr) (e : Entry) (w : ℕ) (s : State) → Sound R s → Gone k s → mainCount s < mainLimit R s → EntryOk e w → Sound R (fileNew k e w byUse s)
 file-main R k e w s h g m o = file-sound R k e w byUse s h g (omega arith) (λ z. let n : ⊥ = omega arith in n) (λ z. absurd (let n : ⊥ = omega arith in n)) (omega arith) (omega (arith, h .probations)) o
 
-pub file-probation : (R : ℕ) (k : NodeAddr) (e : Entry) (w : ℕ) (s : State) → Sound R s → Gone k s → probationCount s < probationBound (s .maxEntries) → fromVerified e ≡ false → EntryOk e w → Sound R (fileNew k e w probation s)
+pub file-probation : (R : ℕ) (k : NodeAddr) (e : Entry) (w : ℕ) (s : State) → Sound R s → Gone k s → probationCount s < probationLimit s → fromVerified e ≡ false → EntryOk e w → Sound R (fileNew k e w probation s)
 file-probation R k e w s h g m v o = file-sound R k e w probation s h g (omega arith) (λ z. let n : ⊥ = omega arith in n) (λ z. v) (omega (arith, h .mains)) (omega arith) o
 
 -- ---- room in main
 
 pub room-sound : (R : ℕ) (s : State) → Sound R s → (now w : ℕ) → Sound R (makeRoom now w s .state)
 room-sound R s h now w = let m = room-roomed now w s (ready h) in
-    record { small = h .small; space = rw (m .maxEntries) (h .space); mains = rw (m .maxEntries) (omega (arith, m .mains, h .mains)); probations = rw (m .maxEntries) (omega (arith, m .probations, h .probations)); counted = m .counted; storedWeight = m .storedWeight; rising = m .rising; each = m .each }
+    let q = ap probationOf (m .limits) in
+    record { small = h .small; space = omega (arith, ap maxOf (m .limits), h .space); mains = omega (arith, m .mains, h .mains); probations = omega (arith, m .probations, h .probations); counted = m .counted; storedWeight = m .storedWeight; rising = m .rising; each = m .each }
 
 -- ---- room in probation
 
 pub record ProbationEvicted (R : ℕ) (s : State) (w : Walk) : Type 1 where
   pub sound : Sound R (w .state)
-  pub maxEntries : w .state .maxEntries ≡ s .maxEntries
-  pub defaultTtl : w .state .defaultTtl ≡ s .defaultTtl
+  pub limits : limitsOf (w .state) ≡ limitsOf s
   pub keeps : (P : Core → Type 0) → Every P (cores (s .rows)) → Every P (cores (w .state .rows))
   pub spares : (k : NodeAddr) (x : Core) → x .onProbation ≡ false → look k (cores (s .rows)) ≡ some x → look k (cores (w .state .rows)) ≡ some x
   pub done : w .examined + total probationVisits (w .state .rows) ≡ total probationVisits (s .rows)
@@ -181,8 +182,7 @@ module _ (R : ℕ) (s : State) where
       let e = change-cores f i rs (refiled-core q r p) in
       record {
         sound = restamp-sound R i (w .state) (h .sound) l p;
-        maxEntries = h .maxEntries;
-        defaultTtl = h .defaultTtl;
+        limits = h .limits;
         keeps = λ P g. rw e (h .keeps P g);
         spares = λ k x t g. rw e (h .spares k x t g);
         done = omega (arith, h .done, total-change probationVisits f i rs l, visits-restamped q r p, visits-of r true p a);
@@ -196,8 +196,7 @@ module _ (R : ℕ) (s : State) where
       let r = rowAt i rs in
       record {
         sound = takeOut-sound R i (w .state) (h .sound);
-        maxEntries = h .maxEntries;
-        defaultTtl = h .defaultTtl;
+        limits = h .limits;
         keeps = λ P g. to-cores P (withoutRow i rs) (every-without (λ x. P (core x)) i rs (of-cores P rs (h .keeps P g)));
         spares = λ k x t g. let y = h .spares k x t g in look-without k i rs (λ z. contradiction p (let u : core r ≡ x = other r k x z (look-at i rs l (rising-unique (cores rs) (h .sound .rising))) y in ap (λ (c : Core). c .onProbation) u ∙ t)) ∙ y;
         done = omega (arith, h .done, total-without probationVisits i rs l, visits-of r false p a);
@@ -230,21 +229,22 @@ unfolding total
 none-count [] h = refl
 none-count (r ∷ rs) h = rw (h .0) (omega (arith, none-count rs (h .1)))
 
-pub record ProbationRoomMade (R : ℕ) (s : State) (w : Walk) : Type 1 where
+-- probation rows are fewer than b
+pub record EvictedBelow (R b : ℕ) (s : State) (w : Walk) : Type 1 where
   pub evicted : ProbationEvicted R s w
-  pub few : probationCount (w .state) < probationBound (w .state .maxEntries)
+  pub few : probationCount (w .state) < b
 
-evict-evicted : (R : ℕ) (s : State) (n : ℕ) (w : Walk) → n ≡ total probationVisits (w .state .rows) → ProbationEvicted R s w → ProbationRoomMade R s (evictProbation n w)
-unfolding evictProbation takeUp
-evict-evicted R s zero w e h = record { evicted = h; few = omega (arith, total-le (λ r. cond (inProbation r) 1 0) probationVisits probation-le (w .state .rows)) }
-evict-evicted R s (suc n) w e h = by-cond (ProbationRoomMade R s) (ltb (probationCount (w .state)) (probationBound (w .state .maxEntries)))
-    (λ d. record { evicted = h; few = ltb-true (probationCount (w .state)) (probationBound (w .state .maxEntries)) d })
-    (λ d. by-maybe (ProbationRoomMade R s) (lowestStamp probation (w .state .rows))
+pub evict-evicted : (R b : ℕ) (s : State) (n : ℕ) (w : Walk) → 1 ≤ b → n ≡ total probationVisits (w .state .rows) → ProbationEvicted R s w → EvictedBelow R b s (evictBelow b n w)
+unfolding evictBelow takeUp
+evict-evicted R b s zero w z e h = record { evicted = h; few = omega (arith, total-le (λ r. cond (inProbation r) 1 0) probationVisits probation-le (w .state .rows)) }
+evict-evicted R b s (suc n) w z e h = by-cond (EvictedBelow R b s) (ltb (probationCount (w .state)) b)
+    (λ d. record { evicted = h; few = ltb-true (probationCount (w .state)) b d })
+    (λ d. by-maybe (EvictedBelow R b s) (lowestStamp probation (w .state .rows))
     (λ f. record { evicted = h; few = omega (arith, none-count (w .state .rows) (lowest-none probation (w .state .rows) f)) })
     (λ i f. let g = lowest-at probation (w .state .rows) i f in
-    by-cond (λ (act : ℕ → State → State). ProbationRoomMade R s (evictProbation n (takeUp act i w))) (stale (rowAt i (w .state .rows)))
-    (λ a. let k = evict-restamp R s w i h (g .inside) (g .there) a in evict-evicted R s n (takeUp restamp i w) (less (takeUp restamp i w) (up restamp i w) k) k)
-    (λ a. let k = evict-out R s w i h (g .inside) (g .there) a in evict-evicted R s n (takeUp takeOut i w) (less (takeUp takeOut i w) (up takeOut i w) k) k)))
+    by-cond (λ (act : ℕ → State → State). EvictedBelow R b s (evictBelow b n (takeUp act i w))) (stale (rowAt i (w .state .rows)))
+    (λ a. let k = evict-restamp R s w i h (g .inside) (g .there) a in evict-evicted R b s n (takeUp restamp i w) z (less (takeUp restamp i w) (up restamp i w) k) k)
+    (λ a. let k = evict-out R s w i h (g .inside) (g .there) a in evict-evicted R b s n (takeUp takeOut i w) z (less (takeUp takeOut i w) (up takeOut i w) k) k)))
   where
     less : (x : Walk) → x .examined ≡ w .examined + 1 → ProbationEvicted R s x → n ≡ total probationVisits (x .state .rows)
     less x u k = omega (arith, h .done, k .done)
@@ -252,9 +252,19 @@ evict-evicted R s (suc n) w e h = by-cond (ProbationRoomMade R s) (ltb (probatio
     up : (f : ℕ → State → State) (i : ℕ) (w : Walk) → takeUp f i w .examined ≡ w .examined + 1
     up f i w = refl
 
+-- probation rows are fewer than Q
+pub record ProbationRoomMade (R : ℕ) (s : State) (w : Walk) : Type 1 where
+  pub evicted : ProbationEvicted R s w
+  pub few : probationCount (w .state) < probationLimit (w .state)
+
 pub probation-evict : (R : ℕ) (s : State) → Sound R s → ProbationRoomMade R s (makeProbationRoom s)
 unfolding makeProbationRoom
-probation-evict R s h = evict-evicted R s (total probationVisits (s .rows)) (record { state = s; examined = 0 }) refl (record { sound = h; maxEntries = refl; defaultTtl = refl; keeps = λ P g. g; spares = λ k x t g. g; done = omega arith; stamps = omega arith })
+probation-evict R s h =
+    let u = evict-evicted R (probationLimit s) s (total probationVisits (s .rows)) (record { state = s; examined = 0 }) (omega arith) refl (start h) in
+    record { evicted = u .evicted; few = omega (arith, u .few, ap probationOf (u .evicted .limits)) }
+  where
+    start : Sound R s → ProbationEvicted R s (record { state = s; examined = 0 })
+    start h = record { sound = h; limits = refl; keeps = λ P g. g; spares = λ k x t g. g; done = omega arith; stamps = omega arith }
 
 pub probation-seen : (R : ℕ) (s : State) → Sound R s → makeProbationRoom s .examined ≤ 2 * probationCount s
 probation-seen R s h = omega (arith, probation-evict R s h .evicted .done, total-twice probationVisits (λ r. cond (inProbation r) 1 0) probation-twice (s .rows))

@@ -1,6 +1,6 @@
 -- Placement on a sound state: it stays sound; what it does to other keys and to its own key's charge; what it charges; how much it examines.
 use Prim.Native.Nat.{ℕ, _+_, _-_, _*_, _<_, _≤_, max}
-use mathlib.Core.Path.{_≡_, refl, sym, _∙_}
+use mathlib.Core.Path.{_≡_, refl, sym, _∙_, ap}
 use mathlib.Core.Option.{some}
 use mathlib.Core.Bool.{Bool, true, false, cond, _||_}
 use lib.Dec.{ltb, leb, eqb, leb·zero}
@@ -18,7 +18,7 @@ use Rattle.types.specs.declared.placed.HintOutcome.{HintOutcome}
 use Rattle.types.specs.declared.placed.Segment.{Segment}
 use Rattle.types.specs.Values.{covers}
 use Rattle.rules.specs.Cases.{Every}
-use Rattle.rules.specs.Records.{Entry, Row, State, byUse, mainBound, probation, probationBound, weightLimit}
+use Rattle.rules.specs.Records.{Entry, Row, State, byUse, mainLimit, probation, probationLimit, weightLimit}
 use Rattle.rules.specs.Rows.{atPlace, changeRow, find, inMain, inProbation, insertInOrder, mainCount, probationCount, rowAt, total, withOnlyRows, withRows, withoutRow}
 use Rattle.rules.specs.Sound.{fromVerified}
 use Rattle.rules.specs.Entries.{expired, newEntry, update, verified}
@@ -27,6 +27,7 @@ use Rattle.rules.specs.Placement.{PlaceResult, grow, heldOutcome, newInP
 use Rattle.rules.specs.Demand.{accountPlaced}
 use Rattle.rules.proofs.Addresses.{contradiction}
 use Rattle.rules.proofs.RowLists.{Core, Unique, by-cond, by-maybe, core, cores, every-at, every-change, every-insert, every-map, every-without, find-at, find-none, look, look-change, look-insert, look-without, of-cores, rising-unique, to-cores, total-without, total-without-le, without-gone}
+use Rattle.rules.proofs.Limits.{limitsOf, probationOf}
 use Rattle.rules.proofs.SoundTest.{RowOk, Sound}
 use Rattle.rules.proofs.Walks.{Roomed, main-small, room-roomed}
 use Rattle.rules.proofs.Loops.{from}
@@ -35,28 +36,26 @@ use Rattle.rules.proofs.Moves.{EntryOk, Gone, ProbationEvicted, file-ma
 -- ---- what a call that names k may do to a state, at the time now
 
 pub record LeavesOthers (k : NodeAddr) (now : ℕ) (s s′ : State) : Type 1 where
-  pub maxEntries : s′ .maxEntries ≡ s .maxEntries
-  pub defaultTtl : s′ .defaultTtl ≡ s .defaultTtl
+  pub limits : limitsOf s′ ≡ limitsOf s
   pub others : (P : Core → Type 0) → Every (λ y. (y .key ≡ k → ⊥) → P y) (cores (s .rows)) → Every (λ y. (y .key ≡ k → ⊥) → P y) (cores (s′ .rows))
   pub spares : (j : NodeAddr) (x : Core) → (j ≡ k → ⊥) → verified now (x .entry) ≡ true → x .onProbation ≡ false → look j (cores (s .rows)) ≡ some x → look j (cores (s′ .rows)) ≡ some x
 
 pub leaves-trans : {k : NodeAddr} {now : ℕ} {c d e : State} → LeavesOthers k now c d → LeavesOthers k now d e → LeavesOthers k now c e
-leaves-trans f g = record { maxEntries = g .maxEntries ∙ f .maxEntries; defaultTtl = g .defaultTtl ∙ f .defaultTtl; others = λ P h. g .others P (f .others P h); spares = λ j x n a m h. g .spares j x n a m (f .spares j x n a m h) }
+leaves-trans f g = record { limits = g .limits ∙ f .limits; others = λ P h. g .others P (f .others P h); spares = λ j x n a m h. g .spares j x n a m (f .spares j x n a m h) }
 
 pub leaves-refl : {k : NodeAddr} {now : ℕ} (s : State) → LeavesOthers k now s s
-leaves-refl s = record { maxEntries = refl; defaultTtl = refl; others = λ P h. h; spares = λ j x n a m h. h }
+leaves-refl s = record { limits = refl; others = λ P h. h; spares = λ j x n a m h. h }
 
 pub room-leaves : {k : NodeAddr} {now w : ℕ} {s : State} {m : Room} → Roomed now w s m → LeavesOthers k now s (m .state)
-room-leaves {k} h = record { maxEntries = h .maxEntries; defaultTtl = h .defaultTtl; others = λ P g. h .keeps (λ y. (y .key ≡ k → ⊥) → P y) g; spares = λ j x n a m g. h .spares j x a g }
+room-leaves {k} h = record { limits = h .limits; others = λ P g. h .keeps (λ y. (y .key ≡ k → ⊥) → P y) g; spares = λ j x n a m g. h .spares j x a g }
 
 pub evict-leaves : {k : NodeAddr} {now R : ℕ} {s : State} {w : Walk} → ProbationEvicted R s w → LeavesOthers k now s (w .state)
-evict-leaves {k} h = record { maxEntries = h .maxEntries; defaultTtl = h .defaultTtl; others = λ P g. h .keeps (λ y. (y .key ≡ k → ⊥) → P y) g; spares = λ j x n a m g. h .spares j x m g }
+evict-leaves {k} h = record { limits = h .limits; others = λ P g. h .keeps (λ y. (y .key ≡ k → ⊥) → P y) g; spares = λ j x n a m g. h .spares j x m g }
 
 pub takeOut-leaves : {now : ℕ} (k : NodeAddr) (i : ℕ) (s : State) → rowAt i (s .rows) .key ≡ k → LeavesOthers k now s (takeOut i s)
 unfolding takeOut withOnlyRows
 takeOut-leaves k i s e = record {
-  maxEntries = refl;
-  defaultTtl = refl;
+  limits = refl;
   others = λ P g. to-cores (λ y. (y .key ≡ k → ⊥) → P y) (withoutRow i (s .rows)) (every-without (λ r. (r .key ≡ k → ⊥) → P (core r)) i (s .rows) (of-cores (λ y. (y .key ≡ k → ⊥) → P y) (s .rows) g));
   spares = λ j x n a m g. look-without j i (s .rows) (λ z. n (z ∙ e)) ∙ g;
 }
@@ -66,24 +65,22 @@ unfolding fileNew
 file-leaves k e w p s =
     let r : Row = record { key = k; entry = e; place = p; stampFirst = e .lastUsed; stampSeq = s .seq + 1; weight = w } in
     record {
-      maxEntries = refl;
-      defaultTtl = refl;
+      limits = refl;
       others = λ P g. to-cores (λ y. (y .key ≡ k → ⊥) → P y) (insertInOrder r (s .rows)) (every-insert (λ x. (x .key ≡ k → ⊥) → P (core x)) r (s .rows) (λ z. absurd (z refl)) (of-cores (λ y. (y .key ≡ k → ⊥) → P y) (s .rows) g));
       spares = λ j x n a m g. look-insert j r n (s .rows) ∙ g;
     }
 
 -- a row of key k changes in place
-pub change-leaves : {now : ℕ} (k : NodeAddr) (f : Row → Row) (i : ℕ) (s s′ : State) → rowAt i (s .rows) .key ≡ k → f (rowAt i (s .rows)) .key ≡ rowAt i (s .rows) .key → s′ .maxEntries ≡ s .maxEntries → s′ .defaultTtl ≡ s .defaultTtl → s′ .rows ≡ changeRow f i (s .rows) → LeavesOthers k now s s′
-change-leaves k f i s s′ e g m t q = record {
-  maxEntries = m;
-  defaultTtl = t;
+pub change-leaves : {now : ℕ} (k : NodeAddr) (f : Row → Row) (i : ℕ) (s s′ : State) → rowAt i (s .rows) .key ≡ k → f (rowAt i (s .rows)) .key ≡ rowAt i (s .rows) .key → limitsOf s′ ≡ limitsOf s → s′ .rows ≡ changeRow f i (s .rows) → LeavesOthers k now s s′
+change-leaves k f i s s′ e g m q = record {
+  limits = m;
   others = λ P h. rw q (to-cores (λ y. (y .key ≡ k → ⊥) → P y) (changeRow f i (s .rows)) (every-change (λ r. (r .key ≡ k → ⊥) → P (core r)) f i (s .rows) (λ a z. absurd (z (g ∙ e))) (of-cores (λ y. (y .key ≡ k → ⊥) → P y) (s .rows) h)));
   spares = λ j x n a b h. rw q (look-change j f i (s .rows) (λ z. n (z ∙ e)) g ∙ h);
 }
 
 pub refile-leaves : {now : ℕ} (k : NodeAddr) (e : Entry) (w i : ℕ) (s : State) → rowAt i (s .rows) .key ≡ k → LeavesOthers k now s (refile e w i s)
 unfolding refile stamp withRows raised refiled
-refile-leaves k e w i s h = change-leaves k (refiled (s .seq + 1) e w) i s (refile e w i s) h refl refl refl refl
+refile-leaves k e w i s h = change-leaves k (refiled (s .seq + 1) e w) i s (refile e w i s) h refl refl refl
 
 -- ---- charges
 
@@ -161,9 +158,9 @@ pub takeOut-seq : (i : ℕ) (s : State) → takeOut i s .seq ≡ s .seq
 unfolding takeOut withOnlyRows
 takeOut-seq i s = refl
 
-pub takeOut-max : (i : ℕ) (s : State) → takeOut i s .maxEntries ≡ s .maxEntries
+pub takeOut-limits : (i : ℕ) (s : State) → limitsOf (takeOut i s) ≡ limitsOf s
 unfolding takeOut withOnlyRows
-takeOut-max i s = refl
+takeOut-limits i s = refl
 
 pub takeOut-mains : (i : ℕ) (s : State) → mainCount (takeOut i s) ≤ mainCount s
 unfolding takeOut withOnlyRows
@@ -244,8 +241,8 @@ unfolding update
 update-hint p now ttl e = refl
 
 -- main has a row for what room was made for
-pub made-free : {R : ℕ} (s : State) → Sound R s → (now w : ℕ) → makeRoom now w s .made ≡ true → mainCount (makeRoom now w s .state) < mainBound R (makeRoom now w s .state .maxEntries)
-made-free s h now w e = let m = room-roomed now w s (ready h) in rw (m .maxEntries) (omega (arith, m .few e, h .space))
+pub made-free : {R : ℕ} (s : State) → Sound R s → (now w : ℕ) → makeRoom now w s .made ≡ true → mainCount (makeRoom now w s .state) < mainLimit R (makeRoom now w s .state)
+made-free s h now w e = let m = room-roomed now w s (ready h) in omega (arith, ap probationOf (m .limits), m .few e, h .space)
 
 -- ---- 2. a new key
 
@@ -295,17 +292,17 @@ module _ {R : ℕ} (k : NodeAddr) (p : Path) (now ttl : ℕ) (f : Funding) (a i 
   out-from w = room-from s (takeOut i s) w out-sound (takeOut-leaves k i s key) (takeOut-rows i s) (omega (arith, takeOut-seq i s))
 
   -- the row that was taken out left one free
-  free-probation : (w : ℕ) → atPlace probation (rowAt i (s .rows)) ≡ true → probationCount (makeRoom now w (takeOut i s) .state) < probationBound (makeRoom now w (takeOut i s) .state .maxEntries)
+  free-probation : (w : ℕ) → atPlace probation (rowAt i (s .rows)) ≡ true → probationCount (makeRoom now w (takeOut i s) .state) < probationLimit (makeRoom now w (takeOut i s) .state)
   unfolding takeOut withOnlyRows
   free-probation w t = let m = room-roomed now w (takeOut i s) (ready out-sound) in
       let z : total (λ r. cond (inProbation r) 1 0) (withoutRow i (s .rows)) + 1 ≡ total (λ r. cond (inProbation r) 1 0) (s .rows) = rw t at (total-without (λ r. cond (inProbation r) 1 0) i (s .rows) l) in
-      rw (m .maxEntries) (omega (arith, m .probations, h .probations))
+      omega (arith, ap probationOf (m .limits), m .probations, h .probations)
 
-  pub free-main : (w : ℕ) → inMain (rowAt i (s .rows)) ≡ true → mainCount (makeRoom now w (takeOut i s) .state) < mainBound R (makeRoom now w (takeOut i s) .state .maxEntries)
+  pub free-main : (w : ℕ) → inMain (rowAt i (s .rows)) ≡ true → mainCount (makeRoom now w (takeOut i s) .state) < mainLimit R (makeRoom now w (takeOut i s) .state)
   unfolding takeOut withOnlyRows
   free-main w t = let m = room-roomed now w (takeOut i s) (ready out-sound) in
       let z : total (λ r. cond (inMain r) 1 0) (withoutRow i (s .rows)) + 1 ≡ total (λ r. cond (inMain r) 1 0) (s .rows) = rw t at (total-without (λ r. cond (inMain r) 1 0) i (s .rows) l) in
-      rw (m .maxEntries) (omega (arith, m .mains, h .mains))
+      omega (arith, ap probationOf (m .limits), m .mains, h .mains)
 
   placeProbation-kept : inMain (rowAt i (s .rows)) ≡ false → Kept R k now f a s (placeProbation k p now ttl f i s)
   unfolding placeProbation promote

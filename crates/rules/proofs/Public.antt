@@ -8,7 +8,7 @@ use mathlib.Core.Bool.{true, false}
 use lib.ListN.{length, drop}
 use lib.Seq.{drop-drop}
 use Rattle.rules.specs.Cases.{maybe}
-use Rattle.rules.specs.Records.{State, probationBound, maxRows}
+use Rattle.rules.specs.Records.{State, maxRows}
 use Rattle.rules.specs.Sound.{sound}
 use Rattle.rules.specs.Calls.{Call, Done, Refused, wasRefused}
 use Rattle.rules.specs.Refusals.{Asked, Fresh, Request, badSize, fresh, gives, perform, performRequest, refusal, serve}
@@ -42,7 +42,7 @@ shown-memory R m s b c h v =
     let n = length (s .rows) in
     let k : n ≤ R = few-rows R s h in
     let r : view m ≡ s = view-shown R m s c h k v in
-    sym (view-memory m (head-fits m (s .maxEntries) (subst (λ (x : ℕ). s .maxEntries + probationBound (s .maxEntries) ≤ x) (sym c) (h .space))) b) ∙ ap memory r
+    sym (view-memory m (head-fits m (omega (arith, c, h .space))) b) ∙ ap memory r
 
 pub record RefusedCall (l : List ℕ) (q : Call) (n : ℕ) : Type 0 where
   pub answer : call l q .answer ≡ Refused n
@@ -137,7 +137,7 @@ sound-memory l n h e =
     let k : n ≡ heldRows l = e ∙ held-is l (s .counted) in
     let v : viewRows n l ≡ view l = ap (λ (x : ℕ). viewRows x l) k ∙ sym (view-is l) in
     let f : heldRows l ≤ capacity l = subst (λ (x : ℕ). x ≤ capacity l) (ap (λ (x : State). length (x .rows)) (view-is l) ∙ view-length (heldRows l) l) (few-rows (capacity l) (view l) s) in
-    let g = held-fits l (head-fits l (view l .maxEntries) (s .space)) in
+    let g = held-fits l (head-fits l (omega (arith, s .space))) in
     record { long = rw k g; same = v; few = omega (arith, s .small); rows = view-length n l; sound = subst (Sound (capacity l)) (sym v) s }
 
 -- number 1, as the code meets it

@@ -9,10 +9,10 @@ use lib.ListN.{length, replicate, length-append, length-drop, length-map, length
 use Rattle.types.specs.declared.node_addr.NodeAddr.{NodeAddr}
 use Rattle.types.specs.Addresses.{addrBefore}
 use Rattle.rules.specs.Cases.{Every}
-use Rattle.rules.specs.Records.{Entry, Row, State, aside, byUse, parked, probation, probationBound, weightLimit}
+use Rattle.rules.specs.Records.{Entry, Row, State, aside, byUse, parked, probation, probationLimit, weightLimit}
 use Rattle.rules.specs.Rows.{atPlace, changeRow, inMain, insertInOrder, keepRows, lowestStamp, probationCount, rowAt, total, weighRows, withOnlyRows, withRows, withoutRow, zeroRows}
 use Rattle.rules.specs.Entries.{addTimes, verified}
-use Rattle.rules.specs.Room.{Chosen, Sought, Walk, atNewPlace, chooseVictims, evictProbation, fileNew, hasRoom, makeProbationRoom, makeRoom, nextVictim, park, parkedAt, probationVisits, putBack, raised, refile, refiled, restamp, returnLapsed, seek, setAside, settled, sought, stale, stamp, takeOut, takeUp, untouched, visitsLeft}
+use Rattle.rules.specs.Room.{Chosen, Sought, Walk, atNewPlace, chooseVictims, evictBelow, fileNew, hasRoom, makeProbationRoom, makeRoom, nextVictim, park, parkedAt, probationVisits, putBack, raised, refile, refiled, restamp, returnLapsed, seek, setAside, settled, sought, stale, stamp, takeOut, takeUp, untouched, visitsLeft}
 use Rattle.rules.specs.Lent.{AddrFits, Bytes, Small}
 use Rattle.rules.proofs.RowLists.{by-cond, by-maybe, every-both, every-change, every-copy, every-insert, every-keep, every-map, every-mapped, every-without, length-change}
 use Rattle.rules.proofs.SoundTest.{RowOk, Sound}
@@ -168,15 +168,15 @@ pub room-sized : (B now w : ℕ) (s : State) → Sized B s → Sized B (makeRoom
 unfolding makeRoom
 room-sized B now w s h = settled-sized B _ (choose-sized B now _ _ _ h)
 
-evict-sized : (B n : ℕ) (w : Walk) → Sized B (w .state) → Sized B (evictProbation n w .state)
-unfolding evictProbation takeUp
-evict-sized B zero w h = h
-evict-sized B (suc n) w h = by-cond (λ (x : Walk). Sized B (x .state)) (ltb (probationCount (w .state)) (probationBound (w .state .maxEntries))) (λ e. h) (λ e. by-maybe (λ (x : Walk). Sized B (x .state)) (lowestStamp probation (w .state .rows)) (λ d. h) (λ i d.
-    by-cond (λ (f : ℕ → State → State). Sized B (evictProbation n (takeUp f i w) .state)) (stale (rowAt i (w .state .rows))) (λ a. evict-sized B n (takeUp restamp i w) (restamp-sized B i (w .state) h)) (λ a. evict-sized B n (takeUp takeOut i w) (takeOut-sized B i (w .state) h))))
+evict-sized : (B b n : ℕ) (w : Walk) → Sized B (w .state) → Sized B (evictBelow b n w .state)
+unfolding evictBelow takeUp
+evict-sized B b zero w h = h
+evict-sized B b (suc n) w h = by-cond (λ (x : Walk). Sized B (x .state)) (ltb (probationCount (w .state)) b) (λ e. h) (λ e. by-maybe (λ (x : Walk). Sized B (x .state)) (lowestStamp probation (w .state .rows)) (λ d. h) (λ i d.
+    by-cond (λ (f : ℕ → State → State). Sized B (evictBelow b n (takeUp f i w) .state)) (stale (rowAt i (w .state .rows))) (λ a. evict-sized B b n (takeUp restamp i w) (restamp-sized B i (w .state) h)) (λ a. evict-sized B b n (takeUp takeOut i w) (takeOut-sized B i (w .state) h))))
 
 pub probation-sized : (B : ℕ) (s : State) → Sized B s → Sized B (makeProbationRoom s .state)
 unfolding makeProbationRoom
-probation-sized B s h = evict-sized B (total probationVisits (s .rows)) (record { state = s; examined = 0 }) h
+probation-sized B s h = evict-sized B (probationLimit s) (total probationVisits (s .rows)) (record { state = s; examined = 0 }) h
 
 -- ---- a row enters where one is free
 

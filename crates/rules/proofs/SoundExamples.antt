@@ -4,8 +4,9 @@ use mathlib.Core.Path.{_≡_, refl}
 use mathlib.Core.List.{List, [], _∷_}
 use mathlib.Core.Bool.{true, false}
 use lib.ListN.{replicate}
-use Rattle.rules.specs.Records.{Row, State, maxRows}
+use Rattle.rules.specs.Records.{Row, State, maxRows, withHeld, withSeq}
 use Rattle.rules.specs.Sound.{sound}
+use Rattle.rules.specs.Refusals.{fresh}
 use Rattle.rules.proofs.Compute.{addr, path, seenFrom}
 
 -- a row of the key k: length, MTU mark, source, verified_until, place, stamp (first, q), weight
@@ -14,7 +15,7 @@ rowWith k len mark source until place first q w = record { key = addr k; entry =
 
 -- max_entries, seq, stored_weight, count
 holding : ℕ → ℕ → ℕ → ℕ → List Row → State
-holding m q stored count rs = record { maxEntries = m; defaultTtl = 300000; seq = q; storedWeight = stored; rowCount = count; rows = rs; rest = [] }
+holding m q stored count rs = withSeq q (withHeld stored count rs [] (fresh 0 m 300000 []))
 
 okRow : Row
 okRow = rowWith 1 1 0 1 0 0 0 5 16

@@ -10,7 +10,7 @@ use Rattle.types.specs.declared.node_addr.NodeAddr.{NodeAddr}
 use Rattle.types.specs.Addresses.{addrBefore}
 use Rattle.types.specs.Paths.{pathWeight, pathPlaces}
 use Rattle.rules.specs.Cases.{Every}
-use Rattle.rules.specs.Records.{Row, State, mainBound, parked, probation, probationBound, maxRows, weightLimit}
+use Rattle.rules.specs.Records.{Row, State, mainLimit, parked, probation, probationLimit, maxRows, weightLimit}
 use Rattle.rules.specs.Rows.{atPlace, mainCount, mainWeight, probationCount}
 use Rattle.rules.specs.Sound.{all, ascends, fromVerified, leads, legal, rowSound, sound, sourced, weighed}
 use Rattle.rules.proofs.Addresses.{before-trans, contradiction}
@@ -55,9 +55,9 @@ pub record RowOk (q : ℕ) (r : Row) : Type 0 where
 
 pub record Sound (R : ℕ) (s : State) : Type 0 where
   pub small : R ≤ maxRows
-  pub space : s .maxEntries + probationBound (s .maxEntries) ≤ R
-  pub mains : mainCount s ≤ mainBound R (s .maxEntries)
-  pub probations : probationCount s ≤ probationBound (s .maxEntries)
+  pub space : s .maxEntries + probationLimit s ≤ R
+  pub mains : mainCount s ≤ mainLimit R s
+  pub probations : probationCount s ≤ probationLimit s
   pub counted : s .rowCount ≡ length (s .rows)
   pub storedWeight : s .storedWeight ≡ mainWeight s
   pub rising : Rising (cores (s .rows))

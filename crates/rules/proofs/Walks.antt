@@ -17,6 +17,7 @@ use Rattle.rules.specs.Entries.{verified}
 use Rattle.rules.specs.Room.{Chosen, Room, Sought, Walk, atNewPlace, chooseVictims, hasRoom, mainVisits, makeRoom, nextVictim, park, parkedAt, putBack, raised, refiled, restamp, returnLapsed, roomCanBeMade, seek, setAside, settled, sought, stale, stamp, takeUp, untouched, verifiedInMain, visitsLeft}
 use Rattle.rules.proofs.Addresses.{contradiction}
 use Rattle.rules.proofs.RowLists.{Core, Rising, by-cond, by-maybe, change-cores, core, cores, every-all, every-change, every-keep, every-kept, every-map, every-mapped, every-three, every-turned, look, look-keep, lowest-at, lowest-none, map-cores, of-cores, rising-keep, to-cores, total-change, total-keep-le, total-le, total-map, total-same, total-twice, total-zero}
+use Rattle.rules.proofs.Limits.{limitsOf, maxOf}
 use Rattle.rules.proofs.SoundTest.{RowOk, and-both, and-case}
 
 -- ---- places
@@ -117,8 +118,7 @@ aside-turn now q r h t v =
 -- ---- what a walk that began at s keeps
 
 pub record Led (now : ℕ) (s : State) (w : Walk) : Type 0 where
-  pub maxEntries : w .state .maxEntries ≡ s .maxEntries
-  pub defaultTtl : w .state .defaultTtl ≡ s .defaultTtl
+  pub limits : limitsOf (w .state) ≡ limitsOf s
   pub same : cores (w .state .rows) ≡ cores (s .rows)
   pub each : Every (Going now (w .state .seq)) (w .state .rows)
   pub done : w .examined + visitsLeft now w ≡ total (mainVisits now) (s .rows)
@@ -134,15 +134,14 @@ going-later now q q′ r l g = let o = g .ok in
 
 module _ (now : ℕ) (s : State) where
   led-turn : (w w′ : Walk) (i : ℕ) (f : Row → Row) → Led now s w → i < length (w .state .rows) → Turn now (w .state .seq) (w′ .state .seq) (rowAt i (w .state .rows)) (f (rowAt i (w .state .rows)))
-      → w′ .state .maxEntries ≡ w .state .maxEntries → w′ .state .defaultTtl ≡ w .state .defaultTtl → w′ .state .rows ≡ changeRow f i (w .state .rows) → w .state .seq ≤ w′ .state .seq → w′ .state .seq ≤ w .state .seq + 1 → w′ .examined ≡ w .examined + 1
+      → limitsOf (w′ .state) ≡ limitsOf (w .state) → w′ .state .rows ≡ changeRow f i (w .state .rows) → w .state .seq ≤ w′ .state .seq → w′ .state .seq ≤ w .state .seq + 1 → w′ .examined ≡ w .examined + 1
       → Led now s w′
-  led-turn w w′ i f h l t m tt′ e a b c =
+  led-turn w w′ i f h l t m e a b c =
       let rs = w .state .rows in
       let r = rowAt i rs in
       let keeps : (g : Row → ℕ) → g (f r) ≡ g r → total g (w′ .state .rows) ≡ total g rs = λ g q. rw e (omega (arith, total-change g f i rs l)) in
       record {
-        maxEntries = m ∙ h .maxEntries;
-        defaultTtl = tt′ ∙ h .defaultTtl;
+        limits = m ∙ h .limits;
         same = rw e (change-cores f i rs (t .same) ∙ h .same);
         each = rw e (every-turned (Going now (w .state .seq)) (Going now (w′ .state .seq)) f i rs (λ x g. going-later now (w .state .seq) (w′ .state .seq) x a g) (t .going) (h .each));
         done = rw e (omega (arith, h .done, total-change (mainVisits now) f i rs l, t .left));
@@ -162,17 +161,17 @@ module _ (now : ℕ) (s : State) where
   led-restamp w i l m t h =
       let r = rowAt i (w .state .rows) in
       let q = w .state .seq in
-      led-turn w (takeUp restamp i w) i (λ x. refiled (q + 1) (x .entry) (x .weight) x) h l (subst (Turn now q (q + 1) r) (sym (refiled-main (q + 1) r m)) (filed-turn now q r m t)) refl refl refl (omega arith) (omega arith) refl
+      led-turn w (takeUp restamp i w) i (λ x. refiled (q + 1) (x .entry) (x .weight) x) h l (subst (Turn now q (q + 1) r) (sym (refiled-main (q + 1) r m)) (filed-turn now q r m t)) refl refl (omega arith) (omega arith) refl
 
   led-park : (w : Walk) (i : ℕ) → i < length (w .state .rows) → atPlace byUse (rowAt i (w .state .rows)) ≡ true → mainVisits now (rowAt i (w .state .rows)) ≡ 1 → verified now (rowAt i (w .state .rows) .entry) ≡ true → Led now s w → Led now s (takeUp park i w)
   unfolding takeUp park stamp withRows raised
   led-park w i l m t v h =
-      led-turn w (takeUp park i w) i (parkedAt (w .state .seq + 1)) h l (parked-turn now (w .state .seq) (rowAt i (w .state .rows)) m t v) refl refl refl (omega arith) (omega arith) refl
+      led-turn w (takeUp park i w) i (parkedAt (w .state .seq + 1)) h l (parked-turn now (w .state .seq) (rowAt i (w .state .rows)) m t v) refl refl (omega arith) (omega arith) refl
 
   led-aside : (w : Walk) (i : ℕ) → i < length (w .state .rows) → atPlace byUse (rowAt i (w .state .rows)) ≡ true → mainVisits now (rowAt i (w .state .rows)) ≡ 1 → verified now (rowAt i (w .state .rows) .entry) ≡ false → Led now s w → Led now s (setAside i (takeUp untouched i w))
   unfolding takeUp untouched setAside withRows
   led-aside w i l m t v h =
-      led-turn w (setAside i (takeUp untouched i w)) i (atNewPlace aside) h l (aside-turn now (w .state .seq) (rowAt i (w .state .rows)) m t v) refl refl refl (omega arith) (omega arith) refl
+      led-turn w (setAside i (takeUp untouched i w)) i (atNewPlace aside) h l (aside-turn now (w .state .seq) (rowAt i (w .state .rows)) m t v) refl refl (omega arith) (omega arith) refl
 
 -- the turns that are left to a row
 pub turns-stale : (now : ℕ) (r : Row) → atPlace byUse r ≡ true → stale r ≡ true → mainVisits now r ≡ 2
@@ -386,7 +385,7 @@ choose-led now w s (suc n) v h =
     record { led = c .led; fits = c .fits; exact = λ l. c .exact (omega (arith, y .1)) }))
   where
     roomy : ltb (mainCount (v .state)) (v .state .maxEntries) && leb (mainWeight (v .state) + w) (weightBound (v .state .maxEntries)) ≡ true → roomTest now w s ≡ true
-    roomy e = rw (← h .firms, ← h .loads, ← h .maxEntries) (test-mono (countRows (verifiedInMain now) (v .state .rows)) (mainCount (v .state)) (weighRows (verifiedInMain now) (v .state .rows)) (mainWeight (v .state)) w (v .state .maxEntries) (weightBound (v .state .maxEntries))
+    roomy e = rw (← h .firms, ← h .loads, ← ap maxOf (h .limits)) (test-mono (countRows (verifiedInMain now) (v .state .rows)) (mainCount (v .state)) (weighRows (verifiedInMain now) (v .state .rows)) (mainWeight (v .state)) w (v .state .maxEntries) (weightBound (v .state .maxEntries))
         (total-le (λ r. cond (verifiedInMain now r) 1 0) (λ r. cond (inMain r) 1 0) (verified-main now 1) (v .state .rows)) (total-le (λ r. cond (verifiedInMain now r) (r .weight) 0) (λ r. cond (inMain r) (r .weight) 0) (λ r. verified-main now (r .weight) r) (v .state .rows)) e)
 
     stuck : (x : Walk) → Stuck now s v x → ltb (mainCount (v .state)) (v .state .maxEntries) && leb (mainWeight (v .state) + w) (weightBound (v .state .maxEntries)) ≡ roomTest now w s
@@ -394,7 +393,7 @@ choose-led now w s (suc n) v h =
         let firmly : Every (λ r. inMain r ≡ verifiedInMain now r) (x .state .rows) = every-three (λ r g a b. main-verified now (x .state .seq) r g a b) (x .state .rows) (u .led .each) (u .none-by-use) (u .calm) in
         let c : mainCount (v .state) ≡ countRows (verifiedInMain now) (s .rows) = sym (u .mains) ∙ total-same (λ r. cond (inMain r) 1 0) (λ r. cond (verifiedInMain now r) 1 0) (x .state .rows) (every-map (λ r e. ap (λ b. cond b 1 0) e) (x .state .rows) firmly) ∙ u .led .firms in
         let d : mainWeight (v .state) ≡ weighRows (verifiedInMain now) (s .rows) = sym (u .weights) ∙ total-same (λ r. cond (inMain r) (r .weight) 0) (λ r. cond (verifiedInMain now r) (r .weight) 0) (x .state .rows) (every-map (λ r e. ap (λ b. cond b (r .weight) 0) e) (x .state .rows) firmly) ∙ u .led .loads in
-        rw (c, d, h .maxEntries)
+        rw (c, d, ap maxOf (h .limits))
 
 -- ---- room
 
@@ -423,8 +422,7 @@ ok-back q r h = back-not r (not-at aside r (λ e. let z : ⊥ = omega (arith, h 
 
 pub start-led : (now : ℕ) (s : State) → Ready s → Led now s (record { state = s; examined = 0 })
 start-led now s h = record {
-  maxEntries = refl;
-  defaultTtl = refl;
+  limits = refl;
   same = refl;
   each = every-map (λ r o. record { ok = subst (RowOk (s .seq)) (sym (ok-back (s .seq) r o)) o; spared = λ e. absurd (let p = place-is aside r e in let z : ⊥ = omega (arith, o .place) in z) }) (s .rows) (h .each);
   done = omega arith;
@@ -447,8 +445,7 @@ turns-main now r = go (atPlace byUse r) refl (stale r) (atPlace parked r) refl (
     go false e b false f d = omega arith
 
 pub record Roomed (now w : ℕ) (s : State) (m : Room) : Type 1 where
-  pub maxEntries : m .state .maxEntries ≡ s .maxEntries
-  pub defaultTtl : m .state .defaultTtl ≡ s .defaultTtl
+  pub limits : limitsOf (m .state) ≡ limitsOf s
   pub keeps : (P : Core → Type 0) → Every P (cores (s .rows)) → Every P (cores (m .state .rows))
   pub spares : (k : NodeAddr) (x : Core) → verified now (x .entry) ≡ true → look k (cores (s .rows)) ≡ some x → look k (cores (m .state .rows)) ≡ some x
   pub each : Every (RowOk (m .state .seq)) (m .state .rows)
@@ -505,8 +502,7 @@ room-roomed now w s h =
     let l = k .led in
     let rs = c .walk .state .rows in
     record {
-      maxEntries = l .maxEntries;
-      defaultTtl = l .defaultTtl;
+      limits = l .limits;
       keeps = λ P g. remains-keeps (c .made) rs P (rw (l .same) g);
       spares = λ j x v e. remains-spares now (c .walk .state .seq) (c .made) rs (l .each) j x v (rw (l .same) e);
       each = remains-each now (c .walk .state .seq) (c .made) rs (l .each);
@@ -515,7 +511,7 @@ room-roomed now w s h =
       storedWeight = refl;
       mains = omega (arith, remains-mains (c .made) rs, l .mains);
       probations = omega (arith, remains-visits (c .made) rs, l .probations);
-      few = λ e. few c (k .fits e) (l .maxEntries) e;
+      few = λ e. few c (k .fits e) (ap maxOf (l .limits)) e;
       exact = k .exact (omega arith);
       seen = omega (arith, l .done, total-twice (mainVisits now) (λ r. cond (inMain r) 1 0) (turns-main now) (s .rows));
       stamps = l .stamps;

@@ -42,6 +42,15 @@ pub record State : Type 0 where
   pub rows : List Row
   pub rest : List ℕ
 
+-- ---- a state with some fields changed; every change of a state is made of these two
+
+unfoldable pub withSeq : ℕ → State → State
+withSeq v s = record { maxEntries = s .maxEntries; defaultTtl = s .defaultTtl; seq = v; storedWeight = s .storedWeight; rowCount = s .rowCount; rows = s .rows; rest = s .rest }
+
+-- the stored weight, the row count, the rows held, and all bytes past them
+abbrev pub withHeld : ℕ → ℕ → List Row → List ℕ → State → State
+withHeld w n rs past s = record { maxEntries = s .maxEntries; defaultTtl = s .defaultTtl; seq = s .seq; storedWeight = w; rowCount = n; rows = rs; rest = past }
+
 -- ---- codes: numbers, so that every byte of the memory is seen, also one that names no kind
 
 -- places
@@ -106,6 +115,10 @@ weightBound m = addrsPerEntry * m
 abbrev pub probationBound : ℕ → ℕ
 probationBound m = max (m / probationDivisor) 1
 
--- M = R − Q
-abbrev pub mainBound : ℕ → ℕ → ℕ
-mainBound R m = R - probationBound m
+-- Q of a state
+abbrev pub probationLimit : State → ℕ
+probationLimit s = probationBound (s .maxEntries)
+
+-- M = R − Q, of a state of R rows
+abbrev pub mainLimit : ℕ → State → ℕ
+mainLimit R s = R - probationLimit s

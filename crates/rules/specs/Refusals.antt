@@ -11,7 +11,7 @@ use Rattle.types.specs.Addresses.{sameAddr}
 use Rattle.types.specs.Paths.{pathPlaces, contains, rootOf, startsAt, pathWeight}
 use Rattle.types.specs.declared.placed.Funding.the-variants.{Uncharged}
 use Rattle.rules.specs.Cases.{maybe}
-use Rattle.rules.specs.Records.{Entry, Row, State, maxRows, probationBound, mainBound}
+use Rattle.rules.specs.Records.{Entry, Row, State, maxRows, probationBound, mainLimit}
 use Rattle.rules.specs.Rows.{rowAt, inMain, find, mainCount, zeroRows, withOnlyRows}
 use Rattle.rules.specs.Sound.{sound}
 use Rattle.rules.specs.Entries.{expired}
@@ -50,7 +50,7 @@ keyInMain k s = maybe (find k (s .rows)) false (λ i. inMain (rowAt i (s .rows))
 
 -- 4: key not in main, M main rows taken, room can't be made
 unfoldable pub noPlaceFor : ℕ → State → VerifiedWrite → Bool
-noPlaceFor R s v = not (keyInMain (v .key) s) && (leb (mainBound R (s .maxEntries)) (mainCount s) && not (roomCanBeMade (v .time) (pathWeight (v .path)) (withoutKey (v .key) s)))
+noPlaceFor R s v = not (keyInMain (v .key) s) && (leb (mainLimit R s) (mainCount s) && not (roomCanBeMade (v .time) (pathWeight (v .path)) (withoutKey (v .key) s)))
 
 -- a number, and whether it is given
 pub record Reason : Type 0 where

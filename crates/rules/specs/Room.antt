@@ -7,7 +7,7 @@ use lib.Dec.{ltb, leb, eqb}
 use lib.ListN.{length, drop}
 use Rattle.types.specs.declared.node_addr.NodeAddr.{NodeAddr}
 use Rattle.rules.specs.Cases.{maybe}
-use Rattle.rules.specs.Records.{Entry, Row, State, byUse, parked, probation, aside, weightBound, probationBound}
+use Rattle.rules.specs.Records.{Entry, Row, State, byUse, parked, probation, aside, weightBound, probationLimit, withHeld, withSeq}
 use Rattle.rules.specs.Rows.{rowAt, atPlace, inMain, lowestStamp, changeRow, withoutRow, keepRows, insertInOrder, total, countRows, weighRows, mainCount, mainWeight, probationCount, withRows, withOnlyRows}
 use Rattle.rules.specs.Entries.{verified}
 use Rattle.rules.specs.Layout.{rowSize}
@@ -24,7 +24,8 @@ parkedAt q r = record { key = r .key; entry = r .entry; place = parked; stampFir
 
 -- each new stamp raises seq by 1 and uses it
 unfoldable pub raised : State → State
-raised s = record { maxEntries = s .maxEntries; defaultTtl = s .defaultTtl; seq = s .seq + 1; storedWeight = s .storedWeight; rowCount = s .rowCount; rows = s .rows; rest = s .rest }
+unfolding withSeq
+raised s = withSeq (s .seq + 1) s
 
 -- row i is changed, at a new stamp
 unfoldable pub stamp : (ℕ → Row → Row) → ℕ → State → State
@@ -44,9 +45,10 @@ park i s = stamp parkedAt i s
 
 -- a new row filed at place p, stamped with last_used, in the order of keys
 unfoldable pub fileNew : NodeAddr → Entry → ℕ → ℕ → State → State
+unfolding raised
 fileNew k e w p s =
     let rs = insertInOrder (record { key = k; entry = e; place = p; stampFirst = e .lastUsed; stampSeq = s .seq + 1; weight = w }) (s .rows) in
-    record { maxEntries = s .maxEntries; defaultTtl = s .defaultTtl; seq = s .seq + 1; storedWeight = weighRows inMain rs; rowCount = length rs; rows = rs; rest = drop rowSize (s .rest) }
+    withHeld (weighRows inMain rs) (length rs) rs (drop rowSize (s .rest)) (raised s)
 
 -- row i out
 unfoldable pub takeOut : ℕ → State → State
@@ -166,12 +168,13 @@ roomCanBeMade now w s = ltb (countRows (verifiedInMain now) (s .rows)) (s .maxEn
 unfoldable pub probationVisits : Row → ℕ
 probationVisits r = cond (atPlace probation r) (cond (stale r) 2 1) 0
 
--- while probation rows ≥ Q the lowest stamp is taken up, restamped if stale, otherwise removed
-unfoldable pub evictProbation : ℕ → Walk → Walk
-evictProbation zero w = w
-evictProbation (suc n) w =
-    let more = maybe (lowestStamp probation (w .state .rows)) w (λ i. evictProbation n (takeUp (cond (stale (rowAt i (w .state .rows))) restamp takeOut) i w)) in
-    cond (ltb (probationCount (w .state)) (probationBound (w .state .maxEntries))) w more
+-- while probation rows ≥ b the lowest stamp is taken up, restamped if stale, otherwise removed
+unfoldable pub evictBelow : ℕ → ℕ → Walk → Walk
+evictBelow b zero w = w
+evictBelow b (suc n) w =
+    let more = maybe (lowestStamp probation (w .state .rows)) w (λ i. evictBelow b n (takeUp (cond (stale (rowAt i (w .state .rows))) restamp takeOut) i w)) in
+    cond (ltb (probationCount (w .state)) b) w more
 
+-- while probation rows ≥ Q
 unfoldable pub makeProbationRoom : State → Walk
-makeProbationRoom s = evictProbation (total probationVisits (s .rows)) (record { state = s; examined = 0 })
+makeProbationRoom s = evictBelow (probationLimit s) (total probationVisits (s .rows)) (record { state = s; examined = 0 })

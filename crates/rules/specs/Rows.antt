@@ -8,7 +8,7 @@ use lib.ListN.{length, getD, replicate}
 use Rattle.types.specs.declared.node_addr.NodeAddr.{NodeAddr}
 use Rattle.types.specs.Addresses.{sameAddr, addrBefore}
 use Rattle.types.specs.Paths.{emptyPath}
-use Rattle.rules.specs.Records.{Row, State, probation}
+use Rattle.rules.specs.Records.{Row, State, probation, withHeld}
 use Rattle.rules.specs.Layout.{rowSize}
 
 -- what stands past the last row; nothing reads it
@@ -106,8 +106,8 @@ zeroRows n = replicate (n * rowSize) 0
 
 -- rows changed in place
 unfoldable pub withRows : List Row → State → State
-withRows rs s = record { maxEntries = s .maxEntries; defaultTtl = s .defaultTtl; seq = s .seq; storedWeight = s .storedWeight; rowCount = s .rowCount; rows = rs; rest = s .rest }
+withRows rs s = withHeld (s .storedWeight) (s .rowCount) rs (s .rest) s
 
 -- only these rows stay; each row vacated at the end becomes zero, and what is beyond that stays
 unfoldable pub withOnlyRows : List Row → State → State
-withOnlyRows rs s = record { maxEntries = s .maxEntries; defaultTtl = s .defaultTtl; seq = s .seq; storedWeight = weighRows inMain rs; rowCount = length rs; rows = rs; rest = zeroRows (length (s .rows) - length rs) ++ s .rest }
+withOnlyRows rs s = withHeld (weighRows inMain rs) (length rs) rs (zeroRows (length (s .rows) - length rs) ++ s .rest) s

@@ -6,7 +6,7 @@ use lib.Dec.{ltb, leb, eqb}
 use lib.ListN.{length}
 use Rattle.types.specs.Addresses.{addrBefore}
 use Rattle.types.specs.Paths.{pathPlaces, pathWeight}
-use Rattle.rules.specs.Records.{Entry, Row, State, parked, probation, hintSource, verifiedSource, someMtu, maxRows, probationBound, mainBound, weightLimit}
+use Rattle.rules.specs.Records.{Entry, Row, State, parked, probation, hintSource, verifiedSource, someMtu, maxRows, probationLimit, mainLimit, weightLimit}
 use Rattle.rules.specs.Rows.{atPlace, mainCount, mainWeight, probationCount}
 
 -- the row's key stands before the first of these
@@ -49,9 +49,9 @@ rowSound q r = legal r && (weighed r && (leb (r .stampSeq) q && sourced r))
 unfoldable pub sound : ℕ → State → Bool
 sound R s =
     leb R maxRows
-    && (leb (s .maxEntries + probationBound (s .maxEntries)) R
-    && (leb (mainCount s) (mainBound R (s .maxEntries))
-    && (leb (probationCount s) (probationBound (s .maxEntries))
+    && (leb (s .maxEntries + probationLimit s) R
+    && (leb (mainCount s) (mainLimit R s)
+    && (leb (probationCount s) (probationLimit s)
     && (eqb (s .rowCount) (length (s .rows))
     && (eqb (s .storedWeight) (mainWeight s)
     && (ascends (s .rows)

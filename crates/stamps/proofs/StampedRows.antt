@@ -4,11 +4,11 @@ use Prim.Native.Nat.{ℕ, _+_}
 use mathlib.Core.List.{List}
 use mathlib.Core.Bool.{cond}
 use lib.Dec.{ltb}
-use Rattle.rules.specs.Records.{Row, State, byUse, probation}
+use Rattle.rules.specs.Records.{Row, State, byUse, probation, withSeq}
 use Rattle.rules.specs.Rows.{rowAt, inMain, changeRow, withRows}
 use Rattle.rules.specs.Room.{stamp, raised, refiled, parkedAt, restamp, park}
 use Rattle.rules.proofs.RowLists.{change-at}
-use Rattle.memory.specs.Edits.{withSeq, stampedAs}
+use Rattle.memory.specs.Edits.{stampedAs}
 
 pub drawn : (i p f q : ℕ) (s t x : State) → q ≡ s .seq + 1 → t ≡ withSeq q s → x ≡ withRows (changeRow (stampedAs p f q) i (t .rows)) t → x ≡ stamp (stampedAs p f) i s
 unfolding stamp raised withRows withSeq

@@ -8,7 +8,7 @@ use lib.Dec.{ltb, leb, eqb}
 use lib.ListN.{length, drop, drop-of-length-le}
 use borrow.Author.Tests.{leb-true, leb-false, lt-leb, eq-eqb, ne-eqb, not-true, not-false}
 use Rattle.types.proofs.PathLaws.{uncons}
-use Rattle.rules.specs.Records.{Row, State, maxRows, probationBound, mainBound}
+use Rattle.rules.specs.Records.{Row, State, maxRows, probationBound, probationLimit, mainLimit}
 use Rattle.rules.specs.Rows.{rowAt, blankRow, atPlace, inMain, inProbation, countRows, weighRows}
 use Rattle.rules.specs.Sound.{leads, ascends, all, rowSound, sound}
 use Rattle.rules.specs.Memory.{capacity, heldRows, viewRows, view}
@@ -122,7 +122,7 @@ head-facts e = and-case _ _ e (λ a f. and-case _ _ f (λ b c. record { small = 
 -- no state of no rows is sound
 pub none-sound : (s : State) → sound 0 s ≡ false
 unfolding sound
-none-sound s = let h : 0 < s .maxEntries + probationBound (s .maxEntries) = omega arith in simp (lt-leb _ _ h)
+none-sound s = let h : 0 < s .maxEntries + probationLimit s = omega arith in simp (lt-leb _ _ h)
 
 -- the head's count is the number of rows held exactly where they are there
 count-held : (c R : ℕ) → eqb c (min c R) ≡ leb c R
@@ -145,7 +145,7 @@ abbrev pub headed : List ℕ → Bool
 headed l = headSound (capacity l) (viewRows 0 l .maxEntries) (viewRows 0 l .rowCount)
 
 abbrev pub rowed : List ℕ → Bool
-rowed l = rowsSound (mainBound (capacity l) (viewRows 0 l .maxEntries)) (probationBound (viewRows 0 l .maxEntries)) (viewRows 0 l .seq) (viewRows 0 l .storedWeight) (view l .rows)
+rowed l = rowsSound (mainLimit (capacity l) (viewRows 0 l)) (probationLimit (viewRows 0 l)) (viewRows 0 l .seq) (viewRows 0 l .storedWeight) (view l .rows)
 
 pub sound-parts : (l : List ℕ) → sound (capacity l) (view l) ≡ (headed l && rowed l)
 unfolding sound headSound rowsSound view viewRows heldRows

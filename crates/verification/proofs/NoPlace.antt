@@ -9,7 +9,7 @@ use lib.ListN.{length}
 use borrow.Author.Tests.{le-leb, lt-leb}
 use Rattle.types.specs.declared.node_addr.NodeAddr.{NodeAddr}
 use Rattle.types.specs.Paths.{pathWeight}
-use Rattle.rules.specs.Records.{State, mainBound, probationBound}
+use Rattle.rules.specs.Records.{State, mainLimit, probationBound, probationLimit}
 use Rattle.rules.specs.Rows.{rowAt, inMain, mainCount}
 use Rattle.rules.specs.Sound.{sound, ascends}
 use Rattle.rules.specs.Room.{roomCanBeMade}
@@ -49,9 +49,9 @@ absent-in-main k s {i} {r} f g = rw (missing k (s .rows) i r f g)
 
 -- Q is at most R, and M is what is left
 pub bound-is : (n : ℕ) (l : List ℕ) {rows max q : ℕ} → sound (capacity l) (viewRows n l) ≡ true → rows ≡ capacity l → max ≡ viewRows 0 l .maxEntries
-    → q ≡ probationBound max → (q ≤ rows) × (rows - q ≡ mainBound (capacity l) (viewRows n l .maxEntries))
+    → q ≡ probationBound max → (q ≤ rows) × (rows - q ≡ mainLimit (capacity l) (viewRows n l))
 bound-is n l {rows} {max} {q} h er em eq =
-    let e : q ≡ probationBound (viewRows n l .maxEntries) = eq ∙ ap probationBound (em ∙ same-head 0 n l .maxEntries) in
+    let e : q ≡ probationLimit (viewRows n l) = eq ∙ ap probationBound (em ∙ same-head 0 n l .maxEntries) in
     (omega (arith, shown n l h .space), rw (er, e))
 
 -- ---- the three questions, in the code's order
@@ -61,7 +61,7 @@ module _ (R : ℕ) (s : State) (v : VerifiedWrite) {a : Bool} (e : a ≡ keyInMa
   unfolding noPlaceFor
   held-place h = rw (sym e ∙ h)
 
-  module _ {c b : ℕ} (h : a ≡ false) (ec : c ≡ mainCount s) (eb : b ≡ mainBound R (s .maxEntries)) where
+  module _ {c b : ℕ} (h : a ≡ false) (ec : c ≡ mainCount s) (eb : b ≡ mainLimit R s) where
     pub free-place : c < b → false ≡ noPlaceFor R s v
     unfolding noPlaceFor
     free-place l = rw (sym e ∙ h, ← ec, ← eb, lt-leb b c l)

@@ -12,7 +12,7 @@ use Rattle.types.specs.Paths.{pathWeight}
 use Rattle.types.specs.declared.entry.PathMtu.{PathMtu}
 use Rattle.types.specs.declared.entry.PathMtu.the-variants.{Unknown, Known}
 use Rattle.types.specs.declared.placed.VerifiedInsert.{VerifiedInsert}
-use Rattle.rules.specs.Records.{Entry, State, mainBound}
+use Rattle.rules.specs.Records.{Entry, State, mainLimit}
 use Rattle.rules.specs.Rows.{rowAt, total, mainCount}
 use Rattle.rules.specs.Sound.{sound}
 use Rattle.rules.specs.Entries.{newEntry, update, markVerified, setMtu}
@@ -100,7 +100,7 @@ module _ {k : NodeAddr} {p : Path} {n r w : ℕ} {l m : List ℕ} (o : KeyOut k 
   room-asked q = room-asks t r m (without .sound) (seq-out q)
 
   main-free : noPlaceFor (capacity l) (viewRows n l) (record { key = k; path = p; time = t }) ≡ false
-      → mainCount (makeRoom t w (viewRows r m) .state) < mainBound (capacity m) (makeRoom t w (viewRows r m) .state .maxEntries)
+      → mainCount (makeRoom t w (viewRows r m) .state) < mainLimit (capacity m) (makeRoom t w (viewRows r m) .state)
   main-free f = rw (o .weight, capacity-same l m (o .reached .size), o .reached .state) (verified-free (capacity l) k p t (viewRows n l) (shown n l (o .sound)) f)
 
   -- a, and memory z, tell the room that was sought

@@ -10,7 +10,7 @@ use types::coord::Path;
 use types::node_addr::NodeAddr;
 ghost use mathlib.Core.Path.{_≡_};
 ghost use mathlib.Core.Bool.{true};
-ghost use Rattle.rules.specs.Records.{mainBound};
+ghost use Rattle.rules.specs.Records.{mainLimit};
 ghost use Rattle.rules.specs.Sound.{sound};
 ghost use Rattle.rules.specs.Refusals.{keyInMain, noPlaceFor};
 ghost use Rattle.rules.specs.Memory.{capacity, viewRows};
@@ -29,7 +29,7 @@ fn key_in_main(state: &[u8], n: usize, key: NodeAddr) -> bool
 // M.
 fn main_bound(state: &[u8], n: usize) -> u64
     requires { ⌜ sound (capacity (now state)) (viewRows n (now state)) ≡ true ⌝ }
-    ensures { λ r. ⌜ r ≡ mainBound (capacity (now (state .entry))) (viewRows n (now (state .entry)) .maxEntries) ⌝ }
+    ensures { λ r. ⌜ r ≡ mainLimit (capacity (now (state .entry))) (viewRows n (now (state .entry))) ⌝ }
 {
     let rows = head::rows_that_fit(state) as u64;
     rows - probation_bound(head::max_entries(state))

@@ -2,7 +2,7 @@
 use mathlib.Core.Path.{refl}
 use borrow.Author.Needs.{needs}
 use Rattle.rules.specs.Layout.{seqOffset}
-use Rattle.memory.specs.Edits.{withSeq}
+use Rattle.rules.specs.Records.{withSeq}
 use Rattle.memory.proofs.Fields.{head-store, withHeadNumber}
 use Rattle.memory.proofs.head.set_seq.Statement.{statement}
 use Rattle.memory.proofs.head.set_seq.Tie as tie

@@ -1,4 +1,4 @@
--- In a sound state Q is at most R, so the subtraction does not underflow, and R - Q is mainBound.
+-- In a sound state Q is at most R, so the subtraction does not underflow, and R - Q is mainLimit.
 use native.Mathlib.Omega.{arith}
 use Rattle.verification.proofs.NoPlace.{bound-is}
 use borrow.Author.Needs.{needs}
