@@ -2,10 +2,11 @@
 
 mod common;
 
+use common::numbers::{ADDRESS, MOST_ENTRIES, PLACES, ROW_COUNT, WEIGHT_LIMIT};
 use common::{TTL, addr, fresh, number, z};
 use coordcache::{
-    CacheStats, CoordCache, CoordEntry, CoordSource, Funding, HintOutcome, MAX_PATH, NodeAddr, PROBATION_SHARE_DIVISOR, Path,
-    Placed, Refused, Segment, TreeCoordinate, VERIFIED_TTL_MS,
+    CacheStats, CoordCache, CoordEntry, CoordSource, Funding, HintOutcome, MAX_PATH, MAX_ROWS, NodeAddr, PROBATION_SHARE_DIVISOR,
+    Path, Placed, Refused, Segment, TreeCoordinate, VERIFIED_TTL_MS,
 };
 use {Funding::*, HintOutcome::*, Segment::*};
 
@@ -180,23 +181,26 @@ fn paths_that_differ_in_any_field_differ() {
 }
 
 #[test]
-fn thirty_two_elements_are_taken_and_33_refused() {
+fn as_many_elements_as_places_are_taken_and_one_more_refused() {
     let mut cache = fresh(8);
-    assert_eq!(told(cache.insert(addr(A), z(32), 0).unwrap()), (Inserted, 32, Main, false));
-    assert_eq!(cache.get(&addr(A), 0).unwrap(), &z(32));
-    assert_eq!(cache.insert(addr(A), z(33), 0), Err(Refused::PathLength));
-    assert_eq!(cache.get(&addr(A), 0).unwrap(), &z(32));
+    assert_eq!(told(cache.insert(addr(A), z(PLACES), 0).unwrap()), (Inserted, WEIGHT_LIMIT, Main, false));
+    assert_eq!(cache.get(&addr(A), 0).unwrap(), &z(PLACES));
+    assert_eq!(cache.insert(addr(A), z(PLACES + 1), 0), Err(Refused::PathLength));
+    assert_eq!(cache.get(&addr(A), 0).unwrap(), &z(PLACES));
 }
 
 #[test]
 fn addresses_from_slices() {
-    assert_eq!(NodeAddr::from_slice(&[7; 16]), Ok(addr(7)));
-    for length in [0, 15, 17] {
+    assert_eq!(NodeAddr::from_slice(&[7; ADDRESS]), Ok(addr(7)));
+    for length in [0, ADDRESS - 1, ADDRESS + 1] {
         assert_eq!(NodeAddr::from_slice(&vec![7; length]).unwrap_err().0, length);
     }
     assert_eq!(addr(7).as_slice(), addr(7).as_bytes());
-    assert_eq!(AsRef::<[u8]>::as_ref(&addr(7)), [7; 16]);
-    assert_eq!(format!("{} {:?}", addr(0x0f), addr(0xf0)), format!("{} NodeAddr({})", "0f".repeat(16), "f0".repeat(16)));
+    assert_eq!(AsRef::<[u8]>::as_ref(&addr(7)), [7; ADDRESS]);
+    assert_eq!(
+        format!("{} {:?}", addr(0x0f), addr(0xf0)),
+        format!("{} NodeAddr({})", "0f".repeat(ADDRESS), "f0".repeat(ADDRESS))
+    );
 }
 
 // ---- calls
@@ -343,17 +347,21 @@ fn e_is_not_used() {
         }
     });
     let moved = std::thread::spawn(move || cache).join().unwrap();
-    assert_eq!(format!("{:?}", moved.clone()), "CoordCache { entries: 1, max_entries: 8, default_ttl_ms: 300000, rows: 1024 }");
+    assert_eq!(
+        format!("{:?}", moved.clone()),
+        format!("CoordCache {{ entries: 1, max_entries: 8, default_ttl_ms: 300000, rows: {MAX_ROWS} }}")
+    );
 }
 
 #[test]
 fn refusals_say_what_they_mean() {
+    let [long, most] = [format!("over {PLACES} elements"), format!("so max_entries is at most {MOST_ENTRIES}")];
     let all = [
         (Refused::NotSound, "not a sound cache"),
-        (Refused::PathLength, "over 32 elements"),
+        (Refused::PathLength, long.as_str()),
         (Refused::SequenceUsedUp, "sequence numbers are used up"),
         (Refused::NoMainRow, "all main rows are taken"),
-        (Refused::RowCount, "do not suit max_entries"),
+        (Refused::RowCount, most.as_str()),
         (Refused::FundingKind, "kind of funding is unknown"),
     ];
     for (number, (refused, means)) in (1..).zip(all) {
@@ -428,7 +436,7 @@ fn every_call_keeps_the_memory_sound() {
             refused += 1;
         }
         assert!(cache.is_sound());
-        assert!(cache.len() <= 12 && number(&cache, 32) as usize == cache.len());
+        assert!(cache.len() <= 12 && number(&cache, ROW_COUNT) as usize == cache.len());
     }
     assert!(refused > 0);
 }

@@ -2,6 +2,9 @@
 
 mod common;
 
+use common::numbers::{
+    DEFAULT_TTL_MS, ELEMENT, HEAD, KEY, MAX_ENTRIES, MOST_ENTRIES, PATH_PLACES, PLACES, ROW, ROW_COUNT, WEIGHT_LIMIT,
+};
 use common::{TTL, addr, fresh, number, z};
 use coordcache::{CoordCache, CoordError, Funding, HintOutcome, MAX_PATH, MAX_ROWS, Placed, Refused, Segment, TreeCoordinate};
 
@@ -107,8 +110,9 @@ fn refusal_5_of_rows_that_do_not_suit() {
     assert_eq!(refused(MAX_ROWS + 1, 1), Some(Refused::RowCount));
     assert_eq!(refused(usize::MAX, 1), Some(Refused::RowCount)); // no memory was asked for
     assert_eq!(refused(MAX_ROWS, usize::MAX), Some(Refused::RowCount));
-    assert_eq!(CoordCache::<()>::new(993, TTL).err(), None);
-    assert_eq!(CoordCache::<()>::new(994, TTL).err(), Some(Refused::RowCount));
+    let most = MOST_ENTRIES as usize;
+    assert_eq!(CoordCache::<()>::new(most, TTL).err(), None);
+    assert_eq!(CoordCache::<()>::new(most + 1, TTL).err(), Some(Refused::RowCount));
 }
 
 /// The memory is a head and rows, in the order of keys however they came.
@@ -120,11 +124,11 @@ fn lent_memory_has_rows_in_key_order() {
     }
     cache.remove(&addr(7));
     let memory = cache.as_bytes();
-    assert_eq!(memory.len(), 40 + 1024 * 1095);
-    assert_eq!([0, 8, 32].map(|at| number(&cache, at)), [8, TTL, 4]); // max_entries, default_ttl_ms, row count
-    let keys: Vec<u8> = memory[40..].chunks(1095).take(4).map(|row| row[0]).collect();
+    assert_eq!(memory.len(), HEAD + MAX_ROWS * ROW);
+    assert_eq!([MAX_ENTRIES, DEFAULT_TTL_MS, ROW_COUNT].map(|at| number(&cache, at)), [8, TTL, 4]);
+    let keys: Vec<u8> = memory[HEAD..].chunks(ROW).take(4).map(|row| row[KEY]).collect();
     assert_eq!(keys, [1, 3, 9, 0xff]);
-    assert!(memory[40 + 4 * 1095..].iter().all(|byte| *byte == 0));
+    assert!(memory[HEAD + 4 * ROW..].iter().all(|byte| *byte == 0));
 }
 
 #[test]
@@ -148,8 +152,8 @@ fn examined_counts_the_keys_taken_up() {
 #[test]
 fn insert_verified_answers_weight_and_examined() {
     let mut cache = fresh(8);
-    let answers = [1, 16, 17, 32].map(|elements| cache.insert_verified(addr(1), z(elements), 0).unwrap());
-    assert_eq!(answers.map(|answer| answer.weight), [16, 16, 17, 32]);
+    let answers = [1, 16, 17, PLACES].map(|elements| cache.insert_verified(addr(1), z(elements), 0).unwrap());
+    assert_eq!(answers.map(|answer| answer.weight), [16, 16, 17, WEIGHT_LIMIT]);
     assert_eq!(answers.map(|answer| answer.examined), [0; 4]);
     assert_eq!(cache.insert_verified_with_path_mtu(addr(1), z(20), 0, 1280).unwrap().weight, 20);
 }
@@ -163,9 +167,9 @@ fn get_and_get_and_touch_hand_out_a_part_of_the_memory() {
     let inside =
         |path: &coordcache::Path, cache: &CoordCache| path.as_bytes().as_ptr() as usize - cache.as_bytes().as_ptr() as usize;
     let got = cache.get(&addr(1), 0).unwrap();
-    assert_eq!((inside(got, &cache), got.as_bytes().len()), (40 + 17, 3 * 32));
+    assert_eq!((inside(got, &cache), got.as_bytes().len()), (HEAD + PATH_PLACES, 3 * ELEMENT));
     let second = cache.get(&addr(2), 0).unwrap();
-    assert_eq!((inside(second, &cache), second.as_bytes().len()), (40 + 1095 + 17, 2 * 32));
+    assert_eq!((inside(second, &cache), second.as_bytes().len()), (HEAD + ROW + PATH_PLACES, 2 * ELEMENT));
     let touched = cache.get_and_touch(&addr(2), 0).unwrap().as_bytes().as_ptr_range();
     let memory = cache.as_bytes().as_ptr_range();
     assert!(memory.start < touched.start && touched.end < memory.end);

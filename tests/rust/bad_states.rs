@@ -4,31 +4,19 @@
 //! the memory, and refuse none by 1 on a sound one. Fresh must make every one of them sound that has the rows.
 
 mod exported;
+mod functions;
+mod numbers;
 
-unsafe extern "C" {
-    fn stream_run(
-        state: *mut u8,
-        state_len: usize,
-        pending: *mut u8,
-        pending_len: usize,
-        input: *const u8,
-        input_len: usize,
-        last: u8,
-        output: *mut u8,
-        output_len: usize,
-        report: *mut u64,
-        report_len: usize,
-    );
-}
+use functions::stream_run;
+use numbers::*;
 
-const HEAD: usize = 40;
-const ROW: usize = 1095;
-const PENDING: usize = 1025;
+/// The bytes of a pending path.
+const PENDING: usize = PATH;
 
 /// Runs commands, and gives the lines.
 fn run(state: &mut [u8], pending: &mut [u8; PENDING], input: &[u8]) -> Vec<u8> {
     let mut output = [0u8; 1024];
-    let mut report = [0u64; 5];
+    let mut report = [0u64; REPORT];
     // SAFETY: each pointer comes with the length of what it points to, and nothing else points there
     unsafe {
         stream_run(
@@ -42,7 +30,7 @@ fn run(state: &mut [u8], pending: &mut [u8; PENDING], input: &[u8]) -> Vec<u8> {
             output.as_mut_ptr(),
             output.len(),
             report.as_mut_ptr(),
-            5,
+            REPORT,
         );
     }
     output[..report[1] as usize].to_vec()
@@ -50,45 +38,36 @@ fn run(state: &mut [u8], pending: &mut [u8; PENDING], input: &[u8]) -> Vec<u8> {
 
 // ---- document 01: when a state is sound
 
-fn number(bytes: &[u8]) -> u64 {
-    bytes.iter().rev().fold(0, |n, b| n << 8 | u64::from(*b))
-}
-
-/// Where the fields of a row stand (docs/PACKING.md), and how many bytes they have.
-const FIELDS: [(usize, usize); 12] =
-    [(16, 1), (1041, 8), (1049, 8), (1057, 8), (1065, 1), (1066, 2), (1068, 1), (1069, 8), (1077, 1), (1078, 8), (1086, 8), (1094, 1)];
-
 fn sound(memory: &[u8]) -> bool {
     if memory.len() < HEAD {
         return false;
     }
     let rows = ((memory.len() - HEAD) / ROW) as u64;
-    let head: Vec<u64> = (0..5).map(|i| number(&memory[8 * i..8 * i + 8])).collect();
-    let (max, seq, stored, count) = (head[0], head[2], head[3], head[4]);
-    let q = (max / 32).max(1);
-    if rows > 1024 || u128::from(rows) < u128::from(max) + u128::from(q) || count > rows {
+    let [max, seq, stored, count] = [MAX_ENTRIES, SEQ, STORED_WEIGHT, ROW_COUNT].map(|at| number(&memory[at..][..NUMBER]));
+    let q = (max / PROBATION_DIVISOR).max(1);
+    if rows > MAX_ROWS || u128::from(rows) < u128::from(max) + u128::from(q) || count > rows {
         return false;
     }
     let (mut main, mut probation, mut weights, mut before) = (0, 0, 0, None);
     for row in memory[HEAD..].chunks_exact(ROW).take(count as usize) {
-        let field = |at: usize, n: usize| number(&row[at..at + n]);
-        let (len, mark, source, until) = (field(16, 1), field(1065, 1), field(1068, 1), field(1069, 8));
-        let (place, first, stamp, weight) = (field(1077, 1), field(1078, 8), field(1086, 8), field(1094, 1));
-        let key = &row[..16];
+        let [len, mark, source, place, weight] = [PATH_LENGTH, MTU_MARK, SOURCE, PLACE, WEIGHT].map(|at| row[at]);
+        let [until, first, stamp] = [VERIFIED_UNTIL, STAMP_FIRST, STAMP_SEQ].map(|at| number(&row[at..][..NUMBER]));
+        let (length, weight) = (u64::from(len), u64::from(weight));
+        let key = &row[KEY..][..ADDRESS];
         if before.is_some_and(|b| b >= key) {
             return false;
         }
         before = Some(key);
-        let legal = place <= 2 && source <= 1 && mark <= 1 && (1..=32).contains(&len);
-        let weighed = len.max(16) <= weight && weight <= 32;
-        let verified = source == 0;
-        if !legal || !weighed || stamp > seq || !verified && until != 0 || place == 2 && verified {
+        let legal = place <= PROBATION && source <= HINT && mark <= SOME_MTU && (1..=PLACES).contains(&usize::from(len));
+        let weighed = length.max(ADDRS_PER_ENTRY) <= weight && weight <= WEIGHT_LIMIT;
+        let verified = source == VERIFIED;
+        if !legal || !weighed || stamp > seq || !verified && until != 0 || place == PROBATION && verified {
             return false;
         }
-        if place == 1 && !(verified && first == until) {
+        if place == PARKED && !(verified && first == until) {
             return false;
         }
-        if place == 2 {
+        if place == PROBATION {
             probation += 1;
         } else {
             main += 1;
@@ -100,8 +79,10 @@ fn sound(memory: &[u8]) -> bool {
 
 // ---- the states
 
-fn key(n: u8) -> [u8; 16] {
-    [n; 16]
+const TTL: u64 = 300_000;
+
+fn key(n: u8) -> Addr {
+    [n; ADDRESS]
 }
 
 fn command(code: u8, operands: &[&[u8]]) -> Vec<u8> {
@@ -111,7 +92,7 @@ fn command(code: u8, operands: &[&[u8]]) -> Vec<u8> {
 }
 
 fn element(n: u8) -> Vec<u8> {
-    command(0x01, &[&key(n), &7u64.to_le_bytes(), &9u64.to_le_bytes()])
+    command(code::ELEMENT, &[&key(n), &7u64.to_le_bytes(), &9u64.to_le_bytes()])
 }
 
 /// Four rows at max 2: a parked one, a hint and a verified one with an MTU by use, one on probation.
@@ -119,21 +100,21 @@ fn full_state() -> Vec<u8> {
     let mut state = vec![0xa5; HEAD + 4 * ROW + 11];
     let mut pending = [0; PENDING];
     let at = |t: u64| t.to_le_bytes();
-    let mut input = command(0x00, &[&2u16.to_le_bytes(), &at(300_000)]);
+    let mut input = command(code::FRESH, &[&2u16.to_le_bytes(), &at(TTL)]);
     for (code, n, t, more) in [
-        (0x14, 1, 0, vec![]),
-        (0x14, 2, 0, vec![]),
-        (0x12, 3, 1, [&[1u8][..], &at(16)].concat()),
-        (0x15, 4, 1, vec![0xdc, 5]),
+        (code::INSERT_VERIFIED, 1, 0, vec![]),
+        (code::INSERT_VERIFIED, 2, 0, vec![]),
+        (code::INSERT_FUNDED, 3, 1, [&[UPTO][..], &at(ADDRS_PER_ENTRY)].concat()),
+        (code::INSERT_VERIFIED_WITH_PATH_MTU, 4, 1, vec![0xdc, 5]),
     ] {
         input.extend(element(n));
         input.extend(command(code, &[&key(n), &at(t), &more]));
     }
-    input.extend(command(0x23, &[&key(2)]));
+    input.extend(command(code::DEMOTE, &[&key(2)]));
     let lines = run(&mut state, &mut pending, &input);
     let refused = lines.split(|b| *b == b'\n').any(|l| l.len() > 3 && l[3] != b'0');
-    let places: Vec<u8> = (0..4).map(|i| state[HEAD + i * ROW + 1077]).collect();
-    assert!(!refused && places == [1, 0, 2, 0], "the state was not made: {}", String::from_utf8_lossy(&lines));
+    let places: Vec<u8> = (0..4).map(|i| state[HEAD + i * ROW + PLACE]).collect();
+    assert!(!refused && places == [PARKED, BY_USE, PROBATION, BY_USE], "the state was not made: {}", String::from_utf8_lossy(&lines));
     state
 }
 
@@ -141,26 +122,31 @@ fn full_state() -> Vec<u8> {
 fn calls() -> Vec<Vec<u8>> {
     let t = 2u64.to_le_bytes();
     let (k, new) = (key(4), key(5));
-    let upto = [&[1u8][..], &40u64.to_le_bytes()].concat();
+    let upto = [&[UPTO][..], &40u64.to_le_bytes()].concat();
     vec![
-        command(0x10, &[&new, &t]),
-        command(0x11, &[&new, &t, &t]),
-        command(0x12, &[&k, &t, &upto]),
-        command(0x13, &[&k, &t, &upto]),
-        command(0x14, &[&k, &t]),
-        command(0x15, &[&new, &t, &[1, 2]]),
-        command(0x20, &[&k, &t]),
-        command(0x21, &[&k, &t]),
-        command(0x22, &[&k]),
-        command(0x23, &[&k]),
-        command(0x24, &[&k]),
-        command(0x30, &[&t]),
-        command(0x31, &[]),
-        command(0x32, &[&k]),
-        command(0x33, &[&k]),
-        command(0x40, &[&t]),
-        command(0x41, &[]),
+        command(code::INSERT, &[&new, &t]),
+        command(code::INSERT_WITH_TTL, &[&new, &t, &t]),
+        command(code::INSERT_FUNDED, &[&k, &t, &upto]),
+        command(code::INSERT_STATED, &[&k, &t, &upto]),
+        command(code::INSERT_VERIFIED, &[&k, &t]),
+        command(code::INSERT_VERIFIED_WITH_PATH_MTU, &[&new, &t, &[1, 2]]),
+        command(code::GET, &[&k, &t]),
+        command(code::GET_AND_TOUCH, &[&k, &t]),
+        command(code::REMOVE, &[&k]),
+        command(code::DEMOTE, &[&k]),
+        command(code::CLEAR_PATH_MTU, &[&k]),
+        command(code::PURGE_EXPIRED, &[&t]),
+        command(code::CLEAR, &[]),
+        command(code::INVALIDATE_VIA_NODE, &[&k]),
+        command(code::INVALIDATE_OTHER_ROOTS, &[&k]),
+        command(code::STATS, &[&t]),
+        command(code::NEXT_EXPIRY, &[]),
     ]
+}
+
+/// The line of a command that is refused.
+fn refused_by(code: u8, number: u8) -> Vec<u8> {
+    format!("{code:02x} {number} 0 0 0 0 0\n").into_bytes()
 }
 
 struct Tried {
@@ -188,7 +174,7 @@ impl Tried {
             copy.clear();
             copy.extend_from_slice(state);
             let line = run(copy, &mut self.pending.clone(), call);
-            let by_1 = line == format!("{:02x} 1 0 0 0 0 0\n", call[0]).into_bytes();
+            let by_1 = line == refused_by(call[0], refusal::NOT_SOUND);
             if by_1 == expected || by_1 && copy != state {
                 let said = if expected { "sound" } else { "not sound" };
                 return Err(format!("{}: {said}, and {} answers {}", what(), format!("{:02x}", call[0]), String::from_utf8_lossy(&line)));
@@ -207,8 +193,8 @@ impl Tried {
             copy.clear();
             copy.extend_from_slice(state);
             let said = exported::call(which, copy);
-            let by_1 = said.refusal == 1;
-            if by_1 == expected || by_1 && (said.values != [0; 5] || said.row_written || copy != state) {
+            let by_1 = said.refusal == refusal::NOT_SOUND;
+            if by_1 == expected || by_1 && (said.values != [0; VALUES] || said.row_written || copy != state) {
                 let kept = if copy == state { "as it was" } else { "changed" };
                 return Err(format!("{}: {name} returns {} {:?}, the memory {kept}", what(), said.refusal, said.values));
             }
@@ -218,8 +204,8 @@ impl Tried {
             copy.clear();
             copy.extend_from_slice(state);
             let fits = state.len() >= HEAD + 3 * ROW;
-            let number = exported::fresh(copy, 2, 300_000);
-            if number != if fits { 0 } else { 5 } || sound(copy) != fits || !fits && copy != state {
+            let number = exported::fresh(copy, 2, TTL);
+            if number != if fits { 0 } else { refusal::ROW_COUNT } || sound(copy) != fits || !fits && copy != state {
                 return Err(format!("{}: fresh returns {number}", what()));
             }
             self.renewed += u64::from(fits);
@@ -245,11 +231,16 @@ fn all() -> Result<(), String> {
         state[at] = base[at];
     }
     println!("bad-states: a byte changed: {} states not sound, {} still sound", tried.unsound, tried.sound);
-    let fields = (0..5).map(|i| (8 * i, 8)).chain((0..4).flat_map(|i| FIELDS.map(|(at, n)| (HEAD + i * ROW + at, n))));
-    for (at, n) in fields {
+    // the key and the places are no numbers; their bytes were changed above
+    let in_a_row = ROW_FIELDS.into_iter().filter(|(_, at, _)| ![KEY, PATH_PLACES].contains(at));
+    let in_rows = (0..4).flat_map(|i| in_a_row.clone().map(move |(_, at, n)| (HEAD + i * ROW + at, n)));
+    for (at, n) in HEAD_FIELDS.into_iter().map(|(_, at, n)| (at, n)).chain(in_rows) {
         let was = number(&base[at..at + n]);
-        let most = if n == 8 { u64::MAX } else { (1 << (8 * n)) - 1 };
-        for v in [0, 1, 2, 16, 32, 33, 1023, 1024, 1025, 1 << 32, 1 << 63, was.wrapping_sub(1), was.wrapping_add(1), u64::MAX - 1, u64::MAX] {
+        let most = if n == NUMBER { u64::MAX } else { (1 << (8 * n)) - 1 };
+        let places = PLACES as u64;
+        let limits = [ADDRS_PER_ENTRY, places, places + 1, MAX_ROWS - 1, MAX_ROWS, MAX_ROWS + 1];
+        let far = [1 << 32, 1 << 63, was.wrapping_sub(1), was.wrapping_add(1), u64::MAX - 1, u64::MAX];
+        for v in [0, 1, 2].into_iter().chain(limits).chain(far) {
             let v = v & most;
             state[at..at + n].copy_from_slice(&v.to_le_bytes()[..n]);
             tried.state(&state, &mut copy, &|| format!("{n} bytes at {at} set to {v}"))?;
@@ -271,12 +262,12 @@ fn all() -> Result<(), String> {
             tried.state(&short, &mut copy, &|| format!("{len} bytes of {fill}"))?;
             let rows = len.saturating_sub(HEAD) / ROW;
             let mut fresh = short.clone();
-            let line = run(&mut fresh, &mut [0; PENDING], &command(0x00, &[&(rows as u16).to_le_bytes(), &[0; 8]]));
-            if line != b"00 5 0 0 0 0 0\n" || fresh != short {
+            let line = run(&mut fresh, &mut [0; PENDING], &command(code::FRESH, &[&(rows as u16).to_le_bytes(), &[0; NUMBER]]));
+            if line != refused_by(code::FRESH, refusal::ROW_COUNT) || fresh != short {
                 return Err(format!("{len} bytes of {fill}: fresh at max {rows} answers {}", String::from_utf8_lossy(&line)));
             }
             let number = exported::fresh(&mut fresh, rows as u64, 0);
-            if number != 5 || fresh != short {
+            if number != refusal::ROW_COUNT || fresh != short {
                 return Err(format!("{len} bytes of {fill}: the exported fresh at max {rows} returns {number}"));
             }
         }

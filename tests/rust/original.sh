@@ -37,7 +37,7 @@ lay_out() { # FOLDER [OUR FOLDER OF A FURTHER MODULE]
     cp "$here/rust/inside.rs" "$1/cache/tests/coord_cache.rs"
     touch "$1/cache/tests/mod.rs" "$1/cache/tests/entry.rs" "$1/utils/tests/hash.rs"
     cp "$here/rust/root.rs" "$1/main.rs"
-    cp "$here/rust/driver.rs" "$1/driver.rs"
+    cp "$here"/rust/{driver,functions,numbers}.rs "$1/"
     cp "$here"/rust/driver/*.rs "$1/driver/"
     [ -z "${2:-}" ] || cp -R "$2" "$1/"
 }

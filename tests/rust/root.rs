@@ -9,6 +9,8 @@ mod bench;
 mod cache;
 #[cfg(not(bench))]
 mod driver;
+mod functions;
+mod numbers;
 #[cfg(stream)]
 mod stream;
 

@@ -2,11 +2,15 @@
 
 use coordcache::{CoordCache, NodeAddr, TreeCoordinate};
 
+/// The numbers of the packing and the limits, as all tests of the repository have them.
+#[path = "../../../tests/rust/numbers.rs"]
+pub mod numbers;
+
 pub const TTL: u64 = 300_000;
 
 /// The address of sixteen such bytes.
 pub fn addr(byte: u8) -> NodeAddr {
-    NodeAddr::from_bytes([byte; 16])
+    NodeAddr::from_bytes([byte; numbers::ADDRESS])
 }
 
 /// A path of so many elements, all at one node: `zN` of tests/branches.txt.
@@ -19,7 +23,7 @@ pub fn fresh(max_entries: usize) -> CoordCache {
     CoordCache::new(max_entries, TTL).unwrap()
 }
 
-/// A number of 8 bytes in the memory.
+/// A number in the memory.
 pub fn number(cache: &CoordCache, at: usize) -> u64 {
-    u64::from_le_bytes(cache.as_bytes()[at..at + 8].try_into().unwrap())
+    numbers::number(&cache.as_bytes()[at..][..numbers::NUMBER])
 }

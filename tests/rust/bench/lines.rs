@@ -1,18 +1,19 @@
 //! What is measured: lists of calls as plain data, the same for every side.
+use crate::numbers::{ADDRESS, ADDRS_PER_ENTRY, Addr};
 
 /// A path element: address, sequence, timestamp.
-pub type Element = ([u8; 16], u64, u64);
+pub type Element = (Addr, u64, u64);
 
 #[derive(Clone)]
 pub enum Plain {
-    Get([u8; 16], u64),
-    Touch([u8; 16], u64),
+    Get(Addr, u64),
+    Touch(Addr, u64),
     /// key, path, time, what the writer can pay
-    Hint([u8; 16], Vec<Element>, u64, u64),
-    Verify([u8; 16], Vec<Element>, u64),
+    Hint(Addr, Vec<Element>, u64, u64),
+    Verify(Addr, Vec<Element>, u64),
     Purge(u64),
-    Via([u8; 16]),
-    Roots([u8; 16]),
+    Via(Addr),
+    Roots(Addr),
     Stats(u64),
 }
 
@@ -31,7 +32,7 @@ pub const TTL: u64 = 1 << 40;
 const DEPTH: usize = 6;
 
 /// What pays any path of that depth.
-const PAID: u64 = 16;
+const PAID: u64 = ADDRS_PER_ENTRY;
 
 pub const ALL: &[Line] = &[
     Line { name: "get, held", calls: many, make: |max, n| (hints(max), (0..n).map(|i| Plain::Get(key(held(max, i)), 1)).collect()) },
@@ -43,7 +44,7 @@ pub const ALL: &[Line] = &[
     Line { name: "verified rewrite", calls: few, make: |max, n| (verified(max), (0..n).map(|i| verify(held(max, i), after(max, i))).collect()) },
     Line { name: "mixed trace of a busy gateway", calls: few, make: mixed },
     Line { name: "purge, none leaves", calls: sweeps, make: |max, n| (hints(max), vec![Plain::Purge(1); n]) },
-    Line { name: "via node, none leaves", calls: sweeps, make: |max, n| (hints(max), vec![Plain::Via([0xee; 16]); n]) },
+    Line { name: "via node, none leaves", calls: sweeps, make: |max, n| (hints(max), vec![Plain::Via([0xee; ADDRESS]); n]) },
     Line { name: "other roots, none leaves", calls: sweeps, make: |max, n| (hints(max), vec![Plain::Roots(ROOT); n]) },
     Line { name: "statistics", calls: sweeps, make: |max, n| (hints(max), vec![Plain::Stats(1 << 20); n]) },
 ];
@@ -60,16 +61,16 @@ fn sweeps(max: usize) -> usize {
     4_000_000 / (max + 200) / 10
 }
 
-const ROOT: [u8; 16] = [0xff; 16];
+const ROOT: Addr = [0xff; ADDRESS];
 
 /// Addresses as hashes give them: spread over all bytes.
-pub fn key(n: u64) -> [u8; 16] {
+pub fn key(n: u64) -> Addr {
     let mix = |x: u64| {
         let mut z = x.wrapping_mul(0x9e37_79b9_7f4a_7c15);
         z = (z ^ (z >> 30)).wrapping_mul(0xbf58_476d_1ce4_e5b9);
         z ^ (z >> 27)
     };
-    let mut bytes = [0; 16];
+    let mut bytes = [0; ADDRESS];
     bytes[..8].copy_from_slice(&mix(n + 1).to_be_bytes());
     bytes[8..].copy_from_slice(&mix(n ^ 0x5555).to_be_bytes());
     bytes

@@ -3,11 +3,12 @@ mod lines;
 mod sides;
 mod table;
 
-use sides::{Cache, Original, Ours, Public};
+use crate::numbers::MOST_ENTRIES;
+use sides::{COORDRUN_MAX, Cache, Original, Ours, Public};
 use std::process::ExitCode;
 
 /// The limits at which every line is measured.
-const LIMITS: [usize; 3] = [8, 192, 992];
+const LIMITS: [usize; 3] = [COORDRUN_MAX, 192, MOST_ENTRIES as usize - 1];
 
 /// Nanoseconds a call, of one round on each side.
 struct Round {

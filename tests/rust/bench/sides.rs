@@ -2,13 +2,15 @@
 use super::lines::{Element, Plain};
 use crate::cache::{CoordCache, Funding};
 use crate::entropy::EntropySource;
+use crate::functions::*;
 use crate::identity::NodeAddr;
+use crate::numbers::{Addr, COORDRUN_ROWS, HEAD, MAX_ROWS, ROW, UPTO, VALUES, Values};
 use crate::proto::stp::{CoordEntry, TreeCoordinate};
 
 pub trait Cache: Sized {
     type Addr;
     type Path: Clone;
-    fn addr(bytes: [u8; 16]) -> Self::Addr;
+    fn addr(bytes: Addr) -> Self::Addr;
     fn path(elements: &[Element]) -> Self::Path;
     fn new(max: usize, ttl: u64) -> Self;
     /// The length of the path found, or 0.
@@ -23,9 +25,12 @@ pub trait Cache: Sized {
     fn stats(&self, time: u64) -> u64;
 }
 
+/// coordrun's limit.
+pub const COORDRUN_MAX: usize = 8;
+
 /// The rows that the memory has at a limit: coordrun's at its own, else all.
 pub fn rows(max: usize) -> usize {
-    if max == 8 { 24 } else { 1024 }
+    (if max == COORDRUN_MAX { COORDRUN_ROWS } else { MAX_ROWS }) as usize
 }
 
 /// A call with its operands as the side wants them.
@@ -89,7 +94,7 @@ impl Cache for Original {
     type Addr = NodeAddr;
     type Path = TreeCoordinate;
 
-    fn addr(bytes: [u8; 16]) -> NodeAddr {
+    fn addr(bytes: Addr) -> NodeAddr {
         NodeAddr::from_bytes(bytes)
     }
 
@@ -153,7 +158,7 @@ impl Cache for Ours {
     type Addr = coordcache::NodeAddr;
     type Path = coordcache::TreeCoordinate;
 
-    fn addr(bytes: [u8; 16]) -> coordcache::NodeAddr {
+    fn addr(bytes: Addr) -> coordcache::NodeAddr {
         coordcache::NodeAddr::from_bytes(bytes)
     }
 
@@ -205,38 +210,22 @@ impl Cache for Ours {
 
 // ---- the public C functions (include/coordcache.h), on memory that is lent to them
 
-unsafe extern "C" {
-    fn coord_cache_fresh(state: *mut u8, len: usize, max: u64, ttl: u64) -> u8;
-    fn coord_cache_get(state: *const u8, len: usize, key: *const u8, time: u64, values: *mut u64, at: *mut u64) -> u8;
-    fn coord_cache_get_and_touch(state: *mut u8, len: usize, key: *const u8, time: u64, values: *mut u64, at: *mut u64) -> u8;
-    fn coord_cache_insert_funded(
-        state: *mut u8, len: usize, key: *const u8, path: *const u8, path_len: usize, time: u64, kind: u8, amount: u64, values: *mut u64,
-    ) -> u8;
-    fn coord_cache_insert_verified(
-        state: *mut u8, len: usize, key: *const u8, path: *const u8, path_len: usize, time: u64, values: *mut u64,
-    ) -> u8;
-    fn coord_cache_purge_expired(state: *mut u8, len: usize, time: u64, values: *mut u64) -> u8;
-    fn coord_cache_invalidate_via_node(state: *mut u8, len: usize, addr: *const u8, values: *mut u64) -> u8;
-    fn coord_cache_invalidate_other_roots(state: *mut u8, len: usize, addr: *const u8, values: *mut u64) -> u8;
-    fn coord_cache_stats(state: *const u8, len: usize, time: u64, values: *mut u64) -> u8;
-}
-
 pub struct Public(Vec<u8>);
 
 impl Public {
     /// What the call writes; it may not be refused.
-    fn done(refused: u8, values: [u64; 5]) -> [u64; 5] {
+    fn done(refused: u8, values: Values) -> Values {
         assert_eq!(refused, 0);
         values
     }
 }
 
-// SAFETY of the calls below: the memory, the key, the path and the numbers are live, of the widths that the header names, and apart.
+// SAFETY of the calls below: the memory and the path are live, each goes with its length, and all that is lent is apart.
 impl Cache for Public {
-    type Addr = [u8; 16];
+    type Addr = Addr;
     type Path = coordcache::TreeCoordinate;
 
-    fn addr(bytes: [u8; 16]) -> [u8; 16] {
+    fn addr(bytes: Addr) -> Addr {
         bytes
     }
 
@@ -245,58 +234,58 @@ impl Cache for Public {
     }
 
     fn new(max: usize, ttl: u64) -> Self {
-        let mut state = vec![0; 40 + rows(max) * 1095];
+        let mut state = vec![0; HEAD + rows(max) * ROW];
         assert_eq!(unsafe { coord_cache_fresh(state.as_mut_ptr(), state.len(), max as u64, ttl) }, 0);
         Self(state)
     }
 
-    fn get(&self, key: &[u8; 16], time: u64) -> u64 {
-        let (mut v, mut at) = ([0; 5], 0);
-        let r = unsafe { coord_cache_get(self.0.as_ptr(), self.0.len(), key.as_ptr(), time, v.as_mut_ptr(), &mut at) };
+    fn get(&self, key: &Addr, time: u64) -> u64 {
+        let (mut v, mut at) = ([0; VALUES], 0);
+        let r = unsafe { coord_cache_get(self.0.as_ptr(), self.0.len(), key, time, &mut v, &mut at) };
         Self::done(r, v)[1]
     }
 
-    fn touch(&mut self, key: &[u8; 16], time: u64) -> u64 {
-        let (mut v, mut at) = ([0; 5], 0);
-        let r = unsafe { coord_cache_get_and_touch(self.0.as_mut_ptr(), self.0.len(), key.as_ptr(), time, v.as_mut_ptr(), &mut at) };
+    fn touch(&mut self, key: &Addr, time: u64) -> u64 {
+        let (mut v, mut at) = ([0; VALUES], 0);
+        let r = unsafe { coord_cache_get_and_touch(self.0.as_mut_ptr(), self.0.len(), key, time, &mut v, &mut at) };
         Self::done(r, v)[1]
     }
 
-    fn hint(&mut self, key: &[u8; 16], path: coordcache::TreeCoordinate, time: u64, paid: u64) -> u64 {
-        let (mut v, p) = ([0; 5], path.as_bytes());
+    fn hint(&mut self, key: &Addr, path: coordcache::TreeCoordinate, time: u64, paid: u64) -> u64 {
+        let (mut v, p) = ([0; VALUES], path.as_bytes());
         let r = unsafe {
-            coord_cache_insert_funded(self.0.as_mut_ptr(), self.0.len(), key.as_ptr(), p.as_ptr(), p.len(), time, 1, paid, v.as_mut_ptr())
+            coord_cache_insert_funded(self.0.as_mut_ptr(), self.0.len(), key, p.as_ptr(), p.len(), time, UPTO, paid, &mut v)
         };
         Self::done(r, v)[1]
     }
 
-    fn verify(&mut self, key: &[u8; 16], path: coordcache::TreeCoordinate, time: u64) {
-        let (mut v, p) = ([0; 5], path.as_bytes());
-        let r = unsafe { coord_cache_insert_verified(self.0.as_mut_ptr(), self.0.len(), key.as_ptr(), p.as_ptr(), p.len(), time, v.as_mut_ptr()) };
+    fn verify(&mut self, key: &Addr, path: coordcache::TreeCoordinate, time: u64) {
+        let (mut v, p) = ([0; VALUES], path.as_bytes());
+        let r = unsafe { coord_cache_insert_verified(self.0.as_mut_ptr(), self.0.len(), key, p.as_ptr(), p.len(), time, &mut v) };
         Self::done(r, v);
     }
 
     fn purge(&mut self, time: u64) -> u64 {
-        let mut v = [0; 5];
-        let r = unsafe { coord_cache_purge_expired(self.0.as_mut_ptr(), self.0.len(), time, v.as_mut_ptr()) };
+        let mut v = [0; VALUES];
+        let r = unsafe { coord_cache_purge_expired(self.0.as_mut_ptr(), self.0.len(), time, &mut v) };
         Self::done(r, v)[0]
     }
 
-    fn via(&mut self, addr: &[u8; 16]) -> u64 {
-        let mut v = [0; 5];
-        let r = unsafe { coord_cache_invalidate_via_node(self.0.as_mut_ptr(), self.0.len(), addr.as_ptr(), v.as_mut_ptr()) };
+    fn via(&mut self, addr: &Addr) -> u64 {
+        let mut v = [0; VALUES];
+        let r = unsafe { coord_cache_invalidate_via_node(self.0.as_mut_ptr(), self.0.len(), addr, &mut v) };
         Self::done(r, v)[0]
     }
 
-    fn roots(&mut self, addr: &[u8; 16]) -> u64 {
-        let mut v = [0; 5];
-        let r = unsafe { coord_cache_invalidate_other_roots(self.0.as_mut_ptr(), self.0.len(), addr.as_ptr(), v.as_mut_ptr()) };
+    fn roots(&mut self, addr: &Addr) -> u64 {
+        let mut v = [0; VALUES];
+        let r = unsafe { coord_cache_invalidate_other_roots(self.0.as_mut_ptr(), self.0.len(), addr, &mut v) };
         Self::done(r, v)[0]
     }
 
     fn stats(&self, time: u64) -> u64 {
-        let mut v = [0; 5];
-        let r = unsafe { coord_cache_stats(self.0.as_ptr(), self.0.len(), time, v.as_mut_ptr()) };
+        let mut v = [0; VALUES];
+        let r = unsafe { coord_cache_stats(self.0.as_ptr(), self.0.len(), time, &mut v) };
         let v = Self::done(r, v);
         v[0] + v[2] + v[3]
     }

@@ -2,11 +2,11 @@
 use crate::cache::{CacheEntry, CoordCache, CoordSource, Funding, HintOutcome, Placed, Segment};
 use crate::entropy::EntropySource;
 use crate::identity::NodeAddr;
+pub use crate::numbers::Addr;
+use crate::numbers::{ADDRS_PER_ENTRY, LAST_SEQ, MAX_ROWS, PLACES, PROBATION_DIVISOR, WEIGHT_LIMIT, refusal};
 use crate::proto::stp::{CoordEntry, TreeCoordinate};
 use std::cell::Cell;
 use std::panic::{AssertUnwindSafe, catch_unwind};
-
-pub type Addr = [u8; 16];
 
 #[derive(Clone, Debug, PartialEq, Eq, PartialOrd, Ord)]
 pub struct Elem {
@@ -152,7 +152,7 @@ fn coordinate(path: &Path) -> TreeCoordinate {
         .iter()
         .map(|e| CoordEntry::new(NodeAddr::from_bytes(e.addr), e.sequence, e.timestamp))
         .collect();
-    TreeCoordinate::new(entries).expect("a path of 1 to 32 elements")
+    TreeCoordinate::new(entries).expect("a path that is not refused by 2")
 }
 
 impl Entry {
@@ -176,15 +176,22 @@ impl Row {
 }
 
 pub fn path_weight(path: &Path) -> u64 {
-    (path.len() as u64).max(16)
+    (path.len() as u64).max(ADDRS_PER_ENTRY)
 }
 
 pub fn probation_bound(max: u64) -> u64 {
-    (max / 32).max(1)
+    (max / PROBATION_DIVISOR).max(1)
 }
 
-/// The last seq at which a call that stamps is not refused by 3.
-pub const LAST_SEQ: u64 = 18446744073709547519;
+/// Whether a state cannot have so many rows at this limit.
+pub fn bad_size(rows: u64, max: u64) -> bool {
+    rows > MAX_ROWS || rows < max + probation_bound(max)
+}
+
+/// Whether a path cannot be stored.
+pub fn bad_path(length: usize) -> bool {
+    length == 0 || length > PLACES
+}
 
 type Cache = CoordCache<Entropy>;
 
@@ -213,20 +220,19 @@ impl Machine {
 
     /// Numbers 1 to 3, by the rows and the head alone.
     fn refusal(&self, path: Option<&Path>, stamps: bool) -> Option<u64> {
-        let max = self.cache.max_entries() as u64;
-        if self.rows > 1024 || self.rows < max + probation_bound(max) {
-            return Some(1);
+        if bad_size(self.rows, self.cache.max_entries() as u64) {
+            return Some(refusal::NOT_SOUND.into());
         }
-        if path.is_some_and(|p| p.is_empty() || p.len() > 32) {
-            return Some(2);
+        if path.is_some_and(|p| bad_path(p.len())) {
+            return Some(refusal::PATH_LENGTH.into());
         }
-        (stamps && self.cache.seq() > LAST_SEQ).then_some(3)
+        (stamps && self.cache.seq() > LAST_SEQ).then_some(refusal::SEQUENCE_USED_UP.into())
     }
 
     /// 01's closed form: whether room can be made for `weight` once the key's row is out.
     fn room_can_be_made(&self, key: &Addr, weight: u64, now: u64) -> bool {
         let max = self.cache.max_entries() as u64;
-        let bound = 16 * max;
+        let bound = ADDRS_PER_ENTRY * max;
         let (mut count, mut stored) = (0, 0);
         for row in self.cache.rows() {
             let verified = row.entry.verified && now <= row.entry.verified_until;
@@ -254,7 +260,7 @@ impl Machine {
         if let Some(n) = self.refusal(Some(path), true) {
             return Answer::Refused(n);
         }
-        for weight in [path_weight(path), 16, 32] {
+        for weight in [path_weight(path), ADDRS_PER_ENTRY, WEIGHT_LIMIT] {
             self.room_can_be_made(key, weight, time);
         }
         let coords = coordinate(path);
@@ -284,7 +290,7 @@ impl Machine {
             return Answer::Refused(n);
         }
         if self.no_place(key, path, time) {
-            return Answer::Refused(4);
+            return Answer::Refused(refusal::NO_MAIN_ROW.into());
         }
         let before = self.cache.eviction_examined();
         write(&mut self.cache, NodeAddr::from_bytes(*key), coordinate(path));
@@ -305,8 +311,8 @@ impl Machine {
         let ttl_now = self.cache.default_ttl_ms();
         match call {
             Call::Fresh { max, ttl } => {
-                if self.rows > 1024 || self.rows < max + probation_bound(*max) {
-                    return Answer::Refused(5);
+                if bad_size(self.rows, *max) {
+                    return Answer::Refused(refusal::ROW_COUNT.into());
                 }
                 self.cache = Cache::new(*max as usize, *ttl);
                 Answer::Done

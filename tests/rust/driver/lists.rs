@@ -1,24 +1,25 @@
 //! Random lists of calls. The choices look at what the original holds, so that times fall on
 //! expiries, fundings on charges, and keys on held rows.
-use super::calls::{Addr, Call, Elem, Held, LAST_SEQ, List, Path, Row, path_weight, probation_bound};
+use super::calls::{Addr, Call, Elem, Held, List, Path, Row, path_weight, probation_bound};
 use super::dice::Dice;
 use crate::cache::Funding;
+use crate::numbers::{ADDRESS, ADDRS_PER_ENTRY, COORDRUN_ROWS, LAST_SEQ, MAX_ROWS, PLACES, VERIFIED_TTL_MS, WEIGHT_LIMIT};
 
 /// Addresses that differ in the first byte, in the last, in one between.
 pub fn addresses() -> Vec<Addr> {
-    let mut all = vec![[0; 16], [0x01; 16], [0xaa; 16], [0xff; 16]];
+    let mut all = vec![[0; ADDRESS], [0x01; ADDRESS], [0xaa; ADDRESS], [0xff; ADDRESS]];
     for first in [0x02, 0x10, 0x1b, 0x2e, 0x37, 0x44, 0x5c, 0x6d, 0x77, 0x80, 0x91, 0xb0, 0xc4, 0xd3, 0xe8, 0xf2] {
-        let mut a = [first; 16];
-        a[15] = 0x11;
+        let mut a = [first; ADDRESS];
+        a[ADDRESS - 1] = 0x11;
         all.push(a);
     }
-    for (at, byte) in [(15, 0x01), (7, 0x80), (1, 0xff)] {
-        let mut a = [0; 16];
+    for (at, byte) in [(ADDRESS - 1, 0x01), (7, 0x80), (1, 0xff)] {
+        let mut a = [0; ADDRESS];
         a[at] = byte;
         all.push(a);
     }
-    let mut a = [0xaa; 16];
-    a[15] = 0xab;
+    let mut a = [0xaa; ADDRESS];
+    a[ADDRESS - 1] = 0xab;
     all.push(a);
     all
 }
@@ -27,7 +28,13 @@ pub fn addresses() -> Vec<Addr> {
 const TOUCH: usize = 7;
 const DEMOTE: usize = 9;
 
-const LENGTHS: [usize; 20] = [1, 1, 1, 2, 3, 7, 15, 16, 16, 16, 17, 17, 17, 18, 20, 24, 31, 32, 32, 32];
+/// The longest path of the least weight.
+const LIGHT: usize = ADDRS_PER_ENTRY as usize;
+
+const LENGTHS: [usize; 20] = [
+    1, 1, 1, 2, 3, 7, LIGHT - 1, LIGHT, LIGHT, LIGHT, LIGHT + 1, LIGHT + 1, LIGHT + 1, LIGHT + 2, LIGHT + 4, LIGHT + 8, PLACES - 1, PLACES,
+    PLACES, PLACES,
+];
 
 /// What a list draws from.
 struct Stock {
@@ -69,11 +76,11 @@ fn variant(dice: &mut Dice, path: &Path, elems: &[Elem]) -> Path {
     match dice.below(5) {
         0 => other[at].sequence ^= 1,
         1 => other[at].timestamp ^= 1,
-        2 => other[at].addr[15] ^= 1,
+        2 => other[at].addr[ADDRESS - 1] ^= 1,
         3 if other.len() > 1 => {
             other.pop();
         }
-        _ if other.len() < 32 => other.push(dice.pick(elems)),
+        _ if other.len() < PLACES => other.push(dice.pick(elems)),
         _ => other[at].timestamp ^= 2,
     }
     other
@@ -128,7 +135,7 @@ impl Stock {
             }
         }
         if dice.chance(self.bad_paths) {
-            return if dice.chance(50) { Path::new() } else { vec![self.paths[0][0].clone(); 33] };
+            return if dice.chance(50) { Path::new() } else { vec![self.paths[0][0].clone(); PLACES + 1] };
         }
         let own: Vec<Path> = self.paths.iter().filter(|p| p[0].addr == *key).cloned().collect();
         if !own.is_empty() && dice.chance(50) { dice.pick(&own) } else { dice.pick(&self.paths) }
@@ -146,7 +153,7 @@ impl Stock {
             (74..80, Some(row)) => dice.near(row.entry.expires_at),
             (80..90, Some(row)) if row.entry.verified => dice.near(row.entry.verified_until),
             (90..97, Some(row)) => dice.near(row.entry.last_used),
-            (97, _) => dice.pick(&[0, u64::MAX, u64::MAX - 300_000]),
+            (97, _) => dice.pick(&[0, u64::MAX, u64::MAX - VERIFIED_TTL_MS]),
             _ => last,
         };
         // a jump far ahead is soon taken back
@@ -165,7 +172,7 @@ impl Stock {
             2..6 if weight > old => weight - old,
             2..6 => weight,
             6..9 => weight.max(old),
-            _ => dice.pick(&[0, 1, 15, 16, 32, u64::MAX]),
+            _ => dice.pick(&[0, 1, ADDRS_PER_ENTRY - 1, ADDRS_PER_ENTRY, WEIGHT_LIMIT, u64::MAX]),
         };
         Funding::Upto(dice.near(near))
     }
@@ -222,9 +229,9 @@ pub fn random(seed: u64, index: u64, calls: usize) -> List {
     let max = MAXES[(index % MAXES.len() as u64) as usize];
     let least = max + probation_bound(max);
     let rows = match dice.below(10) {
-        _ if turn(90, 89) => dice.pick(&[0, 1025, 4000]),
-        0 => 24.max(least),
-        1 => 1024,
+        _ if turn(90, 89) => dice.pick(&[0, MAX_ROWS + 1, 4000]),
+        0 => COORDRUN_ROWS.max(least),
+        1 => MAX_ROWS,
         _ => least + dice.pick(&[0, 0, 0, 0, 1, 1, 2, 3]),
     };
     let ttl = dice.pick(&[0, 3, 10, 50, 1000, 300_000, 300_000, 300_000, 300_000, 400_000, 1_000_000, u64::MAX]);

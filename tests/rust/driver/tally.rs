@@ -1,5 +1,6 @@
 //! How often the lists came by each kind of call and answer.
-use super::calls::{Answer, Call, List, Place, segment_name};
+use super::calls::{Answer, Call, List, Place, path_weight, segment_name};
+use crate::numbers::ADDRS_PER_ENTRY;
 use std::collections::BTreeMap;
 
 fn kind(call: &Call) -> &'static str {
@@ -65,8 +66,8 @@ pub fn print(lists: &[List]) -> String {
             count("with a parked row", rows.iter().any(|row| row.place == Place::Parked));
             count("with a probation row", rows.iter().any(|row| row.place == Place::Probation));
             count("main rows over max_entries", main > made.held.max_entries);
-            count("stored weight over the bound", made.held.stored_weight > 16 * made.held.max_entries);
-            count("a row heavier than its path", rows.iter().any(|row| row.weight > (row.entry.path.len() as u64).max(16)));
+            count("stored weight over the bound", made.held.stored_weight > ADDRS_PER_ENTRY * made.held.max_entries);
+            count("a row heavier than its path", rows.iter().any(|row| row.weight > path_weight(&row.entry.path)));
             if at > 0 {
                 let was = &list.made[at - 1].held.rows;
                 let gone = was.iter().filter(|old| !rows.iter().any(|row| row.key == old.key)).count();

@@ -26,6 +26,7 @@
 //! A line `list NAME` begins another list; `#` begins a comment.
 use super::calls::{Addr, Answer, Call, Elem, Entry, Held, List, Machine, Path, Place, Row, segment_name};
 use crate::cache::{Funding, HintOutcome};
+use crate::numbers::{ADDRESS, COORDRUN_ROWS};
 use std::fmt::Write;
 
 // ---- reading
@@ -80,10 +81,10 @@ impl Names {
             return Ok(*addr);
         }
         let wrong = || format!("{word} is neither a name nor the hex digits of an address");
-        if word.len() % 2 != 0 || word.len() > 32 || !word.is_ascii() {
+        if word.len() % 2 != 0 || word.len() > 2 * ADDRESS || !word.is_ascii() {
             return Err(wrong());
         }
-        let mut addr = [0; 16];
+        let mut addr = [0; ADDRESS];
         for (i, byte) in addr.iter_mut().enumerate().take(word.len() / 2) {
             *byte = u8::from_str_radix(&word[2 * i..2 * i + 2], 16).map_err(|_| wrong())?;
         }
@@ -168,7 +169,7 @@ impl Reader {
         match verb {
             "list" => {
                 let name = w.word("a name")?.to_string();
-                self.lists.push(List::new(name, 24));
+                self.lists.push(List::new(name, COORDRUN_ROWS));
             }
             "rows" => {
                 let rows = w.number("a number of rows")?;
@@ -194,7 +195,7 @@ impl Reader {
             _ => {
                 let call = call_of(verb, w)?;
                 if self.lists.is_empty() {
-                    self.lists.push(List::new("file".to_string(), 24));
+                    self.lists.push(List::new("file".to_string(), COORDRUN_ROWS));
                 }
                 let (list, machine) = self.lists.last_mut().expect("just made");
                 list.make(machine, call);

@@ -9,6 +9,7 @@ use super::show;
 use super::shrink;
 use super::streams::Stream;
 use super::tally::Tally;
+use crate::numbers::MAX_ROWS;
 
 /// What is asked for.
 pub struct All<'a> {
@@ -34,8 +35,8 @@ impl All<'_> {
         if tastes.is_empty() && alphabets.is_empty() {
             return Err(End::NotTried("there is no such profile (--help lists them), or it does not take --rows".to_string()));
         }
-        if self.rows.is_some_and(|rows| !(1..=1024).contains(&rows)) {
-            return Err(End::NotTried("a state has 1 to 1,024 rows".to_string()));
+        if self.rows.is_some_and(|rows| !(1..=MAX_ROWS).contains(&rows)) {
+            return Err(End::NotTried(format!("a state has 1 to {MAX_ROWS} rows")));
         }
         let mut all = Tally::default();
         let mut streams = 0;

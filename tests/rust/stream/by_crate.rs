@@ -10,9 +10,10 @@ use super::proved::{Counts, GUARD, Report, Side, Stop};
 use super::streams::Stream;
 use crate::cache;
 use crate::driver::calls::{Elem, Entry};
+use crate::numbers::{BYTE, CHANGED, IN_MAIN, IN_PROBATION, INSERTED, PLACES, REJECTED, UNCHANGED, VALUES, Values, refusal};
 use coordcache::{
-    CacheEntry, CoordCache, CoordEntry, CoordError, CoordSource, Funding, HintOutcome, MAX_PATH, NodeAddr, Path, Placed, Refused,
-    Segment, TreeCoordinate, VerifiedInsert,
+    CacheEntry, CoordCache, CoordEntry, CoordError, CoordSource, Funding, HintOutcome, NodeAddr, Path, Placed, Refused, Segment,
+    TreeCoordinate, VerifiedInsert,
 };
 
 #[derive(Clone)]
@@ -50,7 +51,7 @@ impl Side for ByCrate {
         let mut bytes = [0; PENDING];
         bytes[0] = self.pending.len() as u8;
         if let Ok(path) = TreeCoordinate::new(self.pending.clone()) {
-            bytes[1..].iter_mut().zip(path.as_bytes()).for_each(|(to, from)| *to = *from);
+            bytes[BYTE..].iter_mut().zip(path.as_bytes()).for_each(|(to, from)| *to = *from);
         }
         bytes
     }
@@ -79,7 +80,7 @@ impl Side for ByCrate {
                 report.written += line.len();
                 report.used += size;
                 self.counts.count(reply.refusal);
-                if reply.refusal == 6 {
+                if reply.refusal == refusal::NO_COMMAND {
                     report.stop = Stop::Six;
                 }
             }
@@ -97,22 +98,22 @@ impl ByCrate {
             if decode::empties_pending(code) {
                 self.pending.clear();
             }
-            return (Reply::new(code, Err(6)), bytes.len());
+            return (Reply::new(code, Err(refusal::NO_COMMAND)), bytes.len());
         };
         (Reply::new(code, self.act(command)), size)
     }
 
-    fn act(&mut self, command: Command) -> Result<[u64; 5], u8> {
+    fn act(&mut self, command: Command) -> Result<Values, u8> {
         let addr = NodeAddr::from_bytes;
         match command {
             Command::Fresh { max, ttl } => {
                 // refused by 5 it keeps the cache that is there
                 self.cache = CoordCache::with_rows(self.rows, max as usize, ttl).map_err(Refused::number)?;
-                Ok([0; 5])
+                Ok([0; VALUES])
             }
             Command::Element(e) => {
-                if self.pending.len() == MAX_PATH {
-                    return Err(2);
+                if self.pending.len() == PLACES {
+                    return Err(refusal::PATH_LENGTH);
                 }
                 self.pending.push(CoordEntry::new(addr(e.addr), e.sequence, e.timestamp));
                 Ok(first(self.pending.len() as u64))
@@ -139,12 +140,12 @@ impl ByCrate {
             Command::Demote { key } => Ok(first(self.cache.demote(&addr(key)).map_err(Refused::number)?.into())),
             Command::ClearPathMtu { key } => {
                 self.cache.clear_path_mtu(&addr(key));
-                Ok([0; 5])
+                Ok([0; VALUES])
             }
             Command::PurgeExpired { time } => Ok(first(self.cache.purge_expired(time) as u64)),
             Command::Clear => {
                 self.cache.clear();
-                Ok([0; 5])
+                Ok([0; VALUES])
             }
             Command::InvalidateViaNode { addr: a } => Ok(first(self.cache.invalidate_via_node(&addr(a)) as u64)),
             Command::InvalidateOtherRoots { addr: a } => Ok(first(self.cache.invalidate_other_roots(&addr(a)) as u64)),
@@ -152,28 +153,28 @@ impl ByCrate {
                 let stats = self.cache.stats(time);
                 Ok([stats.entries as u64, stats.max_entries as u64, stats.expired as u64, stats.avg_age_ms, 0])
             }
-            Command::NextExpiry => Ok(self.cache.next_expiry().map_or([0; 5], |time| [1, time, 0, 0, 0])),
+            Command::NextExpiry => Ok(self.cache.next_expiry().map_or([0; VALUES], |time| [1, time, 0, 0, 0])),
         }
     }
 
     /// Empties the pending path into a coordinate. None can be made of an empty one, so number 2 is then given here and not by
     /// the crate: behind 1, which none of its calls gives, and before 3, which the call would come to next.
     fn take_pending(&mut self) -> Result<TreeCoordinate, u8> {
-        TreeCoordinate::new(std::mem::take(&mut self.pending)).map_err(|CoordError::EmptyCoordinate| 2)
+        TreeCoordinate::new(std::mem::take(&mut self.pending)).map_err(|CoordError::EmptyCoordinate| refusal::PATH_LENGTH)
     }
 
-    fn hint(&mut self, write: impl FnOnce(&mut CoordCache, TreeCoordinate) -> Result<Placed, Refused>) -> Result<[u64; 5], u8> {
+    fn hint(&mut self, write: impl FnOnce(&mut CoordCache, TreeCoordinate) -> Result<Placed, Refused>) -> Result<Values, u8> {
         let coords = self.take_pending()?;
         let placed = write(&mut self.cache, coords).map_err(Refused::number)?;
         let outcome = match placed.outcome {
-            HintOutcome::Inserted => 0,
-            HintOutcome::Changed => 1,
-            HintOutcome::Unchanged => 2,
-            HintOutcome::Rejected => 3,
+            HintOutcome::Inserted => INSERTED,
+            HintOutcome::Changed => CHANGED,
+            HintOutcome::Unchanged => UNCHANGED,
+            HintOutcome::Rejected => REJECTED,
         };
         let segment = match placed.segment {
-            Segment::Main => 0,
-            Segment::Probation => 1,
+            Segment::Main => IN_MAIN,
+            Segment::Probation => IN_PROBATION,
         };
         Ok([outcome, placed.added_weight, segment, placed.unfunded.into(), placed.examined])
     }
@@ -181,7 +182,7 @@ impl ByCrate {
     fn verify(
         &mut self,
         write: impl FnOnce(&mut CoordCache, TreeCoordinate) -> Result<VerifiedInsert, Refused>,
-    ) -> Result<[u64; 5], u8> {
+    ) -> Result<Values, u8> {
         let coords = self.take_pending()?;
         let done = write(&mut self.cache, coords).map_err(Refused::number)?;
         Ok([0, done.weight, 0, 0, done.examined])
@@ -200,8 +201,8 @@ fn paid(funding: cache::Funding) -> Funding {
     }
 }
 
-fn found(path: Option<&Path>, handed: &mut Handed) -> [u64; 5] {
-    let Some(path) = path else { return [0; 5] };
+fn found(path: Option<&Path>, handed: &mut Handed) -> Values {
+    let Some(path) = path else { return [0; VALUES] };
     *handed = Handed::Path(elements(path));
     [1, path.len() as u64, 0, 0, 0]
 }

@@ -8,10 +8,11 @@ use super::proved::{Counts, Proved, Side, Stop, output};
 use super::streams::Stream;
 use super::tally::Tally;
 use crate::driver::dice::Dice;
+use crate::numbers::{self, code, refusal};
 
-/// The longest line of 01 has 110 bytes: two digits, a refusal, five numbers of up to twenty digits, the end. A run may ask for
-/// more before it makes a command, which 01 leaves free; not for more than this.
+/// A run may ask for more room than its line has before it makes a command, which 01 leaves free; not for more than this.
 pub const LINE: usize = 160;
+const _: () = assert!(numbers::LINE <= LINE);
 
 /// What is not as it should be, in words.
 pub type Unlike = Vec<String>;
@@ -43,7 +44,7 @@ impl Pair {
         let made = caught(|| {
             let (reply, _) = original.command(command);
             // what takes the original shared, or is not made on it, leaves the memory as it is
-            if reply.refusal == 0 && !matches!(reply.code, 0x01 | 0x20 | 0x40 | 0x41) {
+            if reply.refusal == 0 && !matches!(reply.code, code::ELEMENT | code::GET | code::STATS | code::NEXT_EXPIRY) {
                 packed::write(original, memory);
             }
             reply
@@ -58,12 +59,12 @@ impl Pair {
         if text != line {
             said.insert(0, format!("line: expected {:?}, found {:?}", shown(&line), shown(text)));
         }
-        let stop = if reply.refusal == 6 { Stop::Six } else { Stop::End };
+        let stop = if reply.refusal == refusal::NO_COMMAND { Stop::Six } else { Stop::End };
         if report.stop != stop {
             said.push(format!("stop: expected {stop:?}, found {:?}", report.stop));
         }
         // how much of a command that is refused by 6 counts as used is not said by 01, and nothing reads on behind it
-        if reply.refusal != 6 && report.used != command.len() {
+        if reply.refusal != refusal::NO_COMMAND && report.used != command.len() {
             said.push(format!("bytes used: expected {}, found {}", command.len(), report.used));
         }
         if said.is_empty() { Ok(reply) } else { Err(said) }
@@ -97,7 +98,7 @@ impl Pair {
                 if run.six && !run.cut {
                     // a run stops after a 6: this would be seen
                     bytes.extend(encode::fresh(0, 0));
-                    bytes.extend(encode::bare(0x41));
+                    bytes.extend(encode::bare(code::NEXT_EXPIRY));
                 }
                 match &mut dice {
                     None => piece(&mut proved, &bytes, &mut text, lines.len() + LINE)?,

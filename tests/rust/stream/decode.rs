@@ -1,6 +1,8 @@
 //! Commands read from bytes, from the text of 01's command stream and from nothing else: the proved reading must meet this one.
 use crate::cache::Funding;
 use crate::driver::calls::{Addr, Elem};
+pub use crate::numbers::code::operands;
+use crate::numbers::{BYTE, UNCHARGED, UPTO, code};
 
 /// A command that is known, whole, and of a legal funding kind.
 pub enum Command {
@@ -25,25 +27,9 @@ pub enum Command {
     NextExpiry,
 }
 
-/// The bytes of each operand behind a code, or nothing for a code that is unknown.
-pub fn operands(code: u8) -> Option<&'static [usize]> {
-    Some(match code {
-        0x00 => &[2, 8],
-        0x01 => &[16, 8, 8],
-        0x10 | 0x14 | 0x20 | 0x21 => &[16, 8],
-        0x11 => &[16, 8, 8],
-        0x12 | 0x13 => &[16, 8, 1, 8],
-        0x15 => &[16, 8, 2],
-        0x22 | 0x23 | 0x24 | 0x32 | 0x33 => &[16],
-        0x30 | 0x40 => &[8],
-        0x31 | 0x41 => &[],
-        _ => return None,
-    })
-}
-
 /// The bytes of a whole command, its code among them.
 pub fn size(code: u8) -> Option<usize> {
-    operands(code).map(|widths| 1 + widths.iter().sum::<usize>())
+    operands(code).map(|widths| BYTE + widths.iter().sum::<usize>())
 }
 
 /// Whether these bytes are the beginning of a command and no more.
@@ -53,7 +39,7 @@ pub fn cut(bytes: &[u8]) -> bool {
 
 /// The codes that empty the pending path, refused or not: by 6 too.
 pub fn empties_pending(code: u8) -> bool {
-    (0x10..=0x15).contains(&code)
+    code::INSERTS.contains(&code)
 }
 
 /// Operands taken from the front, little-endian.
@@ -79,11 +65,11 @@ impl Operands<'_> {
     }
 
     fn funding(&mut self) -> Option<Funding> {
-        let [kind] = self.array::<1>();
+        let [kind] = self.array::<BYTE>();
         let amount = self.number();
         match kind {
-            0 => Some(Funding::Uncharged),
-            1 => Some(Funding::Upto(amount)),
+            UNCHARGED => Some(Funding::Uncharged),
+            UPTO => Some(Funding::Upto(amount)),
             _ => None,
         }
     }
@@ -98,25 +84,27 @@ pub fn command(bytes: &[u8]) -> Option<(Command, usize)> {
     }
     let mut o = Operands(rest);
     let command = match code {
-        0x00 => Command::Fresh { max: o.short().into(), ttl: o.number() },
-        0x01 => Command::Element(Elem { addr: o.addr(), sequence: o.number(), timestamp: o.number() }),
-        0x10 => Command::Insert { key: o.addr(), time: o.number() },
-        0x11 => Command::InsertWithTtl { key: o.addr(), time: o.number(), ttl: o.number() },
-        0x12 => Command::InsertFunded { key: o.addr(), time: o.number(), funding: o.funding()? },
-        0x13 => Command::InsertStated { key: o.addr(), time: o.number(), funding: o.funding()? },
-        0x14 => Command::InsertVerified { key: o.addr(), time: o.number() },
-        0x15 => Command::InsertVerifiedWithPathMtu { key: o.addr(), time: o.number(), mtu: o.short() },
-        0x20 => Command::Get { key: o.addr(), time: o.number() },
-        0x21 => Command::GetAndTouch { key: o.addr(), time: o.number() },
-        0x22 => Command::Remove { key: o.addr() },
-        0x23 => Command::Demote { key: o.addr() },
-        0x24 => Command::ClearPathMtu { key: o.addr() },
-        0x30 => Command::PurgeExpired { time: o.number() },
-        0x31 => Command::Clear,
-        0x32 => Command::InvalidateViaNode { addr: o.addr() },
-        0x33 => Command::InvalidateOtherRoots { addr: o.addr() },
-        0x40 => Command::Stats { time: o.number() },
-        0x41 => Command::NextExpiry,
+        code::FRESH => Command::Fresh { max: o.short().into(), ttl: o.number() },
+        code::ELEMENT => Command::Element(Elem { addr: o.addr(), sequence: o.number(), timestamp: o.number() }),
+        code::INSERT => Command::Insert { key: o.addr(), time: o.number() },
+        code::INSERT_WITH_TTL => Command::InsertWithTtl { key: o.addr(), time: o.number(), ttl: o.number() },
+        code::INSERT_FUNDED => Command::InsertFunded { key: o.addr(), time: o.number(), funding: o.funding()? },
+        code::INSERT_STATED => Command::InsertStated { key: o.addr(), time: o.number(), funding: o.funding()? },
+        code::INSERT_VERIFIED => Command::InsertVerified { key: o.addr(), time: o.number() },
+        code::INSERT_VERIFIED_WITH_PATH_MTU => {
+            Command::InsertVerifiedWithPathMtu { key: o.addr(), time: o.number(), mtu: o.short() }
+        }
+        code::GET => Command::Get { key: o.addr(), time: o.number() },
+        code::GET_AND_TOUCH => Command::GetAndTouch { key: o.addr(), time: o.number() },
+        code::REMOVE => Command::Remove { key: o.addr() },
+        code::DEMOTE => Command::Demote { key: o.addr() },
+        code::CLEAR_PATH_MTU => Command::ClearPathMtu { key: o.addr() },
+        code::PURGE_EXPIRED => Command::PurgeExpired { time: o.number() },
+        code::CLEAR => Command::Clear,
+        code::INVALIDATE_VIA_NODE => Command::InvalidateViaNode { addr: o.addr() },
+        code::INVALIDATE_OTHER_ROOTS => Command::InvalidateOtherRoots { addr: o.addr() },
+        code::STATS => Command::Stats { time: o.number() },
+        code::NEXT_EXPIRY => Command::NextExpiry,
         _ => return None,
     };
     Some((command, size))

@@ -2,30 +2,31 @@
 //! departs from the original.
 use super::original::Cache;
 use crate::cache::{Funding, HintOutcome, Placed};
-use crate::driver::calls::{Inside, LAST_SEQ, probation_bound};
+use crate::driver::calls::{Inside, bad_path, bad_size, probation_bound};
 use crate::identity::NodeAddr;
+use crate::numbers::{LAST_SEQ, Values, refusal};
 use crate::proto::stp::TreeCoordinate;
 
 /// Refusal 5. The original takes any limit; the lent memory has R rows.
 pub fn fresh_refused(rows: u64, max: u64) -> Option<u8> {
-    (rows > 1024 || rows < max + probation_bound(max)).then_some(5)
+    bad_size(rows, max).then_some(refusal::ROW_COUNT)
 }
 
-/// Refusal 2. The original's type has no empty path and takes any length. (A pending path never has a 33rd element.)
+/// Refusal 2. The original's type has no empty path and takes any length. (A pending path never has more elements than places.)
 pub fn path_refused(length: usize) -> Option<u8> {
-    (length == 0 || length > 32).then_some(2)
+    bad_path(length).then_some(refusal::PATH_LENGTH)
 }
 
 /// Refusal 3. The original's seq overflows. No stream reaches it from fresh; a test sets seq high.
 pub fn stamps_refused(cache: &Cache) -> Option<u8> {
-    (cache.seq() > LAST_SEQ).then_some(3)
+    (cache.seq() > LAST_SEQ).then_some(refusal::SEQUENCE_USED_UP)
 }
 
 /// Refusal 4. The original grows past its bound, where the lent memory has no main row left. Whether room can be made is
 /// asked of the original itself, on a copy; only where all else holds, since a copy is dear.
 pub fn verified_refused(cache: &Cache, rows: u64, key: &NodeAddr, weight: u64, time: u64) -> Option<u8> {
     let main = rows - probation_bound(cache.max_entries() as u64);
-    (!cache.in_main(key) && cache.main_rows() >= main && !cache.room_without(key, weight, time)).then_some(4)
+    (!cache.in_main(key) && cache.main_rows() >= main && !cache.room_without(key, weight, time)).then_some(refusal::NO_MAIN_ROW)
 }
 
 /// `insert` and `insert_with_ttl` give the outcome alone; `place_hint` beneath them gives the whole answer. That they are
@@ -49,7 +50,7 @@ pub fn uncharged(
 }
 
 /// The original's total of ages overflows; 01's is exact. No age is above the time given, so a small time cannot overflow.
-pub fn stats(cache: &Cache, time: u64) -> [u64; 5] {
+pub fn stats(cache: &Cache, time: u64) -> Values {
     let count = cache.len() as u64;
     let theirs = || {
         let stats = cache.stats(time);

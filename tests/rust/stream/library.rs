@@ -5,23 +5,10 @@ use super::lines::{Reply, shown};
 use super::packed::{self, PENDING};
 use super::proved::{Counts, GUARD, GUARDED, Report, Side, Stop, output};
 use super::streams::Stream;
+use crate::numbers::{NUMBER, REPORT, SEQ, VALUES, code};
 
 #[cfg(linked)]
-unsafe extern "C" {
-    fn stream_run(
-        state: *mut u8,
-        state_len: usize,
-        pending: *mut u8,
-        pending_len: usize,
-        input: *const u8,
-        input_len: usize,
-        last: u8,
-        output: *mut u8,
-        output_len: usize,
-        report: *mut u64,
-        report_len: usize,
-    );
-}
+use crate::functions::stream_run;
 
 /// What only the original is asked for (`--record`) is compiled without the library.
 #[cfg(not(linked))]
@@ -71,11 +58,11 @@ impl Side for Library {
         let mut text = output(LINE);
         let report = library.run(&stream.fresh(), true, &mut text)?;
         let line = &text[..report.written];
-        if line != Reply::new(0, Ok([0; 5])).line() {
+        if line != Reply::new(code::FRESH, Ok([0; VALUES])).line() {
             return Err(format!("the line of the first fresh: found {:?}", shown(line)));
         }
         if stream.seq > 0 {
-            library.state[16..24].copy_from_slice(&stream.seq.to_le_bytes());
+            library.state[SEQ..][..NUMBER].copy_from_slice(&stream.seq.to_le_bytes());
         }
         Ok(library)
     }
@@ -112,11 +99,11 @@ impl Side for Library {
                 output.as_mut_ptr(),
                 room,
                 report.as_mut_ptr(),
-                5,
+                REPORT,
             );
         }
         let guards = [&self.state[self.size..], &self.pending[PENDING..], &output[room..]];
-        if guards.iter().any(|guard| guard.iter().any(|b| *b != GUARDED)) || report[5] != u64::from(GUARDED) {
+        if guards.iter().any(|guard| guard.iter().any(|b| *b != GUARDED)) || report[REPORT] != u64::from(GUARDED) {
             return Err("bytes behind the lent parts were written".to_string());
         }
         self.counts = Counts { done: report[3], refused: report[4] };

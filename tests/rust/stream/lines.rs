@@ -1,30 +1,26 @@
 //! The line that answers a command.
+use crate::numbers::{DIGITS, VALUES, Values};
 
 /// 01's number of a refusal, or 0, and its five numbers for a command.
 #[derive(Clone, Copy, Debug, PartialEq, Eq)]
 pub struct Reply {
     pub code: u8,
     pub refusal: u8,
-    pub numbers: [u64; 5],
+    pub numbers: Values,
 }
 
 impl Reply {
-    pub fn new(code: u8, answer: Result<[u64; 5], u8>) -> Self {
+    pub fn new(code: u8, answer: Result<Values, u8>) -> Self {
         match answer {
             Ok(numbers) => Reply { code, refusal: 0, numbers },
-            Err(refusal) => Reply { code, refusal, numbers: [0; 5] },
+            Err(refusal) => Reply { code, refusal, numbers: [0; VALUES] },
         }
     }
 
     /// Writes the line. By hand and not by `format`, since the benchmark counts its time as the original's.
     pub fn write(&self, out: &mut Vec<u8>) {
-        const DIGITS: &[u8; 16] = b"0123456789abcdef";
-        out.extend_from_slice(&[
-            DIGITS[usize::from(self.code >> 4)],
-            DIGITS[usize::from(self.code & 15)],
-            b' ',
-            b'0' + self.refusal,
-        ]);
+        const HEX: &[u8; 16] = b"0123456789abcdef";
+        out.extend_from_slice(&[HEX[usize::from(self.code >> 4)], HEX[usize::from(self.code & 15)], b' ', b'0' + self.refusal]);
         for number in self.numbers {
             out.push(b' ');
             decimal(number, out);
@@ -40,7 +36,7 @@ impl Reply {
 }
 
 fn decimal(mut number: u64, out: &mut Vec<u8>) {
-    let mut digits = [0; 20];
+    let mut digits = [0; DIGITS];
     let mut at = digits.len();
     loop {
         at -= 1;

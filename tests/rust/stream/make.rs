@@ -2,13 +2,14 @@
 //! verifications, amounts on charges, and keys on held rows.
 use super::decode;
 use super::encode;
-use super::original::{Original, PLACES, caught};
+use super::original::{Original, caught};
 use super::profiles::{Keys, Taste};
 use super::streams::Stream;
 use crate::cache::Funding;
-use crate::driver::calls::{Addr, Elem, LAST_SEQ, Path, Row, path_weight, probation_bound};
+use crate::driver::calls::{Addr, Elem, Path, Row, path_weight, probation_bound};
 use crate::driver::dice::Dice;
 use crate::driver::lists;
+use crate::numbers::{ADDRESS, ADDRS_PER_ENTRY, LAST_SEQ, PLACES, UPTO, VERIFIED_TTL_MS, WEIGHT_LIMIT, code};
 
 struct Maker<'a> {
     taste: &'a Taste,
@@ -54,10 +55,10 @@ fn address(dice: &mut Dice) -> Addr {
     if dice.chance(50) {
         return dice.pick(&lists::addresses());
     }
-    let mut addr = [dice.pick(&[0x00, 0x7f, 0x80, 0xff, 0x3c]); 16];
+    let mut addr = [dice.pick(&[0x00, 0x7f, 0x80, 0xff, 0x3c]); ADDRESS];
     let changed = 1 + dice.below(3);
     for _ in 0..changed {
-        let at = dice.below(16);
+        let at = dice.below(ADDRESS);
         addr[at] = dice.roll() as u8;
     }
     addr
@@ -106,7 +107,7 @@ impl<'a> Maker<'a> {
     fn put_path(&mut self, path: &Path) {
         for e in path {
             self.put(encode::element(e));
-            // the pending path outlives all but the codes 10 to 15
+            // the pending path outlives all but the inserts
             if self.dice.chance(1) {
                 self.call_without_path();
             }
@@ -124,9 +125,9 @@ impl<'a> Maker<'a> {
             let main = (i as u64) < max;
             let verified = main && self.dice.chance(20);
             self.put(if verified {
-                encode::keyed_at(0x14, &key, time)
+                encode::keyed_at(code::INSERT_VERIFIED, &key, time)
             } else {
-                encode::paid(0x12, &key, time, 1, if main { 16 } else { 15 })
+                encode::paid(code::INSERT_FUNDED, &key, time, UPTO, if main { ADDRS_PER_ENTRY } else { ADDRS_PER_ENTRY - 1 })
             });
         }
     }
@@ -155,17 +156,17 @@ impl<'a> Maker<'a> {
 
     fn insert(&mut self, kind: usize, key: &Addr, path: &Path, row: Option<&Row>) -> Vec<u8> {
         let time = self.time(row);
-        let unread = self.dice.pick(&[0, 0, 16, u64::MAX]);
+        let unread = self.dice.pick(&[0, 0, ADDRS_PER_ENTRY, u64::MAX]);
         let funding = self.funding(path, row);
         match kind {
-            0 => encode::keyed_at(0x10, key, time),
+            0 => encode::keyed_at(code::INSERT, key, time),
             1 => {
                 let row_ttl = self.original.cache().default_ttl_ms();
                 encode::insert_with_ttl(key, time, self.dice.pick(&[0, 1, 2, 10, 1000, 300_000, row_ttl, u64::MAX]))
             }
-            2 => encode::funded(0x12, key, time, funding, unread),
-            3 => encode::funded(0x13, key, time, funding, unread),
-            4 => encode::keyed_at(0x14, key, time),
+            2 => encode::funded(code::INSERT_FUNDED, key, time, funding, unread),
+            3 => encode::funded(code::INSERT_STATED, key, time, funding, unread),
+            4 => encode::keyed_at(code::INSERT_VERIFIED, key, time),
             _ => encode::insert_verified_with_path_mtu(key, time, self.dice.pick(&[0, 1, 255, 256, 1280, 1400, 65535])),
         }
     }
@@ -174,17 +175,17 @@ impl<'a> Maker<'a> {
     fn plain(&mut self, kind: usize, key: &Addr) -> Vec<u8> {
         let row = self.original.row(key);
         match kind {
-            6 => encode::keyed_at(0x20, key, self.time(row.as_ref())),
-            7 => encode::keyed_at(0x21, key, self.time(row.as_ref())),
-            8 => encode::addressed(0x22, key),
-            9 => encode::addressed(0x23, key),
-            10 => encode::addressed(0x24, key),
-            11 => encode::at(0x30, self.time(row.as_ref())),
-            12 => encode::bare(0x31),
-            13 => encode::addressed(0x32, &self.named(row.as_ref(), |path, dice| dice.below(path.len()))),
-            14 => encode::addressed(0x33, &self.named(row.as_ref(), |path, _| path.len() - 1)),
-            15 => encode::at(0x40, self.time(row.as_ref())),
-            16 => encode::bare(0x41),
+            6 => encode::keyed_at(code::GET, key, self.time(row.as_ref())),
+            7 => encode::keyed_at(code::GET_AND_TOUCH, key, self.time(row.as_ref())),
+            8 => encode::addressed(code::REMOVE, key),
+            9 => encode::addressed(code::DEMOTE, key),
+            10 => encode::addressed(code::CLEAR_PATH_MTU, key),
+            11 => encode::at(code::PURGE_EXPIRED, self.time(row.as_ref())),
+            12 => encode::bare(code::CLEAR),
+            13 => encode::addressed(code::INVALIDATE_VIA_NODE, &self.named(row.as_ref(), |path, dice| dice.below(path.len()))),
+            14 => encode::addressed(code::INVALIDATE_OTHER_ROOTS, &self.named(row.as_ref(), |path, _| path.len() - 1)),
+            15 => encode::at(code::STATS, self.time(row.as_ref())),
+            16 => encode::bare(code::NEXT_EXPIRY),
             _ => {
                 // at the bound of the rows, or the limits that are there
                 let rows = self.original.rows;
@@ -247,7 +248,7 @@ impl<'a> Maker<'a> {
         match self.dice.below(5) {
             0 => other[at].sequence ^= bit << (8 * self.dice.below(8)),
             1 => other[at].timestamp ^= bit << (8 * self.dice.below(8)),
-            2 => other[at].addr[self.dice.below(16)] ^= bit as u8,
+            2 => other[at].addr[self.dice.below(ADDRESS)] ^= bit as u8,
             3 if other.len() > 1 => {
                 other.pop();
             }
@@ -276,7 +277,9 @@ impl<'a> Maker<'a> {
             (4, Some(row)) => dice.near(row.entry.expires_at),
             (5, Some(row)) if row.entry.verified => dice.near(row.entry.verified_until),
             (6, Some(row)) => dice.near(row.entry.last_used),
-            (7, _) => last.saturating_add(dice.pick(&[100_000, 299_999, 300_000, 300_001])),
+            (7, _) => {
+                last.saturating_add(dice.pick(&[VERIFIED_TTL_MS / 3, VERIFIED_TTL_MS - 1, VERIFIED_TTL_MS, VERIFIED_TTL_MS + 1]))
+            }
             (8, _) => dice.pick(&[0, 1, u64::MAX, u64::MAX - 1]),
             _ => last,
         };
@@ -287,18 +290,19 @@ impl<'a> Maker<'a> {
         time
     }
 
-    /// Amounts around the charge, and around 15 to 33.
+    /// Amounts around the charge, and around the least and the most that a path weighs.
     fn funding(&mut self, path: &Path, row: Option<&Row>) -> Funding {
         let weight = path_weight(path);
         let old = row.map_or(0, |row| row.weight);
+        let (light, heavy) = (ADDRS_PER_ENTRY, WEIGHT_LIMIT);
         let dice = &mut self.dice;
         Funding::Upto(match dice.below(12) {
             0..2 => return Funding::Uncharged,
             2..5 => dice.near(weight.saturating_sub(old)),
             5..7 => dice.near(weight),
             7..9 => dice.near(weight.max(old)),
-            9..11 => 15 + dice.below(19) as u64,
-            _ => dice.pick(&[0, 1, 15, 16, 17, 31, 32, 33, 256, u64::MAX]),
+            9..11 => light - 1 + dice.below((heavy - light + 3) as usize) as u64,
+            _ => dice.pick(&[0, 1, light - 1, light, light + 1, heavy - 1, heavy, heavy + 1, 256, u64::MAX]),
         })
     }
 
@@ -364,8 +368,8 @@ impl<'a> Maker<'a> {
             }
             2 => {
                 let kind = self.dice.pick(&[2, 2, 3, 127, 128, 255]);
-                let code = self.dice.pick(&[0x12, 0x13]);
-                self.put(encode::paid(code, &key, time, kind, 16));
+                let code = self.dice.pick(&[code::INSERT_FUNDED, code::INSERT_STATED]);
+                self.put(encode::paid(code, &key, time, kind, ADDRS_PER_ENTRY));
             }
             3 => {
                 let turned = 1 + self.dice.below(3);

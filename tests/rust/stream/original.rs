@@ -7,6 +7,7 @@ use super::proved::{Proved, Side};
 use crate::cache::{CoordCache, HintOutcome, Placed, Segment};
 use crate::driver::calls::{Addr, Entropy, Entry, Inside, Row, elements};
 use crate::identity::NodeAddr;
+use crate::numbers::{CHANGED, IN_MAIN, IN_PROBATION, INSERTED, PLACES, REJECTED, UNCHANGED, VALUES, Values, refusal};
 use crate::proto::stp::{CoordEntry, TreeCoordinate};
 use std::cell::{Cell, RefCell};
 use std::panic::{AssertUnwindSafe, catch_unwind};
@@ -22,9 +23,6 @@ pub struct Original {
     /// by the last command; kept only where the proved side has the same, since the benchmark counts the original's time
     handed: Handed,
 }
-
-/// The places of a path.
-pub const PLACES: usize = 32;
 
 impl Original {
     /// As a done fresh leaves it, but for seq, which only a test can set.
@@ -58,7 +56,7 @@ impl Original {
             if decode::empties_pending(code) {
                 self.pending.clear();
             }
-            return (Reply::new(code, Err(6)), bytes.len());
+            return (Reply::new(code, Err(refusal::NO_COMMAND)), bytes.len());
         };
         (Reply::new(code, self.act(command)), size)
     }
@@ -68,21 +66,21 @@ impl Original {
         while !bytes.is_empty() {
             let (reply, size) = self.command(bytes);
             reply.write(out);
-            if reply.refusal == 6 {
+            if reply.refusal == refusal::NO_COMMAND {
                 break;
             }
             bytes = &bytes[size..];
         }
     }
 
-    fn act(&mut self, command: Command) -> Result<[u64; 5], u8> {
+    fn act(&mut self, command: Command) -> Result<Values, u8> {
         let addr = NodeAddr::from_bytes;
         let default_ttl = self.cache.default_ttl_ms();
         match command {
             Command::Fresh { max, ttl } => {
                 refused(differences::fresh_refused(self.rows, max))?;
                 self.cache = Cache::new(max as usize, ttl);
-                Ok([0; 5])
+                Ok([0; VALUES])
             }
             Command::Element(e) => {
                 refused(differences::path_refused(self.pending.len() + 1))?;
@@ -118,19 +116,19 @@ impl Original {
             }
             Command::ClearPathMtu { key } => {
                 self.cache.clear_path_mtu(&addr(key));
-                Ok([0; 5])
+                Ok([0; VALUES])
             }
             Command::PurgeExpired { time } => Ok(first(self.cache.purge_expired(time) as u64)),
             Command::Clear => {
                 self.cache.clear();
-                Ok([0; 5])
+                Ok([0; VALUES])
             }
             Command::InvalidateViaNode { addr: a } => Ok(first(self.cache.invalidate_via_node(&addr(a)) as u64)),
             Command::InvalidateOtherRoots { addr: a } => Ok(first(self.cache.invalidate_other_roots(&addr(a)) as u64)),
             Command::Stats { time } => Ok(differences::stats(&self.cache, time)),
             Command::NextExpiry => Ok(match differences::next_expiry(&self.cache) {
                 Some(time) => [1, time, 0, 0, 0],
-                None => [0; 5],
+                None => [0; VALUES],
             }),
         }
     }
@@ -144,25 +142,25 @@ impl Original {
         Ok(TreeCoordinate::new(path).expect("a path that is not refused by 2"))
     }
 
-    fn hint(&mut self, write: impl FnOnce(&mut Cache, TreeCoordinate) -> Placed) -> Result<[u64; 5], u8> {
+    fn hint(&mut self, write: impl FnOnce(&mut Cache, TreeCoordinate) -> Placed) -> Result<Values, u8> {
         let coords = self.take_pending()?;
         let before = self.cache.eviction_examined();
         let placed = write(&mut self.cache, coords);
         let outcome = match placed.outcome {
-            HintOutcome::Inserted => 0,
-            HintOutcome::Changed => 1,
-            HintOutcome::Unchanged => 2,
-            HintOutcome::Rejected => 3,
+            HintOutcome::Inserted => INSERTED,
+            HintOutcome::Changed => CHANGED,
+            HintOutcome::Unchanged => UNCHANGED,
+            HintOutcome::Rejected => REJECTED,
         };
         let segment = match placed.segment {
-            Segment::Main => 0,
-            Segment::Probation => 1,
+            Segment::Main => IN_MAIN,
+            Segment::Probation => IN_PROBATION,
         };
         let examined = self.cache.eviction_examined() - before;
         Ok([outcome, placed.added_weight, segment, placed.unfunded.into(), examined])
     }
 
-    fn verify(&mut self, key: NodeAddr, time: u64, write: impl FnOnce(&mut Cache, TreeCoordinate)) -> Result<[u64; 5], u8> {
+    fn verify(&mut self, key: NodeAddr, time: u64, write: impl FnOnce(&mut Cache, TreeCoordinate)) -> Result<Values, u8> {
         let coords = self.take_pending()?;
         let weight = Cache::weight_of_path(&coords);
         refused(differences::verified_refused(&self.cache, self.rows, &key, weight, time))?;
@@ -177,12 +175,12 @@ fn refused(number: Option<u8>) -> Result<(), u8> {
 }
 
 /// What is answered by one number.
-pub fn first(n: u64) -> [u64; 5] {
+pub fn first(n: u64) -> Values {
     [n, 0, 0, 0, 0]
 }
 
-fn found(path: Option<&TreeCoordinate>, handed: &mut Handed) -> [u64; 5] {
-    let Some(path) = path else { return [0; 5] };
+fn found(path: Option<&TreeCoordinate>, handed: &mut Handed) -> Values {
+    let Some(path) = path else { return [0; VALUES] };
     if Proved::HANDS_BACK {
         *handed = Handed::Path(elements(path));
     }

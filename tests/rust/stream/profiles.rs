@@ -1,4 +1,5 @@
 //! The profiles: what the streams of each draw from. A profile is a taste; `make.rs` makes streams to it.
+use crate::numbers::{ADDRS_PER_ENTRY, COORDRUN_ROWS, MAX_ROWS, MOST_ENTRIES, PLACES, PROBATION_DIVISOR, VERIFIED_TTL_MS};
 
 /// Kinds of commands but path elements, in the order of the weights below.
 pub const KINDS: usize = 18;
@@ -62,13 +63,27 @@ pub struct Taste {
 const TTLS: &[u64] = &[300_000, 300_000, 300_000, 1000, 400_000, 10, u64::MAX];
 // of large caches, whose rows stay until they are evicted
 const LONG_TTLS: &[u64] = &[300_000, 1_000_000, u64::MAX];
-const LARGE_LENGTHS: &[usize] = &[1, 1, 1, 1, 1, 1, 1, 1, 1, 1, 2, 17];
+const LARGE_LENGTHS: &[usize] = &[1, 1, 1, 1, 1, 1, 1, 1, 1, 1, 2, LIGHT + 1];
 const LARGE_TIMES: Times = Times { same: 50, ahead: 40, back: 4, again: 3, expiry: 0, until: 1, used: 3, leap: 0, far: 0 };
 const STARTS: &[u64] = &[0, 0, 1, 5, 1000, 400_000, 1_700_000_000_000];
-const SHORT: &[usize] = &[1, 1, 1, 2, 2, 3, 4, 16, 17, 18];
-const AROUND: &[usize] = &[1, 1, 2, 15, 16, 16, 17, 17, 18, 20, 24, 31, 32, 32];
-const LENGTHS: &[usize] =
-    &[1, 2, 3, 4, 5, 6, 7, 8, 9, 10, 11, 12, 13, 14, 15, 16, 17, 18, 19, 20, 21, 22, 23, 24, 25, 26, 27, 28, 29, 30, 31, 32];
+/// The longest path of the least weight.
+const LIGHT: usize = ADDRS_PER_ENTRY as usize;
+const SHORT: &[usize] = &[1, 1, 1, 2, 2, 3, 4, LIGHT, LIGHT + 1, LIGHT + 2];
+const AROUND: &[usize] =
+    &[1, 1, 2, LIGHT - 1, LIGHT, LIGHT, LIGHT + 1, LIGHT + 1, LIGHT + 2, LIGHT + 4, LIGHT + 8, PLACES - 1, PLACES, PLACES];
+const LENGTHS: &[usize] = &{
+    let mut lengths = [0; PLACES];
+    let mut i = 0;
+    while i < PLACES {
+        lengths[i] = i + 1;
+        i += 1;
+    }
+    lengths
+};
+/// coordrun's rows and max.
+const COORDRUN: (u64, u64) = (COORDRUN_ROWS, 8);
+/// The least max at which probation holds two rows.
+const WIDE: u64 = 2 * PROBATION_DIVISOR;
 const TIMES: Times = Times { same: 40, ahead: 22, back: 6, again: 6, expiry: 6, until: 8, used: 6, leap: 1, far: 0 };
 
 const FEW: Taste = Taste {
@@ -96,7 +111,7 @@ pub const TASTES: [Taste; 14] = [
         about: "coordrun's own limits, R 24 and max 8, and 9 to 14 keys, so that main and probation are full",
         share: 12,
         length: 300,
-        limits: &[(24, 8)],
+        limits: &[COORDRUN],
         ttls: &[300_000],
         keys: Keys::Over(1, 6),
         ..FEW
@@ -108,17 +123,17 @@ pub const TASTES: [Taste; 14] = [
         length: 400,
         limits: &[(6, 5), (13, 12), (24, 23), (32, 31), (33, 31), (64, 63), (24, 16), (17, 16)],
         keys: Keys::Over(2, 8),
-        lengths: &[1, 1, 1, 1, 2, 3, 16, 17, 32],
+        lengths: &[1, 1, 1, 1, 2, 3, LIGHT, LIGHT + 1, PLACES],
         ..FEW
     },
     Taste {
         name: "verified",
         about: "verified inserts at ticking and tied times, touches back in time, verifications that lapse",
         share: 10,
-        limits: &[(2, 1), (3, 2), (4, 3), (4, 2), (6, 4), (9, 8), (24, 8)],
-        ttls: &[300_000, 400_000, 1_000_000, u64::MAX, 299_999],
+        limits: &[(2, 1), (3, 2), (4, 3), (4, 2), (6, 4), (9, 8), COORDRUN],
+        ttls: &[VERIFIED_TTL_MS, 400_000, 1_000_000, u64::MAX, VERIFIED_TTL_MS - 1],
         keys: Keys::Over(1, 4),
-        lengths: &[1, 1, 1, 1, 2, 16, 17, 18, 32],
+        lengths: &[1, 1, 1, 1, 2, LIGHT, LIGHT + 1, LIGHT + 2, PLACES],
         times: Times { same: 36, ahead: 16, back: 8, again: 10, expiry: 2, until: 16, used: 6, leap: 5, far: 0 },
         kinds: [6, 2, 14, 10, 34, 10, 3, 26, 3, 9, 3, 1, 0, 0, 0, 1, 1, 0],
         ..FEW
@@ -128,7 +143,7 @@ pub const TASTES: [Taste; 14] = [
         about: "amounts around 15 to 33 against path weights, both kinds, growth, promotion, probation under pressure",
         share: 10,
         length: 420,
-        limits: &[(3, 2), (2, 1), (4, 3), (5, 3), (7, 4), (9, 8), (24, 8), (66, 64)],
+        limits: &[(3, 2), (2, 1), (4, 3), (5, 3), (7, 4), (9, 8), COORDRUN, (WIDE + 2, WIDE)],
         ttls: &[300_000, 300_000, 1000],
         keys: Keys::Over(1, 4),
         lengths: AROUND,
@@ -141,9 +156,9 @@ pub const TASTES: [Taste; 14] = [
         name: "foreign-bytes",
         about: "damaged commands: codes unknown, commands cut, kinds over 1, bits turned, a 33rd element, inserts with no path",
         share: 8,
-        limits: &[(24, 8), (3, 2), (2, 1), (9, 8)],
+        limits: &[COORDRUN, (3, 2), (2, 1), (9, 8)],
         keys: Keys::Count(3, 9),
-        lengths: &[1, 1, 1, 2, 2, 3, 17],
+        lengths: &[1, 1, 1, 2, 2, 3, LIGHT + 1],
         disorder: 10,
         damage: 25,
         ..FEW
@@ -152,10 +167,10 @@ pub const TASTES: [Taste; 14] = [
         name: "sweeps",
         about: "purges, clears, sweeps by address and by root, statistics and next expiries",
         share: 8,
-        limits: &[(24, 8), (9, 8), (6, 5), (14, 12), (33, 32)],
+        limits: &[COORDRUN, (9, 8), (6, 5), (14, 12), (33, 32)],
         ttls: &[5, 20, 100, 300_000],
         keys: Keys::Over(0, 4),
-        lengths: &[1, 1, 2, 2, 3, 4, 5, 7, 17],
+        lengths: &[1, 1, 2, 2, 3, 4, 5, 7, LIGHT + 1],
         times: Times { same: 20, ahead: 36, back: 6, again: 8, expiry: 20, until: 2, used: 4, leap: 3, far: 1 },
         kinds: [10, 12, 20, 6, 8, 4, 6, 10, 6, 3, 3, 12, 2, 8, 4, 12, 12, 2],
         ..FEW
@@ -165,7 +180,7 @@ pub const TASTES: [Taste; 14] = [
         about: "paths of every length from 1 to 32, and paths that differ in one field",
         share: 6,
         length: 600,
-        limits: &[(24, 8), (3, 2), (4, 3), (2, 1), (13, 12)],
+        limits: &[COORDRUN, (3, 2), (4, 3), (2, 1), (13, 12)],
         keys: Keys::Over(0, 3),
         lengths: LENGTHS,
         ..FEW
@@ -177,16 +192,16 @@ pub const TASTES: [Taste; 14] = [
         ttls: &[300_000, 0, 10, u64::MAX, u64::MAX - 5],
         starts: &[
             u64::MAX - 700_000,
-            u64::MAX - 300_001,
-            u64::MAX - 300_000,
-            u64::MAX - 299_999,
+            u64::MAX - VERIFIED_TTL_MS - 1,
+            u64::MAX - VERIFIED_TTL_MS,
+            u64::MAX - VERIFIED_TTL_MS + 1,
             u64::MAX - 12,
             5,
             5,
             u64::MAX - 1,
             u64::MAX,
         ],
-        limits: &[(2, 1), (3, 2), (4, 3), (9, 8), (24, 8)],
+        limits: &[(2, 1), (3, 2), (4, 3), (9, 8), COORDRUN],
         keys: Keys::Over(1, 4),
         times: Times { same: 34, ahead: 20, back: 10, again: 8, expiry: 6, until: 8, used: 6, leap: 2, far: 10 },
         kinds: [8, 8, 20, 12, 18, 6, 6, 14, 3, 5, 2, 3, 0, 0, 0, 10, 4, 0],
@@ -197,7 +212,7 @@ pub const TASTES: [Taste; 14] = [
         about: "ttl 0 and a few milliseconds: rows that expire before they are written again",
         share: 5,
         ttls: &[0, 0, 1, 2, 3, 5],
-        limits: &[(2, 1), (3, 2), (4, 3), (9, 8), (24, 8)],
+        limits: &[(2, 1), (3, 2), (4, 3), (9, 8), COORDRUN],
         keys: Keys::Over(0, 3),
         times: Times { same: 34, ahead: 30, back: 8, again: 4, expiry: 18, until: 3, used: 4, leap: 1, far: 0 },
         kinds: [10, 14, 24, 14, 12, 6, 8, 16, 3, 4, 2, 5, 0, 0, 0, 4, 3, 1],
@@ -208,8 +223,8 @@ pub const TASTES: [Taste; 14] = [
         about: "seq set just below the last one, so that stamping calls come to be refused by 3",
         share: 2,
         length: 150,
-        limits: &[(2, 1), (3, 2), (9, 8), (24, 8)],
-        lengths: &[1, 1, 1, 2, 17],
+        limits: &[(2, 1), (3, 2), (9, 8), COORDRUN],
+        lengths: &[1, 1, 1, 2, LIGHT + 1],
         kinds: [8, 4, 20, 14, 18, 6, 6, 12, 4, 12, 4, 2, 1, 1, 1, 3, 2, 0],
         disorder: 4,
         worn: true,
@@ -220,7 +235,7 @@ pub const TASTES: [Taste; 14] = [
         about: "max 64 to 200, where probation holds more than one row, filled first",
         share: 5,
         length: 700,
-        limits: &[(66, 64), (70, 64), (99, 96), (132, 128), (156, 150), (206, 200), (68, 65)],
+        limits: &[(WIDE + 2, WIDE), (WIDE + 6, WIDE), (99, 96), (132, 128), (156, 150), (206, 200), (WIDE + 4, WIDE + 1)],
         ttls: LONG_TTLS,
         keys: Keys::Over(20, 60),
         lengths: LARGE_LENGTHS,
@@ -235,7 +250,13 @@ pub const TASTES: [Taste; 14] = [
         about: "R 1,024 with max 992 and 993, and other large ones, filled first",
         share: 4,
         length: 1200,
-        limits: &[(1024, 992), (1024, 993), (1024, 992), (600, 500), (1023, 992)],
+        limits: &[
+            (MAX_ROWS, MOST_ENTRIES - 1),
+            (MAX_ROWS, MOST_ENTRIES),
+            (MAX_ROWS, MOST_ENTRIES - 1),
+            (600, 500),
+            (MAX_ROWS - 1, MOST_ENTRIES - 1),
+        ],
         ttls: LONG_TTLS,
         keys: Keys::Over(200, 500),
         lengths: LARGE_LENGTHS,
@@ -254,7 +275,7 @@ pub const GATEWAY: Taste = Taste {
     about: "what a gateway does: lookups above all, paid hints, some verified inserts",
     share: 3,
     length: 1500,
-    limits: &[(24, 8), (132, 128)],
+    limits: &[COORDRUN, (132, 128)],
     ttls: &[300_000],
     starts: &[1_700_000_000_000],
     keys: Keys::Over(0, 4),

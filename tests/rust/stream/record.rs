@@ -9,9 +9,15 @@ use super::profiles::TASTES;
 use super::streams::Stream;
 use super::words::{A, B, C, Commands, D, along, funded, insert, stated, touch, verified};
 use crate::driver::calls::Inside;
+use crate::numbers::{
+    ADDRESS, ADDRS_PER_ENTRY, Addr, BYTE, COORDRUN_ROWS, CREATED_AT, ELEMENT, PLACES, ROW, UPTO, WEIGHT_LIMIT, code,
+};
 
 /// The format, at the head of the file. The script's help says the same.
-const FORMAT: &str = "\
+fn format_told() -> String {
+    let behind = ROW - CREATED_AT;
+    format!(
+        "\
 # Command streams of document 01 with the answers of the original Rust. Written by tests/stream-against-rust --record FILE: the
 # streams, and the seeds of those that are drawn, are fixed in tests/rust/stream/record.rs.
 # A line that begins with # is for readers. Each stream is:
@@ -19,11 +25,13 @@ const FORMAT: &str = "\
 #   in HEX                          the bytes of the run, all on one line
 #   out CODE REFUSAL N N N N N      one for each command, the line of 01 behind 'out '; the run stops after a 6
 #   head MAX TTL SEQ STORED COUNT   the head after the run
-#   row HEX                         COUNT of these, in key order: key 16 bytes, path length 1, so many places of 32, then
-#                                   the 54 bytes that docs/PACKING.md has behind the 32 places (created_at .. weight);
+#   row HEX                         COUNT of these, in key order: key {ADDRESS} bytes, path length {BYTE}, so many places of {ELEMENT}, then
+#                                   the {behind} bytes that docs/PACKING.md has behind the {PLACES} places (created_at .. weight);
 #                                   the places left out are zero, and so are the rows behind the last
 #   end
-";
+"
+    )
+}
 
 /// A case: what it shows, rows, max, ttl, and the bytes.
 struct Case {
@@ -42,41 +50,41 @@ fn one(command: Vec<u8>) -> Commands {
     vec![command]
 }
 
-fn get(key: &[u8; 16], time: u64) -> Commands {
-    one(encode::keyed_at(0x20, key, time))
+fn get(key: &Addr, time: u64) -> Commands {
+    one(encode::keyed_at(code::GET, key, time))
 }
 
-fn demote(key: &[u8; 16]) -> Commands {
-    one(encode::addressed(0x23, key))
+fn demote(key: &Addr) -> Commands {
+    one(encode::addressed(code::DEMOTE, key))
 }
 
 fn next() -> Commands {
-    one(encode::bare(0x41))
+    one(encode::bare(code::NEXT_EXPIRY))
 }
 
 fn stats(time: u64) -> Commands {
-    one(encode::at(0x40, time))
+    one(encode::at(code::STATS, time))
 }
 
 /// Document 01's Table P and its example, its refusals but 1 and 3 (which no stream reaches from fresh), and its errors
 /// close at hand.
 fn chosen() -> Vec<Case> {
-    const TWO: (u64, u64, u64) = (24, 2, 300_000);
-    let run = (24, 8, 300_000);
+    const TWO: (u64, u64, u64) = (COORDRUN_ROWS, 2, 300_000);
+    let run = (COORDRUN_ROWS, 8, 300_000);
     let mtu = |key, time, mtu| along(key, 1, encode::insert_verified_with_path_mtu(key, time, mtu));
     let with_ttl = |key, time, ttl| along(key, 1, encode::insert_with_ttl(key, time, ttl));
-    let kinds = |code, kind| along(&A, 1, encode::paid(code, &A, 0, kind, 16));
+    let kinds = |code, kind| along(&A, 1, encode::paid(code, &A, 0, kind, ADDRS_PER_ENTRY));
     let bytes = |bytes: &[u8]| one(bytes.to_vec());
     let example = || {
         let aa = crate::driver::calls::Elem { addr: A, sequence: 0, timestamp: 0 };
-        vec![one(encode::element(&aa)), one(encode::paid(0x12, &A, 5, 1, 15)), get(&A, 5)]
+        vec![one(encode::element(&aa)), one(encode::paid(code::INSERT_FUNDED, &A, 5, UPTO, 15)), get(&A, 5)]
     };
     vec![
         case("the example of 01", run, example()),
         case(
             "P1: lengths 1 and 16 weigh 16 (17: see P7)",
             (2, 1, 300_000),
-            vec![funded(&A, 1, 99, 0), funded(&B, 16, 99, 0), one(encode::bare(0x31))],
+            vec![funded(&A, 1, 99, 0), funded(&B, 16, 99, 0), one(encode::bare(code::CLEAR))],
         ),
         case("P2: Q at max 0 is 1", (1, 0, 300_000), vec![one(encode::fresh(0, 7)), one(encode::fresh(1, 7)), stats(0)]),
         case("P2: Q at max 63 is 1", (64, 8, 300_000), vec![one(encode::fresh(63, 7)), one(encode::fresh(64, 8)), stats(0)]),
@@ -104,7 +112,7 @@ fn chosen() -> Vec<Case> {
         case(
             "P9: main 16, length 18, U1 and U2",
             TWO,
-            vec![insert(&A, 0), funded(&A, 18, 1, 1), funded(&A, 18, 2, 2), one(encode::addressed(0x22, &A))],
+            vec![insert(&A, 0), funded(&A, 18, 1, 1), funded(&A, 18, 2, 2), one(encode::addressed(code::REMOVE, &A))],
         ),
         case(
             "P10: B leaves, examined 2",
@@ -113,14 +121,14 @@ fn chosen() -> Vec<Case> {
         ),
         case("refusal 2: no path, by every insert", run, {
             let at = |code| one(encode::keyed_at(code, &A, 0));
-            let paid = |code| one(encode::paid(code, &A, 0, 1, 16));
+            let paid = |code| one(encode::paid(code, &A, 0, UPTO, ADDRS_PER_ENTRY));
             let ttl = one(encode::insert_with_ttl(&A, 0, 1));
             vec![
-                at(0x10),
+                at(code::INSERT),
                 ttl,
-                paid(0x12),
-                paid(0x13),
-                at(0x14),
+                paid(code::INSERT_FUNDED),
+                paid(code::INSERT_STATED),
+                at(code::INSERT_VERIFIED),
                 one(encode::insert_verified_with_path_mtu(&A, 0, 9)),
                 insert(&A, 1),
             ]
@@ -128,12 +136,17 @@ fn chosen() -> Vec<Case> {
         case(
             "refusal 2: a 33rd element is dropped",
             run,
-            vec![funded(&A, 33, 32, 0), get(&A, 0), one(encode::addressed(0x22, &A))],
+            vec![funded(&A, PLACES + 1, WEIGHT_LIMIT, 0), get(&A, 0), one(encode::addressed(code::REMOVE, &A))],
         ),
         case(
             "refusal 4, and the pending path empty after it",
             (2, 1, 300_000),
-            vec![verified(&A, 1, 0), verified(&B, 1, 0), one(encode::keyed_at(0x14, &B, 1)), verified(&B, 1, 300_001)],
+            vec![
+                verified(&A, 1, 0),
+                verified(&B, 1, 0),
+                one(encode::keyed_at(code::INSERT_VERIFIED, &B, 1)),
+                verified(&B, 1, 300_001),
+            ],
         ),
         case(
             "refusal 4 for a key in probation",
@@ -151,15 +164,25 @@ fn chosen() -> Vec<Case> {
             vec![insert(&A, 0), one(encode::fresh(24, 1)), get(&A, 0), one(encode::fresh(23, 1)), get(&A, 0)],
         ),
         case("refusal 6: ff", run, vec![bytes(&[0xff]), insert(&A, 0)]),
-        case("refusal 6: a command cut", run, vec![insert(&A, 0), bytes(&encode::keyed_at(0x20, &A, 0)[..24])]),
-        case("refusal 6: funding kind 2", run, vec![kinds(0x12, 1), kinds(0x13, 0), kinds(0x12, 2), insert(&B, 0)]),
+        case("refusal 6: a command cut", run, vec![insert(&A, 0), bytes(&encode::keyed_at(code::GET, &A, 0)[..24])]),
+        case(
+            "refusal 6: funding kind 2",
+            run,
+            vec![kinds(code::INSERT_FUNDED, 1), kinds(code::INSERT_STATED, 0), kinds(code::INSERT_FUNDED, 2), insert(&B, 0)],
+        ),
         case("an expired row is written as a new one", (24, 2, 10), vec![mtu(&A, 0, 1280), funded(&A, 1, 0, 11), get(&A, 11)]),
         case(
             "victims stay where room fails",
             (4, 3, 300_000),
-            vec![insert(&A, 0), verified(&B, 1, 0), verified(&C, 1, 0), along(&D, 17, encode::keyed_at(0x10, &D, 1)), get(&A, 1)],
+            vec![
+                insert(&A, 0),
+                verified(&B, 1, 0),
+                verified(&C, 1, 0),
+                along(&D, 17, encode::keyed_at(code::INSERT, &D, 1)),
+                get(&A, 1),
+            ],
         ),
-        case("clear keeps seq", run, vec![insert(&A, 0), insert(&B, 0), one(encode::bare(0x31)), insert(&C, 0)]),
+        case("clear keeps seq", run, vec![insert(&A, 0), insert(&B, 0), one(encode::bare(code::CLEAR)), insert(&C, 0)]),
         case(
             "a statement of its own grows without room",
             TWO,
@@ -178,14 +201,14 @@ fn chosen() -> Vec<Case> {
                 demote(&A),
                 insert(&A, 1),
                 mtu(&B, 0, 0),
-                one(encode::addressed(0x24, &B)),
+                one(encode::addressed(code::CLEAR_PATH_MTU, &B)),
                 verified(&A, 1, 1),
             ],
         ),
         case(
             "a life of 0, the next expiry, a purge",
             run,
-            vec![next(), with_ttl(&A, 5, 0), insert(&B, 1), next(), one(encode::at(0x30, 6)), next()],
+            vec![next(), with_ttl(&A, 5, 0), insert(&B, 1), next(), one(encode::at(code::PURGE_EXPIRED, 6)), next()],
         ),
         case(
             "a mean whose total passes 2^64",
@@ -194,14 +217,14 @@ fn chosen() -> Vec<Case> {
         ),
         case("sums stop at 2^64 - 1", run, vec![verified(&A, 1, u64::MAX - 1), insert(&A, u64::MAX), next(), get(&A, u64::MAX)]),
         case("sweeps by address and by root", run, {
-            let sweep = |code, addr: [u8; 16]| one(encode::addressed(code, &addr));
+            let sweep = |code, addr: Addr| one(encode::addressed(code, &addr));
             vec![
                 insert(&A, 0),
                 funded(&B, 2, 99, 0),
                 funded(&C, 3, 99, 0),
-                sweep(0x32, A),
-                sweep(0x33, [0x10; 16]),
-                sweep(0x33, B),
+                sweep(code::INVALIDATE_VIA_NODE, A),
+                sweep(code::INVALIDATE_OTHER_ROOTS, [0x10; ADDRESS]),
+                sweep(code::INVALIDATE_OTHER_ROOTS, B),
                 stats(5),
             ]
         }),
@@ -249,7 +272,7 @@ fn written(case: &Case) -> Result<String, String> {
     let [max, ttl, seq, stored, count] = packed::head(&original);
     text += &format!("head {max} {ttl} {seq} {stored} {count}\n");
     for row in original.cache().rows() {
-        let (front, back) = packed::row(&row);
+        let (front, back) = packed::row_parts(&row);
         text += &format!("row {}{}\n", hex(&front), hex(&back));
     }
     Ok(text + "end\n")
@@ -257,7 +280,7 @@ fn written(case: &Case) -> Result<String, String> {
 
 pub fn write(file: &str) -> Result<(), String> {
     let cases: Vec<Case> = chosen().into_iter().chain(drawn()).collect();
-    let mut text = FORMAT.to_string();
+    let mut text = format_told();
     for case in &cases {
         text += &written(case)?;
     }

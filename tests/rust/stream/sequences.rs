@@ -5,6 +5,7 @@ use super::streams::Stream;
 use super::tally::Tally;
 use super::words::{A, B, C, D, along, funded, insert, stated, touch, verified};
 use crate::driver::dice::Dice;
+use crate::numbers::{ADDRESS, ADDRS_PER_ENTRY, PLACES, VERIFIED_TTL_MS, WEIGHT_LIMIT, code};
 
 /// A letter: commands at the clock, which it may set.
 type Letter = fn(&mut u64) -> Vec<Vec<u8>>;
@@ -18,6 +19,10 @@ pub struct Alphabet {
     /// paths are long here: sequences are shorter by so many letters
     shorter: usize,
 }
+
+/// The least weight, and the longest path that has it.
+const LIGHT: u64 = ADDRS_PER_ENTRY;
+const LIGHT_PATH: usize = LIGHT as usize;
 
 fn tick(clock: &mut u64) -> u64 {
     *clock += 1;
@@ -33,11 +38,11 @@ pub const ALPHABETS: [Alphabet; 4] = [
             |t| verified(&A, 1, tick(t)),
             |t| verified(&B, 1, tick(t)),
             |t| insert(&C, tick(t)),
-            |t| funded(&D, 1, 16, tick(t)),
-            |t| funded(&D, 1, 15, tick(t)),
+            |t| funded(&D, 1, LIGHT, tick(t)),
+            |t| funded(&D, 1, LIGHT - 1, tick(t)),
             |t| touch(&A, tick(t)),
             |t| touch(&D, tick(t)),
-            |_| vec![encode::addressed(0x23, &A)],
+            |_| vec![encode::addressed(code::DEMOTE, &A)],
         ],
         shorter: 0,
     },
@@ -52,8 +57,8 @@ pub const ALPHABETS: [Alphabet; 4] = [
             |_| insert(&D, 7),
             |_| touch(&A, 8),
             |_| touch(&C, 3),
-            |_| funded(&[0x0e; 16], 1, 0, 7),
-            |_| vec![encode::addressed(0x22, &B)],
+            |_| funded(&[0x0e; ADDRESS], 1, 0, 7),
+            |_| vec![encode::addressed(code::REMOVE, &B)],
         ],
         shorter: 0,
     },
@@ -67,12 +72,12 @@ pub const ALPHABETS: [Alphabet; 4] = [
             |t| verified(&A, 1, tick(t)),
             |t| touch(&A, t.saturating_sub(1)),
             |t| touch(&B, tick(t)),
-            |t| vec![encode::at(0x30, tick(t))],
+            |t| vec![encode::at(code::PURGE_EXPIRED, tick(t))],
             |t| {
-                *t += 300_001;
-                vec![encode::at(0x40, *t), encode::bare(0x41)]
+                *t += VERIFIED_TTL_MS + 1;
+                vec![encode::at(code::STATS, *t), encode::bare(code::NEXT_EXPIRY)]
             },
-            |t| funded(&C, 1, 16, tick(t)),
+            |t| funded(&C, 1, LIGHT, tick(t)),
         ],
         shorter: 0,
     },
@@ -81,14 +86,14 @@ pub const ALPHABETS: [Alphabet; 4] = [
         about: "paths of 1, 17, 20 and 32 against amounts that cover them or do not",
         limits: &[(2, 1, 300_000), (3, 2, 300_000)],
         letters: &[
-            |t| funded(&A, 1, 16, tick(t)),
-            |t| funded(&A, 17, 1, tick(t)),
-            |t| funded(&A, 17, 17, tick(t)),
-            |t| funded(&B, 32, 32, tick(t)),
-            |t| verified(&A, 17, tick(t)),
-            |t| stated(&A, 20, 4, tick(t)),
-            |t| funded(&C, 20, 0, tick(t)),
-            |t| funded(&C, 1, 20, tick(t)),
+            |t| funded(&A, 1, LIGHT, tick(t)),
+            |t| funded(&A, LIGHT_PATH + 1, 1, tick(t)),
+            |t| funded(&A, LIGHT_PATH + 1, LIGHT + 1, tick(t)),
+            |t| funded(&B, PLACES, WEIGHT_LIMIT, tick(t)),
+            |t| verified(&A, LIGHT_PATH + 1, tick(t)),
+            |t| stated(&A, LIGHT_PATH + 4, 4, tick(t)),
+            |t| funded(&C, LIGHT_PATH + 4, 0, tick(t)),
+            |t| funded(&C, 1, LIGHT + 4, tick(t)),
         ],
         shorter: 1,
     },

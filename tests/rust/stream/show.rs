@@ -6,24 +6,19 @@ use super::original::{Original, caught};
 use super::packed::hex;
 use super::proved::{Proved, Side};
 use super::streams::Stream;
+use crate::numbers::{BYTE, NUMBER, number};
 
 /// A command's code and operands, hex, with numbers of up to eight bytes in decimal.
 fn command(bytes: &[u8]) -> String {
     let whole = decode::size(bytes[0]) == Some(bytes.len());
     let Some(widths) = decode::operands(bytes[0]).filter(|_| whole) else { return hex(bytes) };
-    let mut text = hex(&bytes[..1]);
-    let mut at = 1;
+    let mut text = hex(&bytes[..BYTE]);
+    let mut at = BYTE;
     for width in widths {
         let operand = &bytes[at..at + width];
         at += width;
         text += " ";
-        text += &if *width > 8 {
-            hex(operand)
-        } else {
-            let mut number = [0; 8];
-            number[..*width].copy_from_slice(operand);
-            u64::from_le_bytes(number).to_string()
-        };
+        text += &if *width > NUMBER { hex(operand) } else { number(operand).to_string() };
     }
     text
 }

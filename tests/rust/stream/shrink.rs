@@ -4,6 +4,7 @@ use super::decode;
 use super::streams::Stream;
 use super::tally::Tally;
 use crate::driver::calls::probation_bound;
+use crate::numbers::{ADDRESS, ADDRS_PER_ENTRY, BYTE, COORDRUN_ROWS, NUMBER, SHORT, VERIFIED_TTL_MS, WEIGHT_LIMIT, code, number};
 use std::time::{Duration, Instant};
 
 /// The shortest stream found to differ, and how long to look on.
@@ -51,19 +52,19 @@ impl Search {
     fn earlier(&mut self) {
         let at = |command: &Vec<u8>| {
             let at = match command[0] {
-                0x10..=0x15 | 0x20 | 0x21 => 17,
-                0x30 | 0x40 => 1,
+                byte if code::INSERTS.contains(&byte) => BYTE + ADDRESS,
+                code::GET | code::GET_AND_TOUCH => BYTE + ADDRESS,
+                code::PURGE_EXPIRED | code::STATS => BYTE,
                 _ => return None,
             };
-            Some(at..at + 8).filter(|at| at.end <= command.len())
+            Some(at..at + NUMBER).filter(|at| at.end <= command.len())
         };
-        let time = |bytes: &[u8]| u64::from_le_bytes(bytes.try_into().expect("eight bytes"));
-        let times = self.best.commands.iter().filter_map(|c| at(c).map(|at| time(&c[at])));
+        let times = self.best.commands.iter().filter_map(|c| at(c).map(|at| number(&c[at])));
         let Some(earliest) = times.min() else { return };
         self.take(|s| {
             for command in &mut s.commands {
                 if let Some(at) = at(command) {
-                    let moved = time(&command[at.clone()]) - earliest;
+                    let moved = number(&command[at.clone()]) - earliest;
                     command[at].copy_from_slice(&moved.to_le_bytes());
                 }
             }
@@ -75,9 +76,9 @@ impl Search {
         for i in 0..self.best.commands.len() {
             let Some(command) = self.best.commands.get(i) else { return };
             let Some(widths) = decode::operands(command[0]) else { continue };
-            let mut at = 1;
+            let mut at = BYTE;
             for width in widths {
-                if matches!(width, 2 | 8) && self.best.commands.get(i).is_some_and(|c| at + width <= c.len()) {
+                if matches!(*width, SHORT | NUMBER) && self.best.commands.get(i).is_some_and(|c| at + width <= c.len()) {
                     self.smaller_number(i, at, *width);
                 }
                 at += width;
@@ -86,12 +87,10 @@ impl Search {
     }
 
     fn smaller_number(&mut self, i: usize, at: usize, width: usize) {
-        let read = |s: &Stream| {
-            let mut bytes = [0; 8];
-            bytes[..width].copy_from_slice(&s.commands[i][at..at + width]);
-            u64::from_le_bytes(bytes)
-        };
-        for small in [0u64, 1, 2, 5, 15, 16, 17, 32, 100, 300_000, 300_001, 300_002] {
+        let read = |s: &Stream| number(&s.commands[i][at..at + width]);
+        let light = ADDRS_PER_ENTRY;
+        let lapsed = VERIFIED_TTL_MS + 1;
+        for small in [0, 1, 2, 5, light - 1, light, light + 1, WEIGHT_LIMIT, 100, VERIFIED_TTL_MS, lapsed, lapsed + 1] {
             let write = |s: &mut Stream| s.commands[i][at..at + width].copy_from_slice(&small.to_le_bytes()[..width]);
             if i >= self.best.commands.len() || small >= read(&self.best) || self.take(write) {
                 return;
@@ -109,7 +108,7 @@ pub fn shrink(stream: &Stream, at: usize) -> Stream {
         if ends_unlike(&best) { ends_unlike } else { |stream| compare(stream, &mut Tally::default()).is_err() };
     let mut search = Search { best, differs, until: Instant::now() + Duration::from_secs(30) };
     search.fewer();
-    search.take(|s| s.rows = 24);
+    search.take(|s| s.rows = COORDRUN_ROWS);
     search.take(|s| s.rows = s.max + probation_bound(s.max));
     search.take(|s| s.ttl = 300_000);
     search.earlier();

@@ -6,6 +6,7 @@ use super::profiles::{GATEWAY, Keys, Taste};
 use super::proved::{Proved, Side, Stop, output};
 use super::streams::Stream;
 use crate::driver::calls::probation_bound;
+use crate::numbers::{COORDRUN_ROWS, MAX_ROWS, MOST_ENTRIES, code};
 use std::hint::black_box;
 use std::time::Instant;
 
@@ -67,10 +68,10 @@ fn composition(stream: &Stream) -> String {
     };
     format!(
         "path elements {:.0} %, inserts {:.0} %, lookups {:.0} %, other {:.1} %",
-        share(0x01..=0x01),
-        share(0x10..=0x15),
-        share(0x20..=0x21),
-        share(0x22..=0xff)
+        share(code::ELEMENT..=code::ELEMENT),
+        share(code::INSERTS),
+        share(code::GET..=code::GET_AND_TOUCH),
+        share(code::REMOVE..=0xff)
     )
 }
 
@@ -115,7 +116,7 @@ fn at(rows: u64, max: u64, commands: usize, seed: u64) -> Result<(), String> {
 /// At coordrun's limits and at the largest, or at as many rows as are asked for. The times are medians of the rounds.
 pub fn run(commands: usize, seed: u64, rows: Option<u64>) -> Result<(), String> {
     let limits = match rows {
-        None => vec![(24, 8), (1024, 992)],
+        None => vec![(COORDRUN_ROWS, 8), (MAX_ROWS, MOST_ENTRIES - 1)],
         Some(rows) => {
             let max = (0..rows).rev().find(|max| max + probation_bound(*max) <= rows).unwrap_or(0);
             vec![(rows, max)]
