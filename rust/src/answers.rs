@@ -1,17 +1,7 @@
 //! What calls take and answer.
 
+use crate::packing::{CHANGED, IN_MAIN, INSERTED, REJECTED, UNCHANGED, UNCHARGED, UPTO};
 use crate::sys::Values;
-
-/// The least that an entry weighs, and the addresses that main may hold for each entry of `max_entries`.
-///
-/// A path weighs one for each element, so that deep paths cannot fill the memory unpaid. The floor keeps a writer from turning
-/// the cache over cheaply with many short paths.
-pub const ADDRS_PER_ENTRY: usize = 16;
-
-/// Probation holds `max_entries` divided by this, and at least one entry, on top of `max_entries`.
-///
-/// An unpaid hint is thus stored for a while without taking the place of a paid one.
-pub const PROBATION_SHARE_DIVISOR: usize = 32;
 
 /// What the writer of a hint pays, in weight.
 ///
@@ -37,8 +27,8 @@ impl Funding {
     #[inline]
     pub(crate) fn numbers(self) -> (u8, u64) {
         match self {
-            Funding::Uncharged => (0, 0),
-            Funding::Upto(amount) => (1, amount),
+            Funding::Uncharged => (UNCHARGED, 0),
+            Funding::Upto(amount) => (UPTO, amount),
         }
     }
 }
@@ -119,14 +109,14 @@ impl Placed {
     pub(crate) fn of([outcome, added_weight, segment, unfunded, examined]: Values) -> Self {
         Self {
             outcome: match outcome {
-                0 => HintOutcome::Inserted,
-                1 => HintOutcome::Changed,
-                2 => HintOutcome::Unchanged,
-                3 => HintOutcome::Rejected,
+                INSERTED => HintOutcome::Inserted,
+                CHANGED => HintOutcome::Changed,
+                UNCHANGED => HintOutcome::Unchanged,
+                REJECTED => HintOutcome::Rejected,
                 _ => unreachable!("the library's header has no outcome {outcome}"),
             },
             added_weight,
-            segment: if segment == 0 { Segment::Main } else { Segment::Probation },
+            segment: if segment == IN_MAIN { Segment::Main } else { Segment::Probation },
             unfunded: unfunded == 1,
             examined,
         }

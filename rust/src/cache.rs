@@ -21,7 +21,7 @@ use crate::sys::State;
 /// Times are milliseconds, from any start; the cache has no clock of its own and takes each call's time as it is. Sums of times
 /// stop at `u64::MAX`.
 ///
-/// The memory is one block, 40 bytes and 1,095 for each row, which the cache owns. Of the calls on it [`remove`](Self::remove)
+/// The memory is one block, a head and a row for each entry that it can hold, which the cache owns. Of the calls on it [`remove`](Self::remove)
 /// alone allocates, for the path that it hands back.
 ///
 /// `E` is not used. The original hashes its keys by a random source of that type; here rows stand in the order of their keys, and a

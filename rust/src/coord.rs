@@ -6,7 +6,7 @@ use std::mem::{offset_of, size_of};
 use std::ops::Deref;
 
 use crate::node_addr::NodeAddr;
-use crate::packing::ELEMENT;
+use crate::packing::{ELEMENT, SEQUENCE, TIMESTAMP};
 use crate::path::Path;
 use crate::sys;
 
@@ -35,8 +35,8 @@ pub struct CoordEntry {
 const _: () = assert!(
     size_of::<CoordEntry>() == ELEMENT
         && offset_of!(CoordEntry, node_addr) == 0
-        && offset_of!(CoordEntry, sequence) == 16
-        && offset_of!(CoordEntry, timestamp) == 24
+        && offset_of!(CoordEntry, sequence) == SEQUENCE
+        && offset_of!(CoordEntry, timestamp) == TIMESTAMP
         && cfg!(target_endian = "little")
 );
 

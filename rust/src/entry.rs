@@ -5,12 +5,6 @@ use crate::packing::{self, ELEMENT};
 use crate::path::Path;
 use crate::sys::Row;
 
-/// How long a verified entry yields to no hint, in milliseconds, unless it expires before.
-///
-/// It counts from the verified insert, and use does not prolong it as it does the expiry: else a route in use could never again be
-/// corrected by a hint.
-pub const VERIFIED_TTL_MS: u64 = 300_000;
-
 /// Where an entry's path came from.
 ///
 /// ```
@@ -59,15 +53,15 @@ pub struct CacheEntry {
 impl CacheEntry {
     /// The entry of a row's bytes.
     pub(crate) fn of(row: &Row) -> Self {
-        let path = &row[packing::PLACES..][..row[packing::PATH_LENGTH] as usize * ELEMENT];
+        let path = &row[packing::PATH_PLACES..][..row[packing::PATH_LENGTH] as usize * ELEMENT];
         let mtu = u16::from_le_bytes(packing::field(row, packing::MTU_VALUE));
         Self {
             coords: Path::of(path).to_coordinate(),
             created_at: packing::number(row, packing::CREATED_AT),
             last_used: packing::number(row, packing::LAST_USED),
             expires_at: packing::number(row, packing::EXPIRES_AT),
-            path_mtu: (row[packing::MTU_MARK] == 1).then_some(mtu),
-            source: if row[packing::SOURCE] == 0 { CoordSource::Verified } else { CoordSource::Hint },
+            path_mtu: (row[packing::MTU_MARK] == packing::SOME_MTU).then_some(mtu),
+            source: if row[packing::SOURCE] == packing::VERIFIED { CoordSource::Verified } else { CoordSource::Hint },
             verified_until: packing::number(row, packing::VERIFIED_UNTIL),
         }
     }

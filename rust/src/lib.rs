@@ -57,11 +57,11 @@ mod refused;
 #[allow(unsafe_code, reason = "the calls of the library; everything else of this crate is safe Rust")]
 mod sys;
 
-pub use answers::{ADDRS_PER_ENTRY, CacheStats, Funding, HintOutcome, PROBATION_SHARE_DIVISOR, Placed, Segment, VerifiedInsert};
+pub use answers::{CacheStats, Funding, HintOutcome, Placed, Segment, VerifiedInsert};
 pub use cache::CoordCache;
 pub use coord::{CoordEntry, CoordError, TreeCoordinate};
-pub use entry::{CacheEntry, CoordSource, VERIFIED_TTL_MS};
+pub use entry::{CacheEntry, CoordSource};
 pub use node_addr::{AddrLength, NodeAddr};
-pub use packing::{MAX_PATH, MAX_ROWS};
+pub use packing::{ADDRS_PER_ENTRY, MAX_PATH, MAX_ROWS, PROBATION_SHARE_DIVISOR, VERIFIED_TTL_MS};
 pub use path::Path;
 pub use refused::Refused;

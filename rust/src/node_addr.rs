@@ -3,6 +3,7 @@
 use std::error::Error;
 use std::fmt;
 
+use crate::packing::ADDRESS;
 use crate::sys;
 
 /// The address of a node: 16 bytes, ordered byte by byte.
@@ -16,7 +17,7 @@ use crate::sys;
 /// ```
 #[derive(Clone, Copy, PartialEq, Eq, PartialOrd, Ord, Hash)]
 #[repr(transparent)]
-pub struct NodeAddr([u8; 16]);
+pub struct NodeAddr([u8; ADDRESS]);
 
 impl NodeAddr {
     /// The address of these bytes.
@@ -26,7 +27,7 @@ impl NodeAddr {
     /// assert_eq!(NodeAddr::from_bytes([7; 16]).as_bytes(), &[7; 16]);
     /// ```
     #[inline]
-    pub const fn from_bytes(bytes: [u8; 16]) -> Self {
+    pub const fn from_bytes(bytes: [u8; ADDRESS]) -> Self {
         Self(bytes)
     }
 
@@ -50,7 +51,7 @@ impl NodeAddr {
     /// assert_eq!(NodeAddr::from_bytes([7; 16]).as_bytes()[0], 7);
     /// ```
     #[inline]
-    pub const fn as_bytes(&self) -> &[u8; 16] {
+    pub const fn as_bytes(&self) -> &[u8; ADDRESS] {
         &self.0
     }
 
@@ -67,7 +68,7 @@ impl NodeAddr {
 
     /// An address where it stands among other bytes.
     #[inline]
-    pub(crate) fn within(bytes: &[u8; 16]) -> &Self {
+    pub(crate) fn within(bytes: &[u8; ADDRESS]) -> &Self {
         sys::addr(bytes)
     }
 }
@@ -102,7 +103,7 @@ pub struct AddrLength(pub usize);
 
 impl fmt::Display for AddrLength {
     fn fmt(&self, f: &mut fmt::Formatter<'_>) -> fmt::Result {
-        write!(f, "a node address has 16 bytes, not {}", self.0)
+        write!(f, "a node address has {ADDRESS} bytes, not {}", self.0)
     }
 }
 

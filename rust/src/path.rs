@@ -4,7 +4,7 @@ use std::fmt;
 
 use crate::coord::{CoordEntry, TreeCoordinate};
 use crate::node_addr::NodeAddr;
-use crate::packing::{self, ELEMENT};
+use crate::packing::{ELEMENT, SEQUENCE, TIMESTAMP, number};
 use crate::sys;
 
 /// The path from a node to its root, the node first: borrowed, as `str` is of `String`.
@@ -155,7 +155,7 @@ impl Path {
     /// assert!(path.entries().eq([CoordEntry::new(*coords.node_addr(), 7, 9)]));
     /// ```
     pub fn entries(&self) -> impl DoubleEndedIterator<Item = CoordEntry> + ExactSizeIterator {
-        self.elements().iter().map(|e| CoordEntry::new(*addr_of(e), packing::number(e, 16), packing::number(e, 24)))
+        self.elements().iter().map(|e| CoordEntry::new(*addr_of(e), number(e, SEQUENCE), number(e, TIMESTAMP)))
     }
 
     /// The bytes: 32 for each element, which are the address, the sequence and the timestamp, little-endian.
@@ -191,7 +191,7 @@ impl Path {
 /// The address with which an element begins.
 #[inline]
 fn addr_of(element: &[u8; ELEMENT]) -> &NodeAddr {
-    NodeAddr::within(element.first_chunk().expect("an element has over 16 bytes"))
+    NodeAddr::within(element.first_chunk().expect("an element begins with an address"))
 }
 
 impl AsRef<Path> for Path {

@@ -3,6 +3,8 @@
 use std::error::Error;
 use std::fmt;
 
+use crate::packing::{MAX_PATH, MAX_ROWS, MOST_ENTRIES, PROBATION_SHARE_DIVISOR, UNCHARGED, UPTO};
+
 /// A call that was not done, by the number that every form of this cache gives it. The cache is then as it was before the call.
 ///
 /// A hint that the cache decides not to store is no refusal: it is answered
@@ -48,40 +50,52 @@ impl Refused {
     /// What the library returned: 0 if done.
     #[inline]
     pub(crate) fn check(number: u8) -> Result<(), Refused> {
-        Err(match number {
-            0 => return Ok(()),
-            1 => Refused::NotSound,
-            2 => Refused::PathLength,
-            3 => Refused::SequenceUsedUp,
-            4 => Refused::NoMainRow,
-            5 => Refused::RowCount,
-            6 => Refused::FundingKind,
-            _ => unreachable!("the library refused by {number}, a number that its header does not have"),
-        })
+        if number == 0 {
+            return Ok(());
+        }
+        let known = Self::ALL.into_iter().find(|refused| refused.number() == number);
+        Err(known.unwrap_or_else(|| unreachable!("the library refused by {number}, a number that its header does not have")))
     }
+
+    const ALL: [Refused; 6] = [
+        Refused::NotSound,
+        Refused::PathLength,
+        Refused::SequenceUsedUp,
+        Refused::NoMainRow,
+        Refused::RowCount,
+        Refused::FundingKind,
+    ];
 }
 
 impl fmt::Display for Refused {
     fn fmt(&self, f: &mut fmt::Formatter<'_>) -> fmt::Result {
-        let (means, what_to_do) = match self {
-            Refused::NotSound => ("the memory is not a sound cache", "make a new cache"),
-            Refused::PathLength => {
-                ("the path has over 32 elements, or none", "route by it without storing it: a row has 32 places")
-            }
+        write!(f, "refused by {}: ", self.number())?;
+        match self {
+            Refused::NotSound => write!(f, "the memory is not a sound cache; make a new cache"),
+            Refused::PathLength => write!(
+                f,
+                "the path has over {MAX_PATH} elements, or none; route by it without storing it: a row has {MAX_PATH} places"
+            ),
             Refused::SequenceUsedUp => {
-                ("the sequence numbers are used up", "make a new cache: this one takes no more inserts, and no demote")
+                write!(f, "the sequence numbers are used up; make a new cache: this one takes no more inserts, and no demote")
             }
-            Refused::NoMainRow => (
-                "all main rows are taken, and so many entries are still verified that none may leave",
-                "remove an entry, try again when verifications have lapsed, or make the cache with more rows",
+            Refused::NoMainRow => write!(
+                f,
+                "all main rows are taken, and so many entries are still verified that none may leave; \
+                 remove an entry, try again when verifications have lapsed, or make the cache with more rows"
             ),
-            Refused::RowCount => (
-                "the rows do not suit max_entries",
-                "take max_entries + max(max_entries / 32, 1) rows or more, and at most 1,024; so max_entries is at most 993",
+            Refused::RowCount => write!(
+                f,
+                "the rows do not suit max_entries; \
+                 take max_entries + max(max_entries / {PROBATION_SHARE_DIVISOR}, 1) rows or more, and at most {},{:03}; \
+                 so max_entries is at most {MOST_ENTRIES}",
+                MAX_ROWS / 1000,
+                MAX_ROWS % 1000
             ),
-            Refused::FundingKind => ("the kind of funding is unknown", "use kind 0 (uncharged) or 1 (up to an amount)"),
-        };
-        write!(f, "refused by {}: {means}; {what_to_do}", self.number())
+            Refused::FundingKind => {
+                write!(f, "the kind of funding is unknown; use kind {UNCHARGED} (uncharged) or {UPTO} (up to an amount)")
+            }
+        }
     }
 }
 

@@ -9,27 +9,31 @@
 //!   `&mut self`, the latter `&self`.
 //! - **pointers**: "Pointers may not be null, also where a length is 0, and what is written may not overlap anything else that is
 //!   lent to the call." All come from references, and what is written from `&mut`. Each goes with the length of what it points to,
-//!   or points to as much as the header says: `key[16]`, `values[5]`, `row[1095]`, one number `at`.
-//! - **widths**: "Addresses are 16 bytes. A path is its elements, node first and root last, 32 bytes each". A [`NodeAddr`] and a
-//!   [`Path`] are these bytes.
+//!   or is a reference to as much as the header says: a key, the values, a row, one number `at`.
+//! - **widths**: "Addresses have COORD_CACHE_ADDRESS bytes. A path is its elements, node first and root last, COORD_CACHE_ELEMENT bytes
+//!   each". A [`NodeAddr`] and a [`Path`] are these bytes.
+//!
+//! tests/declarations holds the declarations below to the library's source, and tests/numbers the widths.
 
 use std::mem::MaybeUninit;
 
 use crate::answers::Funding;
 use crate::coord::CoordEntry;
 use crate::node_addr::NodeAddr;
-use crate::packing::{ELEMENT, HEAD, ROW};
+use crate::packing::{ADDRESS, ELEMENT, HEAD, ROW, VALUES};
 use crate::path::Path;
 use crate::refused::Refused;
 
-/// The five numbers of an answer.
-pub(crate) type Values = [u64; 5];
+/// The numbers of an answer.
+pub(crate) type Values = [u64; VALUES];
 
 /// The bytes of a row.
 pub(crate) type Row = [u8; ROW];
 
 // as in the header; a pointer that goes without a length is a reference to what it points to
 unsafe extern "C" {
+    fn coord_cache_packing_1() -> u8;
+
     fn coord_cache_is_sound(state: *const u8, len: usize) -> u8;
     fn coord_cache_fresh(state: *mut u8, len: usize, max: u64, ttl: u64) -> u8;
 
@@ -130,12 +134,14 @@ pub(crate) struct State(Box<[u8]>);
 
 impl State {
     pub(crate) fn fresh(rows: usize, max: u64, ttl: u64) -> Result<Self, Refused> {
+        // SAFETY: it takes nothing and writes nothing. Called here, where every cache begins, so that a library whose states have
+        // another packing than crate::packing does not link
+        unsafe { coord_cache_packing_1() };
         let mut memory: Box<[MaybeUninit<u8>]> = Box::new_uninit_slice(HEAD + rows * ROW);
         // SAFETY: pointers; and "the only call that a memory in any condition is good for"
         let number = unsafe { coord_cache_fresh(memory.as_mut_ptr().cast(), memory.len(), max, ttl) };
         Refused::check(number)?;
-        // SAFETY: a done fresh has written every byte: the five numbers of the head, and zeros to every row
-        // ("40 bytes of head and rows of 1,095 bytes"; no byte is left over here)
+        // SAFETY: "Done, it has written every byte of the head and of all rows that fit whole"; no byte is left over here
         Ok(Self(unsafe { memory.assume_init() }))
     }
 
@@ -152,7 +158,7 @@ impl State {
     /// A call that takes the state as const.
     #[inline]
     fn ask(&self, call: impl FnOnce(*const u8, usize, &mut Values) -> u8) -> Values {
-        let mut values = [0; 5];
+        let mut values = [0; VALUES];
         done(Refused::check(call(self.0.as_ptr(), self.0.len(), &mut values)));
         values
     }
@@ -160,7 +166,7 @@ impl State {
     /// A call that writes, and can be refused.
     #[inline]
     fn write(&mut self, call: impl FnOnce(*mut u8, usize, &mut Values) -> u8) -> Result<Values, Refused> {
-        let mut values = [0; 5];
+        let mut values = [0; VALUES];
         Refused::check(call(self.0.as_mut_ptr(), self.0.len(), &mut values))?;
         Ok(values)
     }
@@ -238,7 +244,7 @@ impl State {
     #[inline]
     pub(crate) fn remove(&mut self, key: &NodeAddr) -> Option<Row> {
         let mut row = [0; ROW];
-        // SAFETY: known, alone, pointers, widths; and "the bytes of the row that left go into row", which is 1,095 long
+        // SAFETY: known, alone, pointers, widths; and "The bytes of the row that left go into row", which has as many
         let found = self.write(|s, n, v| unsafe { coord_cache_remove_unchecked(s, n, key, v, &mut row) });
         (done(found)[0] == 1).then_some(row)
     }
@@ -308,8 +314,8 @@ fn parts(path: &Path) -> (*const u8, usize) {
 
 /// An address where it stands among other bytes.
 #[inline]
-pub(crate) fn addr(bytes: &[u8; 16]) -> &NodeAddr {
-    // SAFETY: widths; `NodeAddr` is `repr(transparent)` over `[u8; 16]`
+pub(crate) fn addr(bytes: &[u8; ADDRESS]) -> &NodeAddr {
+    // SAFETY: widths; `NodeAddr` is `repr(transparent)` over `[u8; ADDRESS]`
     unsafe { &*std::ptr::from_ref(bytes).cast() }
 }
 
