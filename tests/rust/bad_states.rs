@@ -15,7 +15,7 @@ const PENDING: usize = PATH;
 
 /// Runs commands, and gives the lines.
 fn run(state: &mut [u8], pending: &mut [u8; PENDING], input: &[u8]) -> Vec<u8> {
-    let mut output = [0u8; 1024];
+    let mut output = [0u8; 8 * LINE];
     let mut report = [0u64; REPORT];
     // SAFETY: each pointer comes with the length of what it points to, and nothing else points there
     unsafe {
