@@ -21,7 +21,7 @@ use Rattle.search.specs.ByKey.{searched}
 use Rattle.refusals.proofs.SoundCalls.{found-inside, found, missing}
 use Rattle.rules.specs.Layout.{coordEntrySize, headSize, rowSize}
 use Rattle.raw.proofs.CopyLaws.{stored}
-use Rattle.rules.proofs.Foreign.{elements-of-length}
+use Rattle.rules.proofs.MemoryLaws.{elements-of-length}
 use Rattle.entries.proofs.PathElements.{entries-at}
 use Rattle.boundary.specs.Exported.{pathFrom, rowHeld, rowTaken}
 

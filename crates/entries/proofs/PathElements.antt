@@ -17,7 +17,7 @@ use Rattle.rules.specs.Records.{Row}
 use Rattle.rules.specs.Rows.{rowAt}
 use Rattle.rules.specs.Memory.{cut, coordEntryOf, coordEntriesOf, pathOf, entryOf, rowOf, viewRows}
 use Rattle.rules.specs.Layout.{coordEntrySize, entryOffset, entrySize, headSize, placesInRow, rowSize}
-use Rattle.rules.proofs.Foreign.{elements-of-length}
+use Rattle.rules.proofs.MemoryLaws.{elements-of-length}
 use Rattle.raw.proofs.StoreLaws.{cut-cut}
 use Rattle.memory.proofs.Fields.{row-at}
 use Rattle.entries.proofs.Bytes.{element-addr}

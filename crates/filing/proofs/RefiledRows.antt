@@ -4,14 +4,13 @@ use mathlib.Core.List.{List}
 use Prim.Native.Nat.{ℕ, _+_, _<_}
 use lib.ListN.{length}
 use Rattle.types.specs.declared.coord.Path.{Path}
-use Rattle.rules.specs.Records.{Entry, Row, State}
+use Rattle.rules.specs.Records.{Entry, Row, State, withPath, withTimes}
 use Rattle.rules.specs.Rows.{rowAt, inMain, changeRow, withRows}
 use Rattle.rules.specs.Entries.{update, markHint, addTimes}
 use Rattle.rules.specs.Room.{refiled, raised, stamp, refile, restamp}
 use Rattle.rules.specs.Lookups.{rewrite, withEntry}
 use Rattle.rules.proofs.RowLists.{change-at, change-twice, row-changed}
-use Rattle.memory.specs.Edits.{withWeight, withTimes}
-use Rattle.rows.specs.Insertions.{withPath}
+use Rattle.memory.specs.Edits.{withWeight}
 
 -- ---- an update
 
@@ -20,7 +19,7 @@ unfolding rewrite withRows withEntry
 rewrite-twice f g i s = ap (λ (rs : List Row). withRows rs s) (change-twice (λ r. withEntry (f (r .entry)) r) (λ r. withEntry (g (r .entry)) r) i (s .rows))
 
 update-steps : (p : Path) (time ttl i : ℕ) (s : State) → rewrite (λ e. markHint (withTimes time (addTimes time ttl) (withPath p e))) i s ≡ rewrite (update p time ttl) i s
-unfolding update markHint withTimes withPath
+unfolding update markHint
 update-steps p time ttl i s = refl
 
 pub updated : (p : Path) (time ttl i : ℕ) (s : State) {expires : ℕ} {t u x : State} → expires ≡ addTimes time ttl

@@ -10,7 +10,7 @@ use Rattle.types.specs.declared.coord.CoordEntry.{CoordEntry}
 use Rattle.types.specs.Paths.{elements}
 use Rattle.types.specs.declared.answers.TouchAnswer.{TouchAnswer}
 use Rattle.rules.specs.Cases.{maybe}
-use Rattle.rules.specs.Records.{State}
+use Rattle.rules.specs.Records.{State, withTimes}
 use Rattle.rules.specs.Rows.{rowAt, find}
 use Rattle.rules.specs.Sound.{sound}
 use Rattle.rules.specs.Entries.{addTimes, expired, refresh}
@@ -24,7 +24,6 @@ use Rattle.rules.specs.Memory.{capacity, viewRows, view}
 use Rattle.rules.specs.Lent.{Bytes, lent, call}
 use Rattle.rules.proofs.Public.{unsound-one}
 use Rattle.memory.proofs.RowLaws.{view-length}
-use Rattle.memory.specs.Edits.{withTimes}
 use Rattle.entries.proofs.PathElements.{elements-length}
 use Rattle.refusals.proofs.SoundCalls.{Answered, done-rows, not-refused}
 use Rattle.refusals.proofs.SearchedKeys.{Found, inside}
@@ -112,7 +111,7 @@ touch-zero l k time h = rw (touch-allowed l k time h)
 -- ---- refresh
 
 pub refreshed : (i time ttl : ℕ) (s : State) → rewrite (withTimes time (addTimes time ttl)) i s ≡ rewrite (refresh time ttl) i s
-unfolding rewrite withTimes refresh
+unfolding rewrite refresh
 refreshed i time ttl s = refl
 
 -- ---- number 1

@@ -1,29 +1,31 @@
 -- A field of the head or of a row: what is read, and what a store does to the view.
 use mathlib.Core.Path.{_≡_, refl, sym, ap, _∙_}
-use Prim.Native.Nat.{ℕ, zero, suc, _+_, _*_, _/_, _^_, _≤_, _<_}
+use Prim.Native.Nat.{ℕ, zero, suc, _+_, _*_, _-_, _^_, _≤_, _<_}
 use native.Mathlib.Nat.{not-suc-le-zero, le-of-suc-le-suc}
 use native.Mathlib.Omega.{arith}
 use mathlib.Core.Logic.{inl, inr}
-use mathlib.Core.List.{List, [], _∷_}
+use mathlib.Core.List.{List, [], _∷_, append-assoc}
 use mathlib.Core.Bool.{Bool, true, false, cond}
 use lib.Dec.{eqb, leb}
 use borrow.Author.Tests.{eqb-true, leb-true}
-use lib.ListN.{length, take, drop, getD, length-drop}
-use lib.Seq.{sets, drop-drop, length-take-le, length-sets, take-take}
-use Rattle.rules.specs.Records.{Entry, Row, State}
+use lib.ListN.{length, take, drop, getD, length-append, length-drop}
+use lib.Seq.{sets, sets-eq, drop-at, drop-drop, length-take-le, length-sets}
+use Rattle.rules.specs.Records.{Entry, Row, State, emptyEntry, withMtu, withSource, withTimes}
 use Rattle.rules.specs.Rows.{rowAt, changeRow, withRows}
 use Rattle.rules.specs.Lookups.{withEntry, rewrite}
-use Rattle.rules.specs.Memory.{cut, leNumber, leBytes, coordEntriesOf, pathOf, entryOf, rowOf, rowsOf, viewRows}
+use Rattle.rules.specs.Memory.{cut, leNumber, leBytes, pathOf, entryOf, mtuBytes, rowOf, rowsOf, sourceBytes, usedBytes, viewRows}
 use Rattle.rules.specs.Cases.{Every}
 use Rattle.rules.specs.Lent.{Small}
-use Rattle.rules.proofs.ViewLaws.{num-le, length-le}
+use Rattle.rules.specs.Layout.{addressSize, byteSize, mtuSize, numberSize}
 use Rattle.rules.specs.Layout.{defaultTtlOffset, headSize, maxEntriesOffset, rowCountOffset, seqOffset, storedWeightOffset}
-use Rattle.rules.specs.Layout.{coordEntrySize, createdAtOffset, entryOffset, entrySize, expiresAtOffset, lastUsedOffset, mtuMarkOffset, mtuOffset, pathSize, placeOffset, placesSize, rowSize, sourceOffset, stampFirstOffset, stampSeqOffset, verifiedUntilOffset, weightOffset}
+use Rattle.rules.specs.Layout.{createdAtOffset, entryOffset, entrySize, expiresAtOffset, keyOffset, lastUsedOffset, lengthOffset, mtuMarkOffset, mtuOffset, placeOffset, rowSize, sourceOffset, stampFirstOffset, stampSeqOffset, verifiedUntilOffset, weightOffset}
 use Rattle.rules.specs.Layout.{createdAtInRow, expiresAtInRow, lastUsedInRow, mtuInRow, mtuMarkInRow, sourceInRow, verifiedUntilInRow}
-use Rattle.types.specs.Paths.{pathPlaces}
-use Rattle.raw.proofs.StoreLaws.{take-sets-le, drop-sets-ge, take-sets-in, drop-sets-add, cut-else, cut-same, cut-cut}
-use Rattle.memory.proofs.RowBlocks.{drop-take-add}
+use Rattle.rules.proofs.MemoryLaws.{num-le, length-le}
+use Rattle.rules.proofs.EntryLaws.{Stored, times-read, mtu-read, source-read}
+use Rattle.rules.proofs.Sizes.{small}
 use Rattle.rules.proofs.RowLists.{change-twice}
+use Rattle.raw.proofs.StoreLaws.{take-sets-le, drop-sets-ge, take-sets-in, drop-sets-add, cut-else, cut-same, cut-cut}
+use Rattle.memory.proofs.StoreRuns.{two-from}
 
 -- ---- what is read of a row
 
@@ -39,11 +41,11 @@ pub row-at : (n i : ℕ) (l : List ℕ) → i < n → rowAt i (viewRows n l .row
 unfolding viewRows
 row-at n i l h = rows-at n i (drop headSize l) h ∙ ap (λ (m : List ℕ). rowOf (take rowSize m)) (drop-drop (i * rowSize) headSize l)
 
-pub row-key : (n i : ℕ) (l : List ℕ) → i < n → rowAt i (viewRows n l .rows) .key .0 ≡ cut (headSize + i * rowSize) 16 l
+pub row-key : (n i : ℕ) (l : List ℕ) → i < n → rowAt i (viewRows n l .rows) .key .0 ≡ cut (headSize + i * rowSize) addressSize l
 unfolding rowOf
 row-key n i l h =
     let z : headSize + i * rowSize + 0 ≡ headSize + i * rowSize = omega arith in
-    ap (λ (r : Row). r .key .0) (row-at n i l h) ∙ cut-cut (headSize + i * rowSize) rowSize 0 16 l (omega arith) ∙ ap (λ (k : ℕ). cut k 16 l) z
+    ap (λ (r : Row). r .key .0) (row-at n i l h) ∙ cut-cut (headSize + i * rowSize) rowSize keyOffset addressSize l (omega arith) ∙ ap (λ (k : ℕ). cut k addressSize l) z
 
 -- w bytes at o of row i, as a number
 abbrev numberAt : List ℕ → ℕ → ℕ → ℕ → ℕ
@@ -51,18 +53,18 @@ numberAt l i o w = leNumber (cut (headSize + i * rowSize + o) w l)
 
 -- every number of row i, where it is read
 pub record Numbers (l : List ℕ) (i : ℕ) (r : Row) : Type 0 where
-  pub pathLength : numberAt l i entryOffset 1 ≡ r .entry .path .len
-  pub createdAt : numberAt l i createdAtInRow 8 ≡ r .entry .createdAt
-  pub lastUsed : numberAt l i lastUsedInRow 8 ≡ r .entry .lastUsed
-  pub expiresAt : numberAt l i expiresAtInRow 8 ≡ r .entry .expiresAt
-  pub mtuMark : numberAt l i mtuMarkInRow 1 ≡ r .entry .mtuMark
-  pub mtu : numberAt l i mtuInRow 2 ≡ r .entry .mtu
-  pub source : numberAt l i sourceInRow 1 ≡ r .entry .source
-  pub verifiedUntil : numberAt l i verifiedUntilInRow 8 ≡ r .entry .verifiedUntil
-  pub place : numberAt l i placeOffset 1 ≡ r .place
-  pub stampFirst : numberAt l i stampFirstOffset 8 ≡ r .stampFirst
-  pub stampSeq : numberAt l i stampSeqOffset 8 ≡ r .stampSeq
-  pub weight : numberAt l i weightOffset 1 ≡ r .weight
+  pub pathLength : numberAt l i entryOffset byteSize ≡ r .entry .path .len
+  pub createdAt : numberAt l i createdAtInRow numberSize ≡ r .entry .createdAt
+  pub lastUsed : numberAt l i lastUsedInRow numberSize ≡ r .entry .lastUsed
+  pub expiresAt : numberAt l i expiresAtInRow numberSize ≡ r .entry .expiresAt
+  pub mtuMark : numberAt l i mtuMarkInRow byteSize ≡ r .entry .mtuMark
+  pub mtu : numberAt l i mtuInRow mtuSize ≡ r .entry .mtu
+  pub source : numberAt l i sourceInRow byteSize ≡ r .entry .source
+  pub verifiedUntil : numberAt l i verifiedUntilInRow numberSize ≡ r .entry .verifiedUntil
+  pub place : numberAt l i placeOffset byteSize ≡ r .place
+  pub stampFirst : numberAt l i stampFirstOffset numberSize ≡ r .stampFirst
+  pub stampSeq : numberAt l i stampSeqOffset numberSize ≡ r .stampSeq
+  pub weight : numberAt l i weightOffset byteSize ≡ r .weight
 
 module _ (l : List ℕ) (n i : ℕ) (h : i < n) where
   of-row : (get : Row → ℕ) (o w : ℕ) → ((c : List ℕ) → get (rowOf c) ≡ leNumber (cut o w c)) → o + w ≤ rowSize → numberAt l i o w ≡ get (rowAt i (viewRows n l .rows))
@@ -76,18 +78,18 @@ module _ (l : List ℕ) (n i : ℕ) (h : i < n) where
   unfolding rowOf entryOf pathOf
   field-read =
       record {
-        pathLength = of-entry (λ e. e .path .len) 0 1 (λ c. refl) (omega arith);
-        createdAt = of-entry (λ e. e .createdAt) createdAtOffset 8 (λ c. refl) (omega arith);
-        lastUsed = of-entry (λ e. e .lastUsed) lastUsedOffset 8 (λ c. refl) (omega arith);
-        expiresAt = of-entry (λ e. e .expiresAt) expiresAtOffset 8 (λ c. refl) (omega arith);
-        mtuMark = of-entry (λ e. e .mtuMark) mtuMarkOffset 1 (λ c. refl) (omega arith);
-        mtu = of-entry (λ e. e .mtu) mtuOffset 2 (λ c. refl) (omega arith);
-        source = of-entry (λ e. e .source) sourceOffset 1 (λ c. refl) (omega arith);
-        verifiedUntil = of-entry (λ e. e .verifiedUntil) verifiedUntilOffset 8 (λ c. refl) (omega arith);
-        place = of-row (λ r. r .place) placeOffset 1 (λ c. refl) (omega arith);
-        stampFirst = of-row (λ r. r .stampFirst) stampFirstOffset 8 (λ c. refl) (omega arith);
-        stampSeq = of-row (λ r. r .stampSeq) stampSeqOffset 8 (λ c. refl) (omega arith);
-        weight = of-row (λ r. r .weight) weightOffset 1 (λ c. refl) (omega arith);
+        pathLength = of-entry (λ e. e .path .len) lengthOffset byteSize (λ c. refl) (omega arith);
+        createdAt = of-entry (λ e. e .createdAt) createdAtOffset numberSize (λ c. refl) (omega arith);
+        lastUsed = of-entry (λ e. e .lastUsed) lastUsedOffset numberSize (λ c. refl) (omega arith);
+        expiresAt = of-entry (λ e. e .expiresAt) expiresAtOffset numberSize (λ c. refl) (omega arith);
+        mtuMark = of-entry (λ e. e .mtuMark) mtuMarkOffset byteSize (λ c. refl) (omega arith);
+        mtu = of-entry (λ e. e .mtu) mtuOffset mtuSize (λ c. refl) (omega arith);
+        source = of-entry (λ e. e .source) sourceOffset byteSize (λ c. refl) (omega arith);
+        verifiedUntil = of-entry (λ e. e .verifiedUntil) verifiedUntilOffset numberSize (λ c. refl) (omega arith);
+        place = of-row (λ r. r .place) placeOffset byteSize (λ c. refl) (omega arith);
+        stampFirst = of-row (λ r. r .stampFirst) stampFirstOffset numberSize (λ c. refl) (omega arith);
+        stampSeq = of-row (λ r. r .stampSeq) stampSeqOffset numberSize (λ c. refl) (omega arith);
+        weight = of-row (λ r. r .weight) weightOffset byteSize (λ c. refl) (omega arith);
       }
 
 -- ---- stores in a row
@@ -116,25 +118,62 @@ row-store f o vs w law n i l h k =
     let d : n * rowSize ≤ length (drop headSize l) = rw length-drop (omega arith) in
     let r : rowsOf n (drop headSize (sets l j vs)) ≡ changeRow f i (rowsOf n (drop headSize l)) =
     ap (rowsOf n) (drop-sets-add headSize vs l (i * rowSize + o) j (omega arith)) ∙ row-rows f o vs w law n i (drop headSize l) h d in
-    rw (b 0 8 (omega arith), b 8 8 (omega arith), b 16 8 (omega arith), b 24 8 (omega arith), b rowCountOffset 8 (omega arith), r, drop-sets-ge (headSize + n * rowSize) vs l j (omega arith))
+    rw (b maxEntriesOffset numberSize (omega arith), b defaultTtlOffset numberSize (omega arith), b seqOffset numberSize (omega arith), b storedWeightOffset numberSize (omega arith), b rowCountOffset numberSize (omega arith), r, drop-sets-ge (headSize + n * rowSize) vs l j (omega arith))
 
--- ---- a run of stores in an entry
+-- ---- bytes stored in an entry
 
 entry-in-row : (f : Entry → Entry) (o : ℕ) (vs : List ℕ) → o + length vs ≤ entrySize → ((e : List ℕ) → length e ≡ entrySize → entryOf (sets e o vs) ≡ f (entryOf e))
     → (c : List ℕ) → length c ≡ rowSize → rowOf (sets c (entryOffset + o) vs) ≡ withEntry (f (rowOf c .entry)) (rowOf c)
 unfolding rowOf withEntry
 entry-in-row f o vs w law c h =
-    let k : length (cut entryOffset entrySize c) ≡ entrySize = length-take-le entrySize (drop 16 c) (rw length-drop (omega arith)) in
+    let k : length (cut entryOffset entrySize c) ≡ entrySize = length-take-le entrySize (drop entryOffset c) (rw length-drop (omega arith)) in
     let e : cut entryOffset entrySize (sets c (entryOffset + o) vs) ≡ sets (cut entryOffset entrySize c) o vs =
-    ap (take entrySize) (drop-sets-add 16 vs c o (entryOffset + o) refl) ∙ take-sets-in entrySize vs (drop 16 c) o w in
+    ap (take entrySize) (drop-sets-add entryOffset vs c o (entryOffset + o) refl) ∙ take-sets-in entrySize vs (drop entryOffset c) o w in
     let b : (a m : ℕ) → placeOffset ≤ a → cut a m (sets c (entryOffset + o) vs) ≡ cut a m c = λ a m q. cut-else c vs (entryOffset + o) a m (inr (omega arith)) in
-    rw (cut-else c vs (entryOffset + o) 0 16 (inl (omega arith)), e, law (cut entryOffset entrySize c) k, b placeOffset 1 (omega arith), b stampFirstOffset 8 (omega arith), b stampSeqOffset 8 (omega arith), b weightOffset 1 (omega arith))
+    rw (cut-else c vs (entryOffset + o) keyOffset addressSize (inl (omega arith)), e, law (cut entryOffset entrySize c) k, b placeOffset byteSize (omega arith), b stampFirstOffset numberSize (omega arith), b stampSeqOffset numberSize (omega arith), b weightOffset byteSize (omega arith))
 
 -- a law of an entry's bytes is a law of the view
-pub entry-store : (f : Entry → Entry) (o : ℕ) (vs : List ℕ) → o + length vs ≤ entrySize → ((e : List ℕ) → length e ≡ entrySize → entryOf (sets e o vs) ≡ f (entryOf e))
+entry-store : (f : Entry → Entry) (o : ℕ) (vs : List ℕ) → o + length vs ≤ entrySize → ((e : List ℕ) → length e ≡ entrySize → entryOf (sets e o vs) ≡ f (entryOf e))
     → (n i : ℕ) (l : List ℕ) → i < n → headSize + n * rowSize ≤ length l → viewRows n (sets l (headSize + i * rowSize + (entryOffset + o)) vs) ≡ rewrite f i (viewRows n l)
 unfolding rewrite
 entry-store f o vs w law n i l h k = row-store (λ r. withEntry (f (r .entry)) r) (entryOffset + o) vs (omega arith) (entry-in-row f o vs w law) n i l h k
+
+stored : (k : ℕ) (vs c : List ℕ) → k + length vs ≤ length c → Stored k vs (sets c k vs) c
+stored k vs c h =
+    record {
+      before = take-sets-le k vs c k (omega arith);
+      from = ap (drop k) (sets-eq vs c k h ∙ append-assoc (take k c) vs (drop (k + length vs) c)) ∙ drop-at (take k c) _ k (length-take-le k c (omega arith));
+    }
+
+-- the bytes of a group of fields, stored in row i, are that row's entry changed in the view
+pub group-store : (f : Entry → Entry) (o : ℕ) (vs : List ℕ) → o + length vs ≤ entrySize → ((c d : List ℕ) → Stored o vs c d → entryOf c ≡ f (entryOf d))
+    → (n i : ℕ) (l : List ℕ) → i < n → headSize + n * rowSize ≤ length l → viewRows n (sets l (headSize + i * rowSize + (entryOffset + o)) vs) ≡ rewrite f i (viewRows n l)
+group-store f o vs w law n i l h k = entry-store f o vs w (λ e q. law (sets e o vs) e (stored o vs e (omega arith))) n i l h k
+
+-- last_used and expires_at
+pub times-store : (l : List ℕ) (n i used expires : ℕ) → Small numberSize used → Small numberSize expires → i < n → headSize + n * rowSize ≤ length l
+    → viewRows n (sets (sets l (headSize + i * rowSize + lastUsedInRow) (leBytes numberSize used)) (headSize + i * rowSize + expiresAtInRow) (leBytes numberSize expires)) ≡ rewrite (withTimes used expires) i (viewRows n l)
+times-store l n i used expires u x h k =
+    let vs : List ℕ = usedBytes (withTimes used expires (emptyEntry 0)) in
+    let w : length vs ≡ numberSize + numberSize = simp (length-append, length-le) in
+    ap (viewRows n) (two-from l (leBytes numberSize used) (leBytes numberSize expires) (headSize + i * rowSize) lastUsedInRow expiresAtInRow (omega (arith, length-le numberSize used)))
+    ∙ group-store (withTimes used expires) lastUsedOffset vs (omega arith) (λ c d. times-read c d used expires u x) n i l h k
+
+-- path_mtu
+pub mtu-store : (l : List ℕ) (n i mark m : ℕ) → Small byteSize mark → Small mtuSize m → i < n → headSize + n * rowSize ≤ length l
+    → viewRows n (sets (sets l (headSize + i * rowSize + mtuMarkInRow) (leBytes byteSize mark)) (headSize + i * rowSize + mtuInRow) (leBytes mtuSize m)) ≡ rewrite (withMtu mark m) i (viewRows n l)
+mtu-store l n i mark m a b h k =
+    let vs : List ℕ = mtuBytes (withMtu mark m (emptyEntry 0)) in
+    let w : length vs ≡ byteSize + mtuSize = simp (length-append, length-le) in
+    ap (viewRows n) (two-from l (leBytes byteSize mark) (leBytes mtuSize m) (headSize + i * rowSize) mtuMarkInRow mtuInRow (omega (arith, length-le byteSize mark)))
+    ∙ group-store (withMtu mark m) mtuMarkOffset vs (omega arith) (λ c d. mtu-read c d mark m a b) n i l h k
+
+-- source and verified_until
+pub source-store : (l : List ℕ) (n i source until : ℕ) → Small byteSize source → Small numberSize until → i < n → headSize + n * rowSize ≤ length l
+    → viewRows n (sets l (headSize + i * rowSize + sourceInRow) (sourceBytes (withSource source until (emptyEntry 0)))) ≡ rewrite (withSource source until) i (viewRows n l)
+source-store l n i source until a b h k =
+    let w : length (sourceBytes (withSource source until (emptyEntry 0))) ≡ entrySize - sourceOffset = simp (length-append, length-le) in
+    group-store (withSource source until) sourceOffset _ (omega arith) (λ c d. source-read c d source until a b) n i l h k
 
 -- ---- a number stored among others
 
@@ -171,42 +210,20 @@ field-stored o w v c s h k m = here (eqb o k) refl
     here true p q = rw (← eqb-true o k p, ← eqb-true w m q) (ap leNumber (rw (length-le w v) at (cut-same c vs o (omega (arith, length-le w v)))) ∙ num-le w v s)
     here false p q = ap leNumber (else (leb (k + m) o) refl q)
 
--- ---- numbers stored in a row, behind its path
+-- ---- numbers stored in a row, behind its entry
 
-entries-front : (n : ℕ) (l : List ℕ) → coordEntriesOf n (take (n * coordEntrySize) l) ≡ coordEntriesOf n l
-unfolding coordEntriesOf
-entries-front zero l = refl
-entries-front (suc n) l =
-    let e : suc n * coordEntrySize ≡ coordEntrySize + n * coordEntrySize = omega arith in
-    rw (e, take-take coordEntrySize (coordEntrySize + n * coordEntrySize) l (omega arith), drop-take-add coordEntrySize (n * coordEntrySize) l, entries-front n (drop coordEntrySize l))
-
-path-front : (e : List ℕ) → pathOf e ≡ pathOf (take pathSize e)
-unfolding pathOf
-path-front e = rw (take-take 1 pathSize e (omega arith), drop-take-add 1 placesSize e, entries-front pathPlaces (drop 1 e))
-
--- w bytes at o are a number of a row behind its path: each such number is at o, or apart from them
+-- w bytes at o are a number of a row behind its entry: each such number is at o, or apart from them
 abbrev pub isNumber : ℕ → ℕ → List Bool
 isNumber o w =
-    leb createdAtInRow o ∷ leb (o + w) rowSize ∷ apart o w createdAtInRow 8 ∷ apart o w lastUsedInRow 8 ∷ apart o w expiresAtInRow 8 ∷ apart o w mtuMarkInRow 1 ∷ apart o w mtuInRow 2
-    ∷ apart o w sourceInRow 1 ∷ apart o w verifiedUntilInRow 8 ∷ apart o w placeOffset 1 ∷ apart o w stampFirstOffset 8 ∷ apart o w stampSeqOffset 8 ∷ apart o w weightOffset 1 ∷ []
+    leb placeOffset o ∷ leb (o + w) rowSize ∷ apart o w placeOffset byteSize ∷ apart o w stampFirstOffset numberSize ∷ apart o w stampSeqOffset numberSize ∷ apart o w weightOffset byteSize ∷ []
 
 -- the row with v as its number at o
 unfoldable pub withNumber : ℕ → ℕ → Row → Row
 withNumber o v r =
     let at = put o v in
-    let e = r .entry in
     record {
       key = r .key;
-      entry = record {
-        path = e .path;
-        createdAt = at createdAtInRow (e .createdAt);
-        lastUsed = at lastUsedInRow (e .lastUsed);
-        expiresAt = at expiresAtInRow (e .expiresAt);
-        mtuMark = at mtuMarkInRow (e .mtuMark);
-        mtu = at mtuInRow (e .mtu);
-        source = at sourceInRow (e .source);
-        verifiedUntil = at verifiedUntilInRow (e .verifiedUntil);
-      };
+      entry = r .entry;
       place = at placeOffset (r .place);
       stampFirst = at stampFirstOffset (r .stampFirst);
       stampSeq = at stampSeqOffset (r .stampSeq);
@@ -214,40 +231,21 @@ withNumber o v r =
     }
 
 number-row : (o w v : ℕ) → all (isNumber o w) ≡ true → Small w v → (c : List ℕ) → length c ≡ rowSize → rowOf (sets c o (leBytes w v)) ≡ withNumber o v (rowOf c)
-unfolding rowOf entryOf withNumber
+unfolding rowOf withNumber
 number-row o w v e s c h =
     let t = all-true (isNumber o w) e in
     let vs : List ℕ = leBytes w v in
-    let b = leb-true createdAtInRow o (t 0) in
+    let b = leb-true placeOffset o (t 0) in
     let x = leb-true (o + w) rowSize (t 1) in
     let f = field-stored o w v c s (omega arith) in
-    let g : (k m : ℕ) → k + m ≤ entrySize → apart o w (entryOffset + k) m ≡ true → leNumber (cut k m (cut entryOffset entrySize (sets c o vs)))
-    ≡ put o v (entryOffset + k) (leNumber (cut k m (cut entryOffset entrySize c))) =
-    λ k m q a. ap leNumber (cut-cut entryOffset entrySize k m (sets c o vs) q) ∙ f (entryOffset + k) m a
-    ∙ ap (λ (y : List ℕ). put o v (entryOffset + k) (leNumber y)) (sym (cut-cut entryOffset entrySize k m c q)) in
-    let front : (y : List ℕ) → pathOf (cut entryOffset entrySize y) ≡ pathOf (cut entryOffset pathSize y) =
-    λ y. path-front (cut entryOffset entrySize y) ∙ ap pathOf (take-take pathSize entrySize (drop entryOffset y) (omega arith)) in
-    let p : pathOf (cut entryOffset entrySize (sets c o vs)) ≡ pathOf (cut entryOffset entrySize c) =
-    front (sets c o vs) ∙ ap pathOf (cut-else c vs o entryOffset pathSize (inl (omega arith))) ∙ sym (front c) in
     rw (
-      cut-else c vs o 0 16 (inl (omega arith)),
-      p,
-      g createdAtOffset 8 (omega arith) (t 2),
-      g lastUsedOffset 8 (omega arith) (t 3),
-      g expiresAtOffset 8 (omega arith) (t 4),
-      g mtuMarkOffset 1 (omega arith) (t 5),
-      g mtuOffset 2 (omega arith) (t 6),
-      g sourceOffset 1 (omega arith) (t 7),
-      g verifiedUntilOffset 8 (omega arith) (t 8),
-      f placeOffset 1 (t 9),
-      f stampFirstOffset 8 (t 10),
-      f stampSeqOffset 8 (t 11),
-      f weightOffset 1 (t 12),
+      cut-else c vs o keyOffset addressSize (inl (omega arith)),
+      cut-else c vs o entryOffset entrySize (inl (omega arith)),
+      f placeOffset byteSize (t 2),
+      f stampFirstOffset numberSize (t 3),
+      f stampSeqOffset numberSize (t 4),
+      f weightOffset byteSize (t 5),
     )
-
-small : (w v : ℕ) → v < 256 ^ w → Small w v
-small zero v h = omega arith
-small (suc w) v h = small w (v / 256) (omega arith)
 
 -- an offset, a width and a value
 abbrev pub Store : Type 0
@@ -281,9 +279,9 @@ field-store (x ∷ xs) e l n i h k =
 
 -- ---- a number stored in the head
 
--- the eight bytes at o are a number of the head
+-- the bytes at o are a number of the head
 abbrev pub isHeadNumber : ℕ → List Bool
-isHeadNumber o = leb (o + 8) headSize ∷ apart o 8 maxEntriesOffset 8 ∷ apart o 8 defaultTtlOffset 8 ∷ apart o 8 seqOffset 8 ∷ apart o 8 storedWeightOffset 8 ∷ apart o 8 rowCountOffset 8 ∷ []
+isHeadNumber o = leb (o + numberSize) headSize ∷ apart o numberSize maxEntriesOffset numberSize ∷ apart o numberSize defaultTtlOffset numberSize ∷ apart o numberSize seqOffset numberSize ∷ apart o numberSize storedWeightOffset numberSize ∷ apart o numberSize rowCountOffset numberSize ∷ []
 
 -- the state with v as its number of the head at o
 unfoldable pub withHeadNumber : ℕ → ℕ → State → State
@@ -299,21 +297,21 @@ withHeadNumber o v s =
       rest = s .rest;
     }
 
-pub head-store : (o v : ℕ) → all (isHeadNumber o) ≡ true → v < 256 ^ 8 → (n : ℕ) (l : List ℕ) → headSize ≤ length l → viewRows n (sets l o (leBytes 8 v)) ≡ withHeadNumber o v (viewRows n l)
+pub head-store : (o v : ℕ) → all (isHeadNumber o) ≡ true → v < 256 ^ numberSize → (n : ℕ) (l : List ℕ) → headSize ≤ length l → viewRows n (sets l o (leBytes numberSize v)) ≡ withHeadNumber o v (viewRows n l)
 unfolding viewRows withHeadNumber
 head-store o v e s n l h =
     let t = all-true (isHeadNumber o) e in
-    let b = leb-true (o + 8) headSize (t 0) in
-    let w = length-le 8 v in
-    let f = field-stored o 8 v l (small 8 v s) (omega arith) in
+    let b = leb-true (o + numberSize) headSize (t 0) in
+    let w = length-le numberSize v in
+    let f = field-stored o numberSize v l (small numberSize v s) (omega arith) in
     rw (
-      f maxEntriesOffset 8 (t 1),
-      f defaultTtlOffset 8 (t 2),
-      f seqOffset 8 (t 3),
-      f storedWeightOffset 8 (t 4),
-      f rowCountOffset 8 (t 5),
-      drop-sets-ge headSize (leBytes 8 v) l o (omega arith),
-      drop-sets-ge (headSize + n * rowSize) (leBytes 8 v) l o (omega arith),
+      f maxEntriesOffset numberSize (t 1),
+      f defaultTtlOffset numberSize (t 2),
+      f seqOffset numberSize (t 3),
+      f storedWeightOffset numberSize (t 4),
+      f rowCountOffset numberSize (t 5),
+      drop-sets-ge headSize (leBytes numberSize v) l o (omega arith),
+      drop-sets-ge (headSize + n * rowSize) (leBytes numberSize v) l o (omega arith),
     )
 
 -- ---- the head's numbers don't depend on how many rows are seen

@@ -65,13 +65,3 @@ without-eq zero [] = refl
 without-eq (suc i) [] = refl
 without-eq zero (r ∷ rs) = refl
 without-eq (suc i) (r ∷ rs) = ap (λ (x : List Row). r ∷ x) (without-eq i rs)
-
--- the list without its first 40 elements
-pub drop-take-add : (k a : ℕ) (l : List ℕ) → drop k (take (k + a) l) ≡ take a (drop k l)
-drop-take-add zero a l = let z : 0 + a ≡ a = omega arith in rw z
-drop-take-add (suc k) a [] = let e : suc k + a ≡ suc (k + a) = omega arith in rw e (nil a)
-  where
-    nil : (a : ℕ) → _≡_ {A = List ℕ} [] (take a [])
-    nil zero = refl
-    nil (suc a) = refl
-drop-take-add (suc k) a (x ∷ xs) = let e : suc k + a ≡ suc (k + a) = omega arith in rw e (drop-take-add k a xs)

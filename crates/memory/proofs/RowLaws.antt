@@ -16,11 +16,12 @@ use Rattle.rules.proofs.Foreign.{rows-of-length}
 use Rattle.rules.proofs.RowLists.{total-without}
 use Rattle.rules.proofs.Sizes.{zero-length}
 use Rattle.raw.proofs.CopyLaws.{cut-byte}
+use Rattle.rules.proofs.MemoryLaws.{drop-take-add}
 use Rattle.raw.proofs.StoreLaws.{take-sets-le, drop-sets-add, cut-else, cut-same, cut-cut}
 use Rattle.rules.specs.Refusals.{fresh}
 use Rattle.rules.specs.Layout.{defaultTtlOffset, headSize, rowCountOffset, rowSize}
 use Rattle.memory.specs.Edits.{withStoredWeight, withRowCount, OnlyRows, shrunk}
-use Rattle.memory.proofs.RowBlocks.{rows-take, parts-rows, without-eq, drop-take-add}
+use Rattle.memory.proofs.RowBlocks.{rows-take, parts-rows, without-eq}
 use Rattle.memory.proofs.StoreRuns.{Run}
 use Rattle.memory.proofs.Fields.{head-store, withHeadNumber}
 

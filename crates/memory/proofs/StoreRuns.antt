@@ -27,6 +27,20 @@ five l a b c d e at j k m n p q r s =
     ap (λ (x : List ℕ). sets (sets (sets x (at + k) c) (at + m) d) (at + n) e) (behind l a b at j p) ∙ four l (a ++ b) c d e at k m n (length-append a b ∙ omega arith) r s
     ∙ ap (sets l at) (append-assoc a b (c ++ (d ++ e)))
 
+-- ---- runs from the i-th byte behind `at` on, their places counted from `at`
+
+pub two-from : (l a b : List ℕ) (at i j : ℕ) → i + length a ≡ j → sets (sets l (at + i) a) (at + j) b ≡ sets l (at + i) (a ++ b)
+two-from l a b at i j p = let e : at + j ≡ at + i + length a = omega arith in rw e (sets-more a b l (at + i))
+
+pub three-from : (l a b c : List ℕ) (at i j k : ℕ) → i + length a ≡ j → j + length b ≡ k → sets (sets (sets l (at + i) a) (at + j) b) (at + k) c ≡ sets l (at + i) (a ++ (b ++ c))
+three-from l a b c at i j k p q =
+    ap (λ (m : List ℕ). sets m (at + k) c) (two-from l a b at i j p) ∙ two-from l (a ++ b) c at i k (rw length-append (omega arith)) ∙ ap (sets l (at + i)) (append-assoc a b c)
+
+pub four-from : (l a b c d : List ℕ) (at i j k m : ℕ) → i + length a ≡ j → j + length b ≡ k → k + length c ≡ m
+    → sets (sets (sets (sets l (at + i) a) (at + j) b) (at + k) c) (at + m) d ≡ sets l (at + i) (a ++ (b ++ (c ++ d)))
+four-from l a b c d at i j k m p q r =
+    ap (λ (x : List ℕ). sets (sets x (at + k) c) (at + m) d) (two-from l a b at i j p) ∙ three-from l (a ++ b) c d at i k m (rw length-append (omega arith)) r ∙ ap (sets l (at + i)) (append-assoc a b (c ++ d))
+
 -- ---- a run stored byte by byte
 
 one-more : (l x : List ℕ) (at i : ℕ) → i < length x → set (sets l at (take i x)) (at + i) (getD x i 0) ≡ sets l at (take (i + 1) x)

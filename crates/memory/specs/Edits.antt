@@ -1,9 +1,9 @@
--- States with one number of the head changed; rows and entries with some fields changed.
+-- States with one number of the head changed; rows with some fields changed.
 use Prim.Native.Nat.{ℕ, _+_, _*_, _-_}
 use mathlib.Core.Path.{_≡_}
 use mathlib.Core.List.{List, _++_}
 use lib.ListN.{length, take, drop}
-use Rattle.rules.specs.Records.{Entry, Row, State, withHeld}
+use Rattle.rules.specs.Records.{Row, State, withHeld}
 use Rattle.rules.specs.Rows.{zeroRows}
 use Rattle.rules.specs.Memory.{viewRows}
 use Rattle.rules.specs.Layout.{headSize, rowSize}
@@ -20,15 +20,6 @@ stampedAs p f q r = record { key = r .key; entry = r .entry; place = p; stampFir
 
 unfoldable pub withWeight : ℕ → Row → Row
 withWeight w r = record { key = r .key; entry = r .entry; place = r .place; stampFirst = r .stampFirst; stampSeq = r .stampSeq; weight = w }
-
-unfoldable pub withTimes : ℕ → ℕ → Entry → Entry
-withTimes used expires e = record { path = e .path; createdAt = e .createdAt; lastUsed = used; expiresAt = expires; mtuMark = e .mtuMark; mtu = e .mtu; source = e .source; verifiedUntil = e .verifiedUntil }
-
-unfoldable pub withSource : ℕ → ℕ → Entry → Entry
-withSource source until e = record { path = e .path; createdAt = e .createdAt; lastUsed = e .lastUsed; expiresAt = e .expiresAt; mtuMark = e .mtuMark; mtu = e .mtu; source = source; verifiedUntil = until }
-
-unfoldable pub withMtu : ℕ → ℕ → Entry → Entry
-withMtu mark m e = record { path = e .path; createdAt = e .createdAt; lastUsed = e .lastUsed; expiresAt = e .expiresAt; mtuMark = mark; mtu = m; source = e .source; verifiedUntil = e .verifiedUntil }
 
 -- of a memory l with n rows, m has the same head, the same bytes past them, and these j rows in front
 pub record OnlyRows (n j : ℕ) (rs : List Row) (l m : List ℕ) : Type 0 where

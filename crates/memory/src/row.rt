@@ -7,12 +7,15 @@ use raw::layout::ROW;
 ghost use mathlib.Core.Path.{_≡_};
 ghost use Prim.Native.Nat.{_+_, _*_, _≤_, _<_};
 ghost use lib.ListN.{length};
+ghost use lib.Seq.{sets};
+ghost use Rattle.rules.specs.Records.{emptyEntry, withMtu, withSource, withTimes};
 ghost use Rattle.rules.specs.Rows.{rowAt, changeRow, withRows};
 ghost use Rattle.rules.specs.Entries.{markHint, dropMtu};
 ghost use Rattle.rules.specs.Lookups.{rewrite};
-ghost use Rattle.rules.specs.Memory.{viewRows};
-ghost use Rattle.rules.specs.Layout.{headSize, rowSize};
-ghost use Rattle.memory.specs.Edits.{stampedAs, withWeight, withTimes, withSource, withMtu};
+ghost use Rattle.rules.specs.Memory.{sourceBytes, viewRows};
+ghost use Rattle.rules.specs.Lent.{Small};
+ghost use Rattle.rules.specs.Layout.{byteSize, headSize, numberSize, rowSize, sourceInRow};
+ghost use Rattle.memory.specs.Edits.{stampedAs, withWeight};
 
 pub fn path_len(state: &[u8], n: usize, i: usize) -> u8
     requires { ⌜ (i < n) × (headSize + n * rowSize ≤ length (now state)) ⌝ }
@@ -98,6 +101,16 @@ pub fn weight(state: &[u8], n: usize, i: usize) -> u8
     raw::numbers::read_u8(state, HEAD + i * ROW + layout::WEIGHT)
 }
 
+// Source and verified_until of the row whose first byte is at `at`.
+pub fn write_source(s: &mut [u8], at: usize, source: u8, until: u64)
+    requires { ⌜ at + rowSize ≤ length (now s) ⌝ }
+    ensures { λ _. ⌜ now (s .exit) ≡ sets (now (s .entry)) (at + sourceInRow) (sourceBytes (withSource source until (emptyEntry 0))) ⌝ }
+    ensures { λ _. ⌜ Small byteSize source × Small numberSize until ⌝ }
+{
+    raw::numbers::write_u8(s, at + layout::SOURCE, source);
+    raw::numbers::write_u64(s, at + layout::VERIFIED_UNTIL, until);
+}
+
 // last_used and expires_at, as a refresh sets them.
 pub fn set_times(state: &mut [u8], n: usize, i: usize, used: u64, expires: u64)
     requires { ⌜ (i < n) × (headSize + n * rowSize ≤ length (now state)) ⌝ }
@@ -112,8 +125,7 @@ pub fn set_source(state: &mut [u8], n: usize, i: usize, source: u8, until: u64)
     requires { ⌜ (i < n) × (headSize + n * rowSize ≤ length (now state)) ⌝ }
     ensures { λ _. ⌜ viewRows n (now (state .exit)) ≡ rewrite (withSource source until) i (viewRows n (now (state .entry))) ⌝ }
 {
-    raw::numbers::write_u8(state, HEAD + i * ROW + layout::SOURCE, source);
-    raw::numbers::write_u64(state, HEAD + i * ROW + layout::VERIFIED_UNTIL, until);
+    write_source(state, HEAD + i * ROW, source, until);
 }
 
 // The entry becomes a hint.

@@ -10,10 +10,11 @@ ghost use mathlib.Core.Path.{_≡_};
 ghost use Prim.Native.Nat.{_+_, _*_, _≤_, _<_};
 ghost use lib.ListN.{length};
 ghost use Rattle.types.specs.Paths.{pathPlaces};
+ghost use Rattle.rules.specs.Records.{withPath};
 ghost use Rattle.rules.specs.Lookups.{rewrite};
 ghost use Rattle.rules.specs.Memory.{viewRows};
 ghost use Rattle.rules.specs.Layout.{headSize, rowSize};
-ghost use Rattle.rows.specs.Insertions.{rowFrom, inserted, withPath};
+ghost use Rattle.rows.specs.Insertions.{rowFrom, inserted};
 
 // The rows from i on move up by a row, and row i is new.
 pub fn insert_row(state: &mut [u8], n: usize, i: usize, r: NewRow)

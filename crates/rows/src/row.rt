@@ -1,5 +1,4 @@
-// A row by value, and its bytes. Groups of fields start at raw::layout's offsets; within a group they follow by their widths
-// (docs/PACKING.md).
+// A row by value, and its bytes, in groups of fields. `at` is the row's first byte, and the offsets are raw::layout's (docs/PACKING.md).
 use crate::values;
 use raw::layout;
 use types::coord::Path;
@@ -10,10 +9,11 @@ ghost use Prim.Native.Nat.{_+_, _≤_};
 ghost use lib.ListN.{length};
 ghost use lib.Seq.{sets};
 ghost use Rattle.types.specs.Paths.{pathPlaces};
-ghost use Rattle.rules.specs.Memory.{leBytes, rowBytes};
+ghost use Rattle.rules.specs.Records.{emptyEntry, withMtu, withSource, withTimes};
+ghost use Rattle.rules.specs.Memory.{leBytes, marksBytes, rowBytes, timesBytes};
 ghost use Rattle.rules.specs.Lent.{Small};
 ghost use Rattle.rules.proofs.ViewLaws.{RowFits};
-ghost use Rattle.rules.specs.Layout.{rowSize};
+ghost use Rattle.rules.specs.Layout.{byteSize, createdAtInRow, mtuMarkInRow, mtuSize, numberSize, placeOffset, rowSize};
 ghost use Rattle.rows.specs.Insertions.{rowFrom};
 
 pub struct NewRow {
@@ -33,35 +33,34 @@ pub struct NewRow {
 }
 
 fn write_times(s: &mut [u8], at: usize, created: u64, used: u64, expires: u64)
-    requires { ⌜ at + 24 ≤ length (now s) ⌝ }
-    ensures { λ _. ⌜ now (s .exit) ≡ sets (now (s .entry)) at (leBytes 8 created ++ (leBytes 8 used ++ leBytes 8 expires)) ⌝ }
-    ensures { λ _. ⌜ Small 8 created × Small 8 used × Small 8 expires ⌝ }
+    requires { ⌜ at + rowSize ≤ length (now s) ⌝ }
+    ensures { λ _. ⌜ now (s .exit) ≡ sets (now (s .entry)) (at + createdAtInRow) (timesBytes (withTimes used expires (emptyEntry created))) ⌝ }
+    ensures { λ _. ⌜ Small numberSize created × Small numberSize used × Small numberSize expires ⌝ }
 {
-    raw::numbers::write_u64(s, at, created);
-    raw::numbers::write_u64(s, at + 8, used);
-    raw::numbers::write_u64(s, at + 16, expires);
+    raw::numbers::write_u64(s, at + layout::CREATED_AT, created);
+    raw::numbers::write_u64(s, at + layout::LAST_USED, used);
+    raw::numbers::write_u64(s, at + layout::EXPIRES_AT, expires);
 }
 
 fn write_marks(s: &mut [u8], at: usize, mark: u8, mtu: u16, source: u8, until: u64)
-    requires { ⌜ at + 12 ≤ length (now s) ⌝ }
-    ensures { λ _. ⌜ now (s .exit) ≡ sets (now (s .entry)) at (leBytes 1 mark ++ (leBytes 2 mtu ++ (leBytes 1 source ++ leBytes 8 until))) ⌝ }
-    ensures { λ _. ⌜ Small 1 mark × Small 2 mtu × Small 1 source × Small 8 until ⌝ }
+    requires { ⌜ at + rowSize ≤ length (now s) ⌝ }
+    ensures { λ _. ⌜ now (s .exit) ≡ sets (now (s .entry)) (at + mtuMarkInRow) (marksBytes (withSource source until (withMtu mark mtu (emptyEntry 0)))) ⌝ }
+    ensures { λ _. ⌜ Small byteSize mark × Small mtuSize mtu × Small byteSize source × Small numberSize until ⌝ }
 {
-    raw::numbers::write_u8(s, at, mark);
-    raw::numbers::write_u16(s, at + 1, mtu);
-    raw::numbers::write_u8(s, at + 3, source);
-    raw::numbers::write_u64(s, at + 4, until);
+    raw::numbers::write_u8(s, at + layout::MTU_MARK, mark);
+    raw::numbers::write_u16(s, at + layout::MTU, mtu);
+    memory::row::write_source(s, at, source, until);
 }
 
 fn write_stamp(s: &mut [u8], at: usize, place: u8, first: u64, seq: u64, weight: u8)
-    requires { ⌜ at + 18 ≤ length (now s) ⌝ }
-    ensures { λ _. ⌜ now (s .exit) ≡ sets (now (s .entry)) at (leBytes 1 place ++ (leBytes 8 first ++ (leBytes 8 seq ++ leBytes 1 weight))) ⌝ }
-    ensures { λ _. ⌜ Small 1 place × Small 8 first × Small 8 seq × Small 1 weight ⌝ }
+    requires { ⌜ at + rowSize ≤ length (now s) ⌝ }
+    ensures { λ _. ⌜ now (s .exit) ≡ sets (now (s .entry)) (at + placeOffset) (leBytes byteSize place ++ (leBytes numberSize first ++ (leBytes numberSize seq ++ leBytes byteSize weight))) ⌝ }
+    ensures { λ _. ⌜ Small byteSize place × Small numberSize first × Small numberSize seq × Small byteSize weight ⌝ }
 {
-    raw::numbers::write_u8(s, at, place);
-    raw::numbers::write_u64(s, at + 1, first);
-    raw::numbers::write_u64(s, at + 9, seq);
-    raw::numbers::write_u8(s, at + 17, weight);
+    raw::numbers::write_u8(s, at + layout::PLACE, place);
+    raw::numbers::write_u64(s, at + layout::STAMP_FIRST, first);
+    raw::numbers::write_u64(s, at + layout::STAMP_SEQ, seq);
+    raw::numbers::write_u8(s, at + layout::WEIGHT, weight);
 }
 
 // All bytes of a row.
@@ -74,14 +73,14 @@ pub(crate) fn write_row(s: &mut [u8], at: usize, r: NewRow)
     values::store_path(s, at + layout::ENTRY, r.path);
     write_times(
         s,
-        at + layout::CREATED_AT,
+        at,
         r.created_at,
         r.last_used,
         r.expires_at,
     );
     write_marks(
         s,
-        at + layout::MTU_MARK,
+        at,
         r.mtu_mark,
         r.mtu,
         r.source,
@@ -89,7 +88,7 @@ pub(crate) fn write_row(s: &mut [u8], at: usize, r: NewRow)
     );
     write_stamp(
         s,
-        at + layout::PLACE,
+        at,
         r.place,
         r.stamp_first,
         r.stamp_seq,

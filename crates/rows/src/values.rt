@@ -1,4 +1,5 @@
 // An address, a path element and a path, written at an offset.
+use raw::layout::ADDRESS;
 use raw::layout::BYTE;
 use raw::layout::ELEMENT;
 use raw::layout::PATH;
@@ -12,11 +13,10 @@ ghost use mathlib.Core.List.{[], _∷_};
 ghost use Prim.Native.Nat.{_+_, _≤_};
 ghost use lib.ListN.{length};
 ghost use lib.Seq.{sets};
-ghost use Rattle.types.specs.Paths.{pathPlaces};
-ghost use Rattle.rules.specs.Memory.{addrBytes, coordEntriesBytes};
+ghost use Rattle.types.specs.Paths.{asWritten, pathPlaces};
+ghost use Rattle.rules.specs.Memory.{addrBytes, coordEntriesBytes, pathBytes};
 ghost use Rattle.rules.specs.Lent.{AddrFits, CoordEntryFits, PathFits};
 ghost use Rattle.rules.specs.Layout.{addressSize, coordEntrySize, pathSize};
-ghost use Rattle.rows.specs.Insertions.{pathBytes};
 
 pub(crate) fn store_addr(s: &mut [u8], at: usize, a: NodeAddr)
     requires { ⌜ at + addressSize ≤ length (now s) ⌝ }
@@ -25,7 +25,7 @@ pub(crate) fn store_addr(s: &mut [u8], at: usize, a: NodeAddr)
 {
     let x = a.0;
     let mut i = 0;
-    while i < 16 {
+    while i < ADDRESS {
         s[at + i] = x[i];
         i += 1;
     }
@@ -44,7 +44,7 @@ fn store_coord_entry(s: &mut [u8], at: usize, e: CoordEntry)
 // The length, the elements up to it, and zeros past them.
 pub fn store_path(s: &mut [u8], at: usize, p: Path)
     requires { ⌜ (at + pathSize ≤ length (now s)) × (p .len ≤ pathPlaces) ⌝ }
-    ensures { λ _. ⌜ now (s .exit) ≡ sets (now (s .entry)) at (pathBytes p) ⌝ }
+    ensures { λ _. ⌜ now (s .exit) ≡ sets (now (s .entry)) at (pathBytes (asWritten p)) ⌝ }
     ensures { λ _. ⌜ PathFits p ⌝ }
 {
     let n = p.len;

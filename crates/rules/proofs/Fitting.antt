@@ -6,87 +6,70 @@ use mathlib.Core.List.{List, []}
 use mathlib.Core.Option.{Option, none, some}
 use mathlib.Core.Bool.{Bool, true, false, _&&_, _||_, not}
 use lib.Dec.{leb}
-use lib.ListN.{length, take, replicate, length-append, length-replicate}
-use lib.Seq.{length-take-le}
+use lib.ListN.{length, length-append}
 use borrow.Author.Tests.{ltb-false}
 use Rattle.types.specs.declared.coord.Path.{Path}
 use Rattle.types.specs.declared.node_addr.NodeAddr.{NodeAddr}
 use Rattle.types.specs.Addresses.{sameAddr}
-use Rattle.types.specs.Paths.{asWritten, contains, elements, pathWeight, rootOf, startsAt, zeroEntry, pathPlaces}
+use Rattle.types.specs.Paths.{contains, pathWeight, rootOf, startsAt}
 use Rattle.types.specs.declared.placed.Funding.the-variants.{Uncharged, Upto}
 use Rattle.types.specs.declared.placed.Funding.{Funding}
 use Rattle.types.specs.Values.{covers}
 use Rattle.rules.specs.Cases.{Every, maybe}
-use Rattle.rules.specs.Records.{Entry, State, byUse, parked, probation}
+use Rattle.rules.specs.Records.{Entry, State, byUse, emptyEntry, hintSource, noMtu, parked, probation, someMtu, verifiedSource}
 use Rattle.rules.specs.Rows.{atPlace, find, inMain, rowAt, withOnlyRows, withRows, zeroRows}
-use Rattle.rules.specs.Entries.{dropMtu, expired, markHint, markVerified, newEntry, refresh, setMtu, update}
+use Rattle.rules.specs.Entries.{addTimes, dropMtu, expired, markHint, markVerified, newEntry, refresh, setMtu, update, verifiedTtl}
 use Rattle.rules.specs.Room.{Room, fileNew, makeProbationRoom, makeRoom, takeOut}
 use Rattle.rules.specs.Placement.{PlaceResult, grow, insertVerified, newInProbation, newWithoutRoom, placeHeld, placeHint, placeMain, placeNew, placeProbation, placeResult, promote, rejected, staysVerified, verifiedEntry, withoutKey}
 use Rattle.rules.specs.Lookups.{clearPathMtu, demoted, rewrite, sweep, touched, withEntry}
 use Rattle.rules.specs.Calls.{Call, Clear, ClearPathMtu, Demote, Get, GetAndTouch, Insert, InsertFunded, InsertStated, InsertVerified, InsertVerifiedWithPathMtu, InsertWithTtl, InvalidateOtherRoots, InvalidateViaNode, NextExpiry, PurgeExpired, Remove, Stats, drawsStamps, pathGiven}
 use Rattle.rules.specs.Refusals.{Step, badPath, fresh, gives, hinted, perform, seqSpent, step, sweeps, verifies}
-use Rattle.rules.specs.Lent.{AddrFits, Bytes, CoordEntryFits, PathFits, Small, Typed, WriteFits}
+use Rattle.rules.specs.Lent.{AddrFits, Bytes, PathFits, Small, Typed, WriteFits}
 use Rattle.rules.proofs.Addresses.{contradiction}
-use Rattle.rules.proofs.RowLists.{by-cond, by-maybe, every-append, every-at, every-copy, every-take, find-at}
+use Rattle.rules.proofs.RowLists.{by-cond, by-maybe, every-at, find-at}
 use Rattle.rules.proofs.SoundTest.{Sound, sound-is}
 use Rattle.rules.proofs.MemoryLaws.{bytes-append}
-use Rattle.rules.proofs.ViewLaws.{EntryFits, Fits}
+use Rattle.rules.proofs.EntryLaws.{EntryFits, empty-fits, mtu-fits, path-fits, source-fits, times-fit}
+use Rattle.rules.proofs.ViewLaws.{Fits}
 use Rattle.rules.proofs.Others.{PathOk, takeOut-seq}
 use Rattle.rules.proofs.Refused.{Allowed, by-step}
 use Rattle.rules.proofs.CallsKeep.{path-ok}
 use Rattle.rules.proofs.SoundKept.{perform-keeps}
-use Rattle.rules.proofs.Sizes.{Lasting, Sized, change-sized, copies-bytes, file-sized, fits-sized, keep-sized, only-sized, probation-sized, refile-sized, room-sized, sized-fits, small1, small8, small8-less, sum-small, takeOut-sized, zero-bytes, zero-length}
+use Rattle.rules.proofs.Sizes.{Lasting, Sized, change-sized, file-sized, fits-sized, keep-sized, only-sized, probation-sized, refile-sized, room-sized, sized-fits, small8, small8-less, sum-small, takeOut-sized, zero-bytes, zero-length}
 use Rattle.rules.specs.Layout.{headSize, rowSize}
 
--- ---- what is given fits
-
-pub zero-fits : CoordEntryFits zeroEntry
-unfolding zeroEntry
-zero-fits = record { address = record { size = refl; bytes = copies-bytes 16 }; sequence = omega arith; timestamp = omega arith }
-
-pub zeros-fit : (n : ℕ) → Every CoordEntryFits (replicate n zeroEntry)
-zeros-fit n = every-copy CoordEntryFits n zero-fits
-
--- what is written fits where what is given does
-pub written-fits : (p : Path) → PathFits p → p .len ≤ pathPlaces → PathFits (asWritten p)
-unfolding asWritten elements
-written-fits p f h =
-    let n = f .places in
-    record {
-      places = rw (length-append, length-take-le (p .len) (p .entries) (omega arith), length-replicate) (omega arith);
-      each = every-append CoordEntryFits (take (p .len) (p .entries)) (replicate (pathPlaces - p .len) zeroEntry) (every-take CoordEntryFits (p .len) (p .entries) (f .each)) (zeros-fit (pathPlaces - p .len));
-    }
+-- ---- entries as calls make and change them
 
 zero8 : Small 8 0
 zero8 = small8 0 (omega arith)
 
-new-fits : (p : Path) (now ttl : ℕ) → PathOk p → PathFits p → Small 8 now → EntryFits (newEntry p now ttl)
-unfolding newEntry asWritten
-new-fits p now ttl o f n = let t = written-fits p f (o .short) in record { len = small1 (p .len) (omega (arith, o .short)); entries = t .places; each = t .each; createdAt = n; lastUsed = n; expiresAt = sum-small now ttl; mtuMark = small1 0 (omega arith); mtu = omega arith; source = small1 1 (omega arith); verifiedUntil = zero8 }
-
 update-fits : (p : Path) (now ttl : ℕ) (e : Entry) → PathOk p → PathFits p → Small 8 now → EntryFits e → EntryFits (update p now ttl e)
-unfolding update asWritten
-update-fits p now ttl e o f n h = let t = written-fits p f (o .short) in record { len = small1 (p .len) (omega (arith, o .short)); entries = t .places; each = t .each; createdAt = h .createdAt; lastUsed = n; expiresAt = sum-small now ttl; mtuMark = h .mtuMark; mtu = h .mtu; source = small1 1 (omega arith); verifiedUntil = zero8 }
+unfolding update
+update-fits p now ttl e o f n h = source-fits hintSource 0 _ (omega arith) zero8 (times-fit now (addTimes now ttl) _ n (sum-small now ttl) (path-fits p e f (o .short) h))
+
+new-fits : (p : Path) (now ttl : ℕ) → PathOk p → PathFits p → Small 8 now → EntryFits (newEntry p now ttl)
+unfolding newEntry
+new-fits p now ttl o f n = update-fits p now ttl (emptyEntry now) o f n (empty-fits now n)
 
 refresh-fits : (now ttl : ℕ) (e : Entry) → Small 8 now → EntryFits e → EntryFits (refresh now ttl e)
 unfolding refresh
-refresh-fits now ttl e n h = record { len = h .len; entries = h .entries; each = h .each; createdAt = h .createdAt; lastUsed = n; expiresAt = sum-small now ttl; mtuMark = h .mtuMark; mtu = h .mtu; source = h .source; verifiedUntil = h .verifiedUntil }
+refresh-fits now ttl e n h = times-fit now (addTimes now ttl) e n (sum-small now ttl) h
 
 verified-fits : (now : ℕ) (e : Entry) → EntryFits e → EntryFits (markVerified now e)
 unfolding markVerified
-verified-fits now e h = record { len = h .len; entries = h .entries; each = h .each; createdAt = h .createdAt; lastUsed = h .lastUsed; expiresAt = h .expiresAt; mtuMark = h .mtuMark; mtu = h .mtu; source = small1 0 (omega arith); verifiedUntil = sum-small now 300000 }
+verified-fits now e h = source-fits verifiedSource (addTimes now verifiedTtl) e (omega arith) (sum-small now verifiedTtl) h
 
 hint-fits : (e : Entry) → EntryFits e → EntryFits (markHint e)
 unfolding markHint
-hint-fits e h = record { len = h .len; entries = h .entries; each = h .each; createdAt = h .createdAt; lastUsed = h .lastUsed; expiresAt = h .expiresAt; mtuMark = h .mtuMark; mtu = h .mtu; source = small1 1 (omega arith); verifiedUntil = zero8 }
+hint-fits e h = source-fits hintSource 0 e (omega arith) zero8 h
 
 setMtu-fits : (m : ℕ) (e : Entry) → Small 2 m → EntryFits e → EntryFits (setMtu m e)
 unfolding setMtu
-setMtu-fits m e s h = record { len = h .len; entries = h .entries; each = h .each; createdAt = h .createdAt; lastUsed = h .lastUsed; expiresAt = h .expiresAt; mtuMark = small1 1 (omega arith); mtu = s; source = h .source; verifiedUntil = h .verifiedUntil }
+setMtu-fits m e s h = mtu-fits someMtu m e (omega arith) s h
 
 dropMtu-fits : (e : Entry) → EntryFits e → EntryFits (dropMtu e)
 unfolding dropMtu
-dropMtu-fits e h = record { len = h .len; entries = h .entries; each = h .each; createdAt = h .createdAt; lastUsed = h .lastUsed; expiresAt = h .expiresAt; mtuMark = small1 0 (omega arith); mtu = omega arith; source = h .source; verifiedUntil = h .verifiedUntil }
+dropMtu-fits e h = mtu-fits noMtu 0 e (omega arith) (omega arith) h
 
 held-fits : (B i : ℕ) (s : State) → Sized B s → i < length (s .rows) → EntryFits (rowAt i (s .rows) .entry)
 held-fits B i s h l = every-at Lasting i (s .rows) l (h .lasting) .entry

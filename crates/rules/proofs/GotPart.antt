@@ -25,7 +25,8 @@ use Rattle.rules.specs.Lent.{Bytes, Typed, call, foundPart, gotPart, len
 use Rattle.rules.proofs.Addresses.{contradiction, same-ne}
 use Rattle.rules.proofs.RowLists.{by-cond, by-maybe, cores, every-at, find-at, rising-unique, row-changed}
 use Rattle.rules.proofs.SoundTest.{RowOk, Sound, sound-is}
-use Rattle.rules.proofs.MemoryLaws.{bytes-cut, bytes-drop, bytes-take, cut-front, elem-memory, entries-cons, held-fits, length-cut, no-entries}
+use Rattle.rules.proofs.MemoryLaws.{bytes-cut, bytes-drop, bytes-take, cut-front, elem-memory, entries-cons, length-cut, no-entries}
+use Rattle.rules.proofs.ViewLaws.{held-fits}
 use Rattle.rules.proofs.Others.{takeOut-gone}
 use Rattle.rules.proofs.Refused.{allowed, refused-only-one}
 use Rattle.rules.proofs.SoundKept.{step-sound}

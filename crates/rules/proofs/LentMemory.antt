@@ -19,8 +19,8 @@ use Rattle.rules.specs.Memory.{capacity, heldRows, memory, view, viewRow
 use Rattle.rules.specs.Lent.{Bytes, Small, Typed, TypedRequest, call, calls, lent}
 use Rattle.rules.proofs.Addresses.{contradiction}
 use Rattle.rules.proofs.SoundTest.{sound-is}
-use Rattle.rules.proofs.MemoryLaws.{bytes-drop, view-memory}
-use Rattle.rules.proofs.ViewLaws.{Fits, memory-length, memory-view}
+use Rattle.rules.proofs.MemoryLaws.{bytes-drop}
+use Rattle.rules.proofs.ViewLaws.{Fits, memory-length, memory-view, view-memory}
 use Rattle.rules.proofs.Refused.{by-serve, by-step, done-perform, fresh-allowed, given-exactly}
 use Rattle.rules.proofs.SoundKept.{fresh-sound, step-sound}
 use Rattle.rules.proofs.ThirdDemand.{third-demand}

@@ -6,6 +6,7 @@ pub mod Walks
 pub mod Loops
 pub mod Moves
 pub mod MemoryLaws
+pub mod EntryLaws
 pub mod ViewLaws
 pub mod Others
 pub mod Refused

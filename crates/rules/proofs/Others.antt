@@ -225,7 +225,7 @@ unfolding pathWeight
 weight-ok p h = omega (arith, h .short)
 
 new-ok : (p : Path) (now ttl w : ℕ) → PathOk p → pathWeight p ≤ w → w ≤ weightLimit → EntryOk (newEntry p now ttl) w
-unfolding newEntry asWritten pathWeight
+unfolding newEntry update asWritten pathWeight
 new-ok p now ttl w h a b = record { source = omega arith; mtuMark = omega arith; long = h .long; short = h .short; heavy = a; light = b; hinted = λ q. refl }
 
 update-ok : (p : Path) (now ttl w : ℕ) (e : Entry) → e .mtuMark ≤ 1 → PathOk p → pathWeight p ≤ w → w ≤ weightLimit → EntryOk (update p now ttl e) w
@@ -233,7 +233,7 @@ unfolding update asWritten pathWeight
 update-ok p now ttl w e m h a b = record { source = omega arith; mtuMark = m; long = h .long; short = h .short; heavy = a; light = b; hinted = λ q. refl }
 
 new-hint : (p : Path) (now ttl : ℕ) → fromVerified (newEntry p now ttl) ≡ false
-unfolding newEntry
+unfolding newEntry update
 new-hint p now ttl = refl
 
 update-hint : (p : Path) (now ttl : ℕ) (e : Entry) → fromVerified (update p now ttl e) ≡ false

@@ -16,7 +16,7 @@ use Rattle.rules.specs.Memory.{capacity, cut, heldRows, leNumber, memory
 use Rattle.rules.specs.Lent.{Bytes, call, lent}
 use Rattle.rules.specs.Answers.{refusalOf}
 use Rattle.rules.proofs.SoundTest.{Sound, sound-is}
-use Rattle.rules.proofs.MemoryLaws.{held-fits, view-memory}
+use Rattle.rules.proofs.ViewLaws.{held-fits, view-memory}
 use Rattle.rules.proofs.Refused.{allowed, done-perform, fresh-refusal, refusal-number, refused-one}
 use Rattle.rules.proofs.SoundKept.{fresh-sound, perform-keeps}
 use Rattle.rules.proofs.Sizes.{few-rows}

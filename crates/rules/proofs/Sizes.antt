@@ -17,7 +17,8 @@ use Rattle.rules.specs.Lent.{AddrFits, Bytes, Small}
 use Rattle.rules.proofs.RowLists.{by-cond, by-maybe, every-both, every-change, every-copy, every-insert, every-keep, every-map, every-mapped, every-without, length-change}
 use Rattle.rules.proofs.SoundTest.{RowOk, Sound}
 use Rattle.rules.proofs.MemoryLaws.{bytes-append, bytes-drop}
-use Rattle.rules.proofs.ViewLaws.{EntryFits, Fits, RowFits}
+use Rattle.rules.proofs.EntryLaws.{EntryFits}
+use Rattle.rules.proofs.ViewLaws.{Fits, RowFits}
 use Rattle.rules.proofs.SoundKept.{both-segments}
 use Rattle.rules.specs.Layout.{headSize, rowSize}
 

@@ -1,133 +1,49 @@
--- A state whose numbers and lengths fit is the view of its memory.
+-- A state whose numbers and lengths fit is the view of its memory, and a memory is the memory of its view.
 use mathlib.Core.Path.{_≡_, refl, sym, ap, _∙_}
-use Prim.Native.Nat.{ℕ, zero, suc, _+_, _*_, _-_, _/_, min}
+use Prim.Native.Nat.{ℕ, zero, suc, _+_, _*_, _-_, _/_, _≤_, min}
 use native.Mathlib.Omega.{arith}
 use mathlib.Core.List.{List, [], _∷_, _++_, append-assoc}
-use lib.ListN.{length, take, drop, length-append}
-use lib.Seq.{take-at, drop-at, drop-drop, take-all}
-use Rattle.types.specs.declared.coord.CoordEntry.{CoordEntry}
+use lib.ListN.{length, take, drop, length-append, length-drop, take-append-drop}
+use lib.Seq.{drop-at, drop-drop, length-take-le, take-at}
 use Rattle.rules.specs.Cases.{Every}
-use Rattle.rules.specs.Records.{Entry, Row, State}
-use Rattle.rules.specs.Memory.{addrBytes, capacity, coordEntriesBytes, coordEntriesOf, coordEntryOf, cut, entryBytes, entryOf, heldRows, leBytes, leNumber, memory, pathOf, rowBytes, rowOf, rowsBytes, rowsOf, view, viewRows}
-use Rattle.rules.specs.Lent.{AddrFits, Bytes, CoordEntryFits, Small}
-use Rattle.rules.specs.Layout.{coordEntrySize, createdAtOffset, entryOffset, entrySize, expiresAtOffset, headSize, lastUsedOffset, mtuMarkOffset, mtuOffset, placeOffset, placesSize, rowCountOffset, rowSize, sourceOffset, stampFirstOffset, stampSeqOffset, verifiedUntilOffset, weightOffset}
-use Rattle.types.specs.Paths.{pathPlaces}
-
-pub num-le : (n v : ℕ) → Small n v → leNumber (leBytes n v) ≡ v
-unfolding leNumber leBytes
-num-le zero v h = sym h
-num-le (suc n) v h = rw (num-le n (v / 256) h) (omega arith)
-
-pub length-le : (n v : ℕ) → length (leBytes n v) ≡ n
-unfolding leBytes
-length-le zero v = refl
-length-le (suc n) v = ap suc (length-le n (v / 256))
-
-pub record EntryFits (e : Entry) : Type 0 where
-  pub len : Small 1 (e .path .len)
-  pub entries : length (e .path .entries) ≡ pathPlaces
-  pub each : Every CoordEntryFits (e .path .entries)
-  pub createdAt : Small 8 (e .createdAt)
-  pub lastUsed : Small 8 (e .lastUsed)
-  pub expiresAt : Small 8 (e .expiresAt)
-  pub mtuMark : Small 1 (e .mtuMark)
-  pub mtu : Small 2 (e .mtu)
-  pub source : Small 1 (e .source)
-  pub verifiedUntil : Small 8 (e .verifiedUntil)
+use Rattle.rules.specs.Records.{Row, State}
+use Rattle.rules.specs.Memory.{capacity, cut, entryBytes, heldRows, leBytes, leNumber, memory, rowBytes, rowOf, rowsBytes, rowsOf, stampBytes, view, viewRows}
+use Rattle.rules.specs.Lent.{AddrFits, Bytes, Small}
+use Rattle.rules.specs.Layout.{addressSize, byteSize, defaultTtlOffset, entryOffset, entrySize, headSize, keyOffset, maxEntriesOffset, numberSize, placeOffset, rowCountOffset, rowSize, seqOffset, stampFirstOffset, stampSeqOffset, storedWeightOffset, weightOffset}
+use Rattle.rules.proofs.MemoryLaws.{bytes-cut, bytes-drop, bytes-take, field, last-kept, last-number, length-cut, length-le, number, number-kept, part}
+use Rattle.rules.proofs.EntryLaws.{EntryFits, entry-length, entry-memory, entry-view}
 
 pub record RowFits (r : Row) : Type 0 where
   pub key : AddrFits (r .key)
   pub entry : EntryFits (r .entry)
-  pub place : Small 1 (r .place)
-  pub stampFirst : Small 8 (r .stampFirst)
-  pub stampSeq : Small 8 (r .stampSeq)
-  pub weight : Small 1 (r .weight)
+  pub place : Small byteSize (r .place)
+  pub stampFirst : Small numberSize (r .stampFirst)
+  pub stampSeq : Small numberSize (r .stampSeq)
+  pub weight : Small byteSize (r .weight)
 
 -- L bytes in all
 pub record Fits (L : ℕ) (s : State) : Type 0 where
-  pub maxEntries : Small 8 (s .maxEntries)
-  pub defaultTtl : Small 8 (s .defaultTtl)
-  pub seq : Small 8 (s .seq)
-  pub storedWeight : Small 8 (s .storedWeight)
-  pub rowCount : Small 8 (s .rowCount)
+  pub maxEntries : Small numberSize (s .maxEntries)
+  pub defaultTtl : Small numberSize (s .defaultTtl)
+  pub seq : Small numberSize (s .seq)
+  pub storedWeight : Small numberSize (s .storedWeight)
+  pub rowCount : Small numberSize (s .rowCount)
   pub counted : s .rowCount ≡ length (s .rows)
   pub rows : Every RowFits (s .rows)
   pub rest : Bytes (s .rest)
   pub size : headSize + length (s .rows) * rowSize + length (s .rest) ≡ L
 
--- a field at k: f, and t behind it
-record At (k w : ℕ) (c f t : List ℕ) : Type 0 where
-  is : cut k w c ≡ f
-  on : drop (k + w) c ≡ t
-
-field : (k w : ℕ) (c f t : List ℕ) → drop k c ≡ f ++ t → length f ≡ w → At k w c f t
-field k w c f t e l = record { is = ap (take w) e ∙ take-at f t w l; on = sym (drop-drop w k c) ∙ ap (drop w) e ∙ drop-at f t w l }
-
-record Num (k w v : ℕ) (c t : List ℕ) : Type 0 where
-  is : leNumber (cut k w c) ≡ v
-  on : drop (k + w) c ≡ t
-
-number : (k w v : ℕ) (c t : List ℕ) → drop k c ≡ leBytes w v ++ t → Small w v → Num k w v c t
-number k w v c t e s = let f = field k w c (leBytes w v) t e (length-le w v) in record { is = ap leNumber (f .is) ∙ num-le w v s; on = f .on }
-
-last-number : (k w v : ℕ) (c : List ℕ) → drop k c ≡ leBytes w v → Small w v → leNumber (cut k w c) ≡ v
-last-number k w v c e s = ap leNumber (ap (take w) e ∙ take-all w (leBytes w v) (omega (arith, length-le w v))) ∙ num-le w v s
-
-element-view : (x : CoordEntry) (c : List ℕ) → c ≡ addrBytes (x .«node_addr») ++ (leBytes 8 (x .sequence) ++ leBytes 8 (x .timestamp)) → CoordEntryFits x → coordEntryOf c ≡ x
-unfolding coordEntryOf
-element-view x c e h =
-    let a = field 0 16 c (x .«node_addr» .0) (leBytes 8 (x .sequence) ++ leBytes 8 (x .timestamp)) e (h .address .size) in
-    let b = number 16 8 (x .sequence) c (leBytes 8 (x .timestamp)) (a .on) (h .sequence) in
-    let d = last-number 24 8 (x .timestamp) c (b .on) (h .timestamp) in
-    let z : coordEntryOf c ≡ record { «node_addr» = record { 0 = x .«node_addr» .0 }; sequence = x .sequence; timestamp = x .timestamp } = cc (a .is, b .is, d) in z
-
-element-length : (x : CoordEntry) → CoordEntryFits x → length (addrBytes (x .«node_addr») ++ (leBytes 8 (x .sequence) ++ leBytes 8 (x .timestamp))) ≡ coordEntrySize
-element-length x h = simp (length-append, length-le) (omega (arith, h .address .size))
-
-pub elements-length : (xs : List CoordEntry) → Every CoordEntryFits xs → length (coordEntriesBytes xs) ≡ length xs * coordEntrySize
-unfolding coordEntriesBytes
-elements-length [] h = refl
-elements-length (x ∷ xs) h = simp (length-append, length-le) (omega (arith, h .0 .address .size, elements-length xs (h .1)))
-
-pub elements-view : (n : ℕ) (xs : List CoordEntry) (t : List ℕ) → length xs ≡ n → Every CoordEntryFits xs → coordEntriesOf n (coordEntriesBytes xs ++ t) ≡ xs
-unfolding coordEntriesOf coordEntriesBytes
-elements-view zero [] t l h = refl
-elements-view zero (x ∷ xs) t l h = absurd (let z : ⊥ = omega arith in z)
-elements-view (suc n) [] t l h = absurd (let z : ⊥ = omega arith in z)
-elements-view (suc n) (x ∷ xs) t l h =
-    let c = addrBytes (x .«node_addr») ++ (leBytes 8 (x .sequence) ++ leBytes 8 (x .timestamp)) in
-    let e : (addrBytes (x .«node_addr») ++ (leBytes 8 (x .sequence) ++ (leBytes 8 (x .timestamp) ++ coordEntriesBytes xs))) ++ t ≡ c ++ (coordEntriesBytes xs ++ t) = simp append-assoc in
-    let k = element-length x (h .0) in
-    rw (e, take-at c (coordEntriesBytes xs ++ t) coordEntrySize k, drop-at c (coordEntriesBytes xs ++ t) coordEntrySize k) (cc (element-view x c refl (h .0), elements-view n xs t (omega arith) (h .1)))
-
-entry-view : (e : Entry) (c : List ℕ) → c ≡ entryBytes e → EntryFits e → entryOf c ≡ e
-unfolding entryOf pathOf entryBytes
-entry-view e c q h =
-    let f0 = number 0 1 (e .path .len) c _ q (h .len) in
-    let f1 = field 1 placesSize c (coordEntriesBytes (e .path .entries)) _ (f0 .on) (elements-length (e .path .entries) (h .each) ∙ ap (λ (n : ℕ). n * coordEntrySize) (h .entries)) in
-    let ps : coordEntriesOf pathPlaces (drop 1 c) ≡ e .path .entries = ap (coordEntriesOf pathPlaces) (f0 .on) ∙ elements-view pathPlaces (e .path .entries) _ (h .entries) (h .each) in
-    let f2 = number createdAtOffset 8 (e .createdAt) c _ (f1 .on) (h .createdAt) in
-    let f3 = number lastUsedOffset 8 (e .lastUsed) c _ (f2 .on) (h .lastUsed) in
-    let f4 = number expiresAtOffset 8 (e .expiresAt) c _ (f3 .on) (h .expiresAt) in
-    let f5 = number mtuMarkOffset 1 (e .mtuMark) c _ (f4 .on) (h .mtuMark) in
-    let f6 = number mtuOffset 2 (e .mtu) c _ (f5 .on) (h .mtu) in
-    let f7 = number sourceOffset 1 (e .source) c _ (f6 .on) (h .source) in
-    let f8 = last-number verifiedUntilOffset 8 (e .verifiedUntil) c (f7 .on) (h .verifiedUntil) in
-    let z : entryOf c ≡ record { path = record { len = e .path .len; entries = e .path .entries }; createdAt = e .createdAt; lastUsed = e .lastUsed; expiresAt = e .expiresAt; mtuMark = e .mtuMark; mtu = e .mtu; source = e .source; verifiedUntil = e .verifiedUntil } = cc (f0 .is, ps, f2 .is, f3 .is, f4 .is, f5 .is, f6 .is, f7 .is, f8) in z
-
-entry-length : (e : Entry) → EntryFits e → length (entryBytes e) ≡ entrySize
-unfolding entryBytes
-entry-length e h = simp (length-append, length-le) (omega (arith, elements-length (e .path .entries) (h .each), h .entries))
+-- ---- what is written is read
 
 row-read : (r : Row) (c : List ℕ) → c ≡ rowBytes r → RowFits r → rowOf c ≡ r
 unfolding rowOf rowBytes
 row-read r c q h =
-    let f0 = field 0 16 c (r .key .0) _ q (h .key .size) in
+    let f0 = field keyOffset addressSize c (r .key .0) _ q (h .key .size) in
     let f1 = field entryOffset entrySize c (entryBytes (r .entry)) _ (f0 .on) (entry-length (r .entry) (h .entry)) in
-    let f2 = number placeOffset 1 (r .place) c _ (f1 .on) (h .place) in
-    let f3 = number stampFirstOffset 8 (r .stampFirst) c _ (f2 .on) (h .stampFirst) in
-    let f4 = number stampSeqOffset 8 (r .stampSeq) c _ (f3 .on) (h .stampSeq) in
-    let f5 = last-number weightOffset 1 (r .weight) c (f4 .on) (h .weight) in
+    let f2 = number placeOffset byteSize (r .place) c _ (f1 .on) (h .place) in
+    let f3 = number stampFirstOffset numberSize (r .stampFirst) c _ (f2 .on) (h .stampFirst) in
+    let f4 = number stampSeqOffset numberSize (r .stampSeq) c _ (f3 .on) (h .stampSeq) in
+    let f5 = last-number weightOffset byteSize (r .weight) c (f4 .on) (h .weight) in
     let z : rowOf c ≡ record { key = record { 0 = r .key .0 }; entry = r .entry; place = r .place; stampFirst = r .stampFirst; stampSeq = r .stampSeq; weight = r .weight } = cc (f0 .is, entry-view (r .entry) (cut entryOffset entrySize c) (f1 .is) (h .entry), f2 .is, f3 .is, f4 .is, f5) in z
 
 pub row-view : (r : Row) → RowFits r → rowOf (rowBytes r) ≡ r
@@ -155,7 +71,7 @@ pub memory-length : (L : ℕ) (s : State) → Fits L s → length (memory s) ≡
 unfolding memory
 memory-length L s h = simp (length-append, length-le) (omega (arith, rows-length (s .rows) (h .rows), h .size))
 
-whole : (s : State) → memory s ≡ leBytes 8 (s .maxEntries) ++ (leBytes 8 (s .defaultTtl) ++ (leBytes 8 (s .seq) ++ (leBytes 8 (s .storedWeight) ++ (leBytes 8 (s .rowCount) ++ (rowsBytes (s .rows) ++ s .rest)))))
+whole : (s : State) → memory s ≡ leBytes numberSize (s .maxEntries) ++ (leBytes numberSize (s .defaultTtl) ++ (leBytes numberSize (s .seq) ++ (leBytes numberSize (s .storedWeight) ++ (leBytes numberSize (s .rowCount) ++ (rowsBytes (s .rows) ++ s .rest)))))
 unfolding memory
 whole s = refl
 
@@ -169,12 +85,43 @@ memory-view L s h =
     let c = memory s in
     let n = length (s .rows) in
     let z = memory-length L s h in
-    let f0 = number 0 8 (s .maxEntries) c _ (whole s) (h .maxEntries) in
-    let f1 = number 8 8 (s .defaultTtl) c _ (f0 .on) (h .defaultTtl) in
-    let f2 = number 16 8 (s .seq) c _ (f1 .on) (h .seq) in
-    let f3 = number 24 8 (s .storedWeight) c _ (f2 .on) (h .storedWeight) in
-    let f4 = number rowCountOffset 8 (s .rowCount) c _ (f3 .on) (h .rowCount) in
-    let m : min (leNumber (cut rowCountOffset 8 c)) ((length c - headSize) / rowSize) ≡ n = rw (f4 .is) (omega (arith, h .counted, h .size, z)) in
+    let f0 = number maxEntriesOffset numberSize (s .maxEntries) c _ (whole s) (h .maxEntries) in
+    let f1 = number defaultTtlOffset numberSize (s .defaultTtl) c _ (f0 .on) (h .defaultTtl) in
+    let f2 = number seqOffset numberSize (s .seq) c _ (f1 .on) (h .seq) in
+    let f3 = number storedWeightOffset numberSize (s .storedWeight) c _ (f2 .on) (h .storedWeight) in
+    let f4 = number rowCountOffset numberSize (s .rowCount) c _ (f3 .on) (h .rowCount) in
+    let m : min (leNumber (cut rowCountOffset numberSize c)) ((length c - headSize) / rowSize) ≡ n = rw (f4 .is) (omega (arith, h .counted, h .size, z)) in
     let rs : rowsOf n (drop headSize c) ≡ s .rows = ap (rowsOf n) (f4 .on) ∙ rows-view n (s .rows) (s .rest) refl (h .rows) in
     let re : drop (headSize + n * rowSize) c ≡ s .rest = sym (drop-drop (n * rowSize) headSize c) ∙ ap (drop (n * rowSize)) (f4 .on) ∙ drop-at (rowsBytes (s .rows)) (s .rest) (n * rowSize) (rows-length (s .rows) (h .rows)) in
     rw m (same-state (f0 .is) (f1 .is) (f2 .is) (f3 .is) (f4 .is) rs re)
+
+-- ---- what is read is written back
+
+row-memory : (c : List ℕ) → Bytes c → length c ≡ rowSize → rowBytes (rowOf c) ≡ c
+unfolding rowBytes rowOf
+row-memory c b h =
+    part c b keyOffset addressSize _ (ap (λ (u : List ℕ). u ++ stampBytes (rowOf c)) (entry-memory (cut entryOffset entrySize c) (bytes-cut entryOffset entrySize c b) (length-cut entryOffset entrySize c (omega arith)))
+    ∙ part c b entryOffset entrySize _ (number-kept c b placeOffset byteSize _ (omega arith) (number-kept c b stampFirstOffset numberSize _ (omega arith) (number-kept c b stampSeqOffset numberSize _ (omega arith) (last-kept c b weightOffset byteSize h)))))
+
+rows-memory : (n : ℕ) (l : List ℕ) → n * rowSize ≤ length l → Bytes l → rowsBytes (rowsOf n l) ++ drop (n * rowSize) l ≡ l
+unfolding rowsOf rowsBytes
+rows-memory zero l h b = refl
+rows-memory (suc n) l h b =
+    let e : suc n * rowSize ≡ rowSize + n * rowSize = omega arith in
+    let t : length (take rowSize l) ≡ rowSize = length-take-le rowSize l (omega arith) in
+    let d : n * rowSize ≤ length (drop rowSize l) = rw length-drop (omega arith) in
+    rw (e, row-memory (take rowSize l) (bytes-take rowSize l b) t, append-assoc, ← drop-drop (n * rowSize) rowSize l, rows-memory n (drop rowSize l) d (bytes-drop rowSize l b)) (take-append-drop rowSize l)
+
+pub held-fits : (l : List ℕ) → headSize ≤ length l → headSize + heldRows l * rowSize ≤ length l
+unfolding heldRows capacity
+held-fits l h = omega arith
+
+-- THE STATE SAYS ALL THAT THE MEMORY HOLDS, where the head fits
+pub view-memory : (l : List ℕ) → headSize ≤ length l → Bytes l → memory (view l) ≡ l
+unfolding view viewRows memory
+view-memory l h b =
+    let n = heldRows l in
+    let f = held-fits l h in
+    let d : n * rowSize ≤ length (drop headSize l) = rw length-drop (omega arith) in
+    let r : rowsBytes (rowsOf n (drop headSize l)) ++ drop (headSize + n * rowSize) l ≡ drop headSize l = rw (← drop-drop (n * rowSize) headSize l) (rows-memory n (drop headSize l) d (bytes-drop headSize l b)) in
+    number-kept l b maxEntriesOffset numberSize _ (omega arith) (number-kept l b defaultTtlOffset numberSize _ (omega arith) (number-kept l b seqOffset numberSize _ (omega arith) (number-kept l b storedWeightOffset numberSize _ (omega arith) (number-kept l b rowCountOffset numberSize _ (omega arith) r))))

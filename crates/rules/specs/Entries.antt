@@ -3,8 +3,7 @@ use Prim.Native.Nat.{ℕ, _+_, min}
 use mathlib.Core.Bool.{Bool, _&&_}
 use lib.Dec.{ltb, leb}
 use Rattle.types.specs.declared.coord.Path.{Path}
-use Rattle.types.specs.Paths.{asWritten}
-use Rattle.rules.specs.Records.{Entry, verifiedSource, hintSource, noMtu, someMtu}
+use Rattle.rules.specs.Records.{Entry, emptyEntry, hintSource, noMtu, someMtu, verifiedSource, withMtu, withPath, withSource, withTimes}
 use Rattle.rules.specs.Sound.{fromVerified}
 
 -- 2^64 − 1
@@ -29,26 +28,26 @@ verified now e = fromVerified e && leb now (e .verifiedUntil)
 
 -- an update sets path, last_used (now), expires_at (now + ttl) and makes a hint; it keeps created_at and MTU
 unfoldable pub update : Path → ℕ → ℕ → Entry → Entry
-update p now ttl e = record { path = asWritten p; createdAt = e .createdAt; lastUsed = now; expiresAt = addTimes now ttl; mtuMark = e .mtuMark; mtu = e .mtu; source = hintSource; verifiedUntil = 0 }
+update p now ttl e = withSource hintSource 0 (withTimes now (addTimes now ttl) (withPath p e))
 
 -- a new entry is the same with created_at now and no MTU
 unfoldable pub newEntry : Path → ℕ → ℕ → Entry
-newEntry p now ttl = record { path = asWritten p; createdAt = now; lastUsed = now; expiresAt = addTimes now ttl; mtuMark = noMtu; mtu = 0; source = hintSource; verifiedUntil = 0 }
+newEntry p now ttl = update p now ttl (emptyEntry now)
 
 -- a refresh sets last_used and expires_at
 unfoldable pub refresh : ℕ → ℕ → Entry → Entry
-refresh now ttl e = record { path = e .path; createdAt = e .createdAt; lastUsed = now; expiresAt = addTimes now ttl; mtuMark = e .mtuMark; mtu = e .mtu; source = e .source; verifiedUntil = e .verifiedUntil }
+refresh now ttl e = withTimes now (addTimes now ttl) e
 
 -- marked Verified, with verified_until = now + 300,000
 unfoldable pub markVerified : ℕ → Entry → Entry
-markVerified now e = record { path = e .path; createdAt = e .createdAt; lastUsed = e .lastUsed; expiresAt = e .expiresAt; mtuMark = e .mtuMark; mtu = e .mtu; source = verifiedSource; verifiedUntil = addTimes now verifiedTtl }
+markVerified now e = withSource verifiedSource (addTimes now verifiedTtl) e
 
 -- made a hint
 unfoldable pub markHint : Entry → Entry
-markHint e = record { path = e .path; createdAt = e .createdAt; lastUsed = e .lastUsed; expiresAt = e .expiresAt; mtuMark = e .mtuMark; mtu = e .mtu; source = hintSource; verifiedUntil = 0 }
+markHint e = withSource hintSource 0 e
 
 unfoldable pub setMtu : ℕ → Entry → Entry
-setMtu m e = record { path = e .path; createdAt = e .createdAt; lastUsed = e .lastUsed; expiresAt = e .expiresAt; mtuMark = someMtu; mtu = m; source = e .source; verifiedUntil = e .verifiedUntil }
+setMtu m e = withMtu someMtu m e
 
 unfoldable pub dropMtu : Entry → Entry
-dropMtu e = record { path = e .path; createdAt = e .createdAt; lastUsed = e .lastUsed; expiresAt = e .expiresAt; mtuMark = noMtu; mtu = 0; source = e .source; verifiedUntil = e .verifiedUntil }
+dropMtu e = withMtu noMtu 0 e

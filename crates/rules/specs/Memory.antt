@@ -7,7 +7,7 @@ use Rattle.types.specs.declared.coord.CoordEntry.{CoordEntry}
 use Rattle.types.specs.declared.coord.Path.{Path}
 use Rattle.types.specs.Paths.{pathPlaces}
 use Rattle.rules.specs.Records.{Entry, Row, State}
-use Rattle.rules.specs.Layout.{addressSize, coordEntrySize, createdAtOffset, defaultTtlOffset, entryOffset, entrySize, expiresAtOffset, headSize, keyOffset, lastUsedOffset, lengthOffset, maxEntriesOffset, mtuMarkOffset, mtuOffset, placeOffset, placesOffset, rowCountOffset, rowSize, seqOffset, sequenceOffset, sourceOffset, stampFirstOffset, stampSeqOffset, storedWeightOffset, timestampOffset, verifiedUntilOffset, weightOffset}
+use Rattle.rules.specs.Layout.{addressSize, byteSize, coordEntrySize, createdAtOffset, defaultTtlOffset, entryOffset, entrySize, expiresAtOffset, headSize, keyOffset, lastUsedOffset, lengthOffset, maxEntriesOffset, mtuMarkOffset, mtuOffset, mtuSize, numberSize, placeOffset, placesOffset, rowCountOffset, rowSize, seqOffset, sequenceOffset, sourceOffset, stampFirstOffset, stampSeqOffset, storedWeightOffset, timestampOffset, verifiedUntilOffset, weightOffset}
 
 -- ---- memory as a state
 
@@ -21,7 +21,7 @@ leNumber [] = 0
 leNumber (x ∷ xs) = x + leNumber xs * 256
 
 unfoldable pub coordEntryOf : List ℕ → CoordEntry
-coordEntryOf c = record { «node_addr» = record { 0 = cut 0 addressSize c }; sequence = leNumber (cut sequenceOffset 8 c); timestamp = leNumber (cut timestampOffset 8 c) }
+coordEntryOf c = record { «node_addr» = record { 0 = cut 0 addressSize c }; sequence = leNumber (cut sequenceOffset numberSize c); timestamp = leNumber (cut timestampOffset numberSize c) }
 
 -- the first n elements of a list of bytes
 unfoldable pub coordEntriesOf : ℕ → List ℕ → List CoordEntry
@@ -30,19 +30,19 @@ coordEntriesOf (suc n) l = coordEntryOf (take coordEntrySize l) ∷ coordEntries
 
 -- all places, and the length
 unfoldable pub pathOf : List ℕ → Path
-pathOf c = record { len = leNumber (cut lengthOffset 1 c); entries = coordEntriesOf pathPlaces (drop placesOffset c) }
+pathOf c = record { len = leNumber (cut lengthOffset byteSize c); entries = coordEntriesOf pathPlaces (drop placesOffset c) }
 
 unfoldable pub entryOf : List ℕ → Entry
 entryOf c =
     record {
       path = pathOf c;
-      createdAt = leNumber (cut createdAtOffset 8 c);
-      lastUsed = leNumber (cut lastUsedOffset 8 c);
-      expiresAt = leNumber (cut expiresAtOffset 8 c);
-      mtuMark = leNumber (cut mtuMarkOffset 1 c);
-      mtu = leNumber (cut mtuOffset 2 c);
-      source = leNumber (cut sourceOffset 1 c);
-      verifiedUntil = leNumber (cut verifiedUntilOffset 8 c);
+      createdAt = leNumber (cut createdAtOffset numberSize c);
+      lastUsed = leNumber (cut lastUsedOffset numberSize c);
+      expiresAt = leNumber (cut expiresAtOffset numberSize c);
+      mtuMark = leNumber (cut mtuMarkOffset byteSize c);
+      mtu = leNumber (cut mtuOffset mtuSize c);
+      source = leNumber (cut sourceOffset byteSize c);
+      verifiedUntil = leNumber (cut verifiedUntilOffset numberSize c);
     }
 
 unfoldable pub rowOf : List ℕ → Row
@@ -50,10 +50,10 @@ rowOf c =
     record {
       key = record { 0 = cut keyOffset addressSize c };
       entry = entryOf (cut entryOffset entrySize c);
-      place = leNumber (cut placeOffset 1 c);
-      stampFirst = leNumber (cut stampFirstOffset 8 c);
-      stampSeq = leNumber (cut stampSeqOffset 8 c);
-      weight = leNumber (cut weightOffset 1 c);
+      place = leNumber (cut placeOffset byteSize c);
+      stampFirst = leNumber (cut stampFirstOffset numberSize c);
+      stampSeq = leNumber (cut stampSeqOffset numberSize c);
+      weight = leNumber (cut weightOffset byteSize c);
     }
 
 -- the first n rows of a list of bytes
@@ -67,17 +67,17 @@ capacity l = (length l - headSize) / rowSize
 
 -- the rows that the head counts, as far as they fit
 unfoldable pub heldRows : List ℕ → ℕ
-heldRows l = min (leNumber (cut rowCountOffset 8 l)) (capacity l)
+heldRows l = min (leNumber (cut rowCountOffset numberSize l)) (capacity l)
 
 -- the head, the first n rows, and what is past them
 unfoldable pub viewRows : ℕ → List ℕ → State
 viewRows n l =
     record {
-      maxEntries = leNumber (cut maxEntriesOffset 8 l);
-      defaultTtl = leNumber (cut defaultTtlOffset 8 l);
-      seq = leNumber (cut seqOffset 8 l);
-      storedWeight = leNumber (cut storedWeightOffset 8 l);
-      rowCount = leNumber (cut rowCountOffset 8 l);
+      maxEntries = leNumber (cut maxEntriesOffset numberSize l);
+      defaultTtl = leNumber (cut defaultTtlOffset numberSize l);
+      seq = leNumber (cut seqOffset numberSize l);
+      storedWeight = leNumber (cut storedWeightOffset numberSize l);
+      rowCount = leNumber (cut rowCountOffset numberSize l);
       rows = rowsOf n (drop headSize l);
       rest = drop (headSize + n * rowSize) l;
     }
@@ -97,14 +97,38 @@ addrBytes a = a .0
 
 unfoldable pub coordEntriesBytes : List CoordEntry → List ℕ
 coordEntriesBytes [] = []
-coordEntriesBytes (x ∷ xs) = addrBytes (x .«node_addr») ++ (leBytes 8 (x .sequence) ++ (leBytes 8 (x .timestamp) ++ coordEntriesBytes xs))
+coordEntriesBytes (x ∷ xs) = addrBytes (x .«node_addr») ++ (leBytes numberSize (x .sequence) ++ (leBytes numberSize (x .timestamp) ++ coordEntriesBytes xs))
+
+-- the length and all places
+abbrev pub pathBytes : Path → List ℕ
+pathBytes p = leBytes byteSize (p .len) ++ coordEntriesBytes (p .entries)
+
+-- an entry's numbers in the groups in which they are written: last_used and expires_at; path_mtu; source and verified_until
+abbrev pub usedBytes : Entry → List ℕ
+usedBytes e = leBytes numberSize (e .lastUsed) ++ leBytes numberSize (e .expiresAt)
+
+abbrev pub mtuBytes : Entry → List ℕ
+mtuBytes e = leBytes byteSize (e .mtuMark) ++ leBytes mtuSize (e .mtu)
+
+abbrev pub sourceBytes : Entry → List ℕ
+sourceBytes e = leBytes byteSize (e .source) ++ leBytes numberSize (e .verifiedUntil)
+
+-- created_at before the first, and the other two together
+abbrev pub timesBytes : Entry → List ℕ
+timesBytes e = leBytes numberSize (e .createdAt) ++ usedBytes e
+
+abbrev pub marksBytes : Entry → List ℕ
+marksBytes e = mtuBytes e ++ sourceBytes e
 
 unfoldable pub entryBytes : Entry → List ℕ
-entryBytes e =
-    leBytes 1 (e .path .len) ++ (coordEntriesBytes (e .path .entries) ++ (leBytes 8 (e .createdAt) ++ (leBytes 8 (e .lastUsed) ++ (leBytes 8 (e .expiresAt) ++ (leBytes 1 (e .mtuMark) ++ (leBytes 2 (e .mtu) ++ (leBytes 1 (e .source) ++ leBytes 8 (e .verifiedUntil))))))))
+entryBytes e = pathBytes (e .path) ++ (timesBytes e ++ marksBytes e)
+
+-- place, stamp and weight
+abbrev pub stampBytes : Row → List ℕ
+stampBytes r = leBytes byteSize (r .place) ++ (leBytes numberSize (r .stampFirst) ++ (leBytes numberSize (r .stampSeq) ++ leBytes byteSize (r .weight)))
 
 unfoldable pub rowBytes : Row → List ℕ
-rowBytes r = addrBytes (r .key) ++ (entryBytes (r .entry) ++ (leBytes 1 (r .place) ++ (leBytes 8 (r .stampFirst) ++ (leBytes 8 (r .stampSeq) ++ leBytes 1 (r .weight)))))
+rowBytes r = addrBytes (r .key) ++ (entryBytes (r .entry) ++ stampBytes r)
 
 unfoldable pub rowsBytes : List Row → List ℕ
 rowsBytes [] = []
@@ -112,4 +136,4 @@ rowsBytes (r ∷ rs) = rowBytes r ++ rowsBytes rs
 
 -- the memory that a state stands for
 unfoldable pub memory : State → List ℕ
-memory s = leBytes 8 (s .maxEntries) ++ (leBytes 8 (s .defaultTtl) ++ (leBytes 8 (s .seq) ++ (leBytes 8 (s .storedWeight) ++ (leBytes 8 (s .rowCount) ++ (rowsBytes (s .rows) ++ s .rest)))))
+memory s = leBytes numberSize (s .maxEntries) ++ (leBytes numberSize (s .defaultTtl) ++ (leBytes numberSize (s .seq) ++ (leBytes numberSize (s .storedWeight) ++ (leBytes numberSize (s .rowCount) ++ (rowsBytes (s .rows) ++ s .rest)))))

@@ -6,7 +6,7 @@ use mathlib.Core.Bool.{Bool, cond}
 use lib.Dec.{eqb}
 use Rattle.types.specs.declared.node_addr.NodeAddr.{NodeAddr}
 use Rattle.types.specs.declared.coord.Path.{Path}
-use Rattle.types.specs.Paths.{addrsPerEntry, pathPlaces}
+use Rattle.types.specs.Paths.{addrsPerEntry, asWritten, emptyPath, pathPlaces}
 use Rattle.types.specs.declared.entry.PathMtu.{PathMtu}
 use Rattle.types.specs.declared.entry.PathMtu.the-variants.{Unknown, Known}
 use Rattle.types.specs.declared.entry.CacheEntry.{CacheEntry}
@@ -80,6 +80,32 @@ noMtu = 0
 
 abbrev pub someMtu : ℕ
 someMtu = 1
+
+-- ---- entries, made and with some fields changed: but for Memory.entryOf, no other definition lists all fields of an entry
+
+-- created at this time, and nothing more yet
+abbrev pub emptyEntry : ℕ → Entry
+emptyEntry now = record { path = emptyPath; createdAt = now; lastUsed = 0; expiresAt = 0; mtuMark = noMtu; mtu = 0; source = 0; verifiedUntil = 0 }
+
+-- a path, as a row holds it
+abbrev pub withPath : Path → Entry → Entry
+withPath p e = record { path = asWritten p; createdAt = e .createdAt; lastUsed = e .lastUsed; expiresAt = e .expiresAt; mtuMark = e .mtuMark; mtu = e .mtu; source = e .source; verifiedUntil = e .verifiedUntil }
+
+-- last_used and expires_at
+abbrev pub withTimes : ℕ → ℕ → Entry → Entry
+withTimes used expires e = record { path = e .path; createdAt = e .createdAt; lastUsed = used; expiresAt = expires; mtuMark = e .mtuMark; mtu = e .mtu; source = e .source; verifiedUntil = e .verifiedUntil }
+
+-- path_mtu
+abbrev pub withMtu : ℕ → ℕ → Entry → Entry
+withMtu mark m e = record { path = e .path; createdAt = e .createdAt; lastUsed = e .lastUsed; expiresAt = e .expiresAt; mtuMark = mark; mtu = m; source = e .source; verifiedUntil = e .verifiedUntil }
+
+-- source and verified_until
+abbrev pub withSource : ℕ → ℕ → Entry → Entry
+withSource source until e = record { path = e .path; createdAt = e .createdAt; lastUsed = e .lastUsed; expiresAt = e .expiresAt; mtuMark = e .mtuMark; mtu = e .mtu; source = source; verifiedUntil = until }
+
+-- every field by value
+abbrev pub wholeEntry : Path → ℕ → ℕ → ℕ → ℕ → ℕ → ℕ → ℕ → Entry
+wholeEntry p created used expires mark m source until = withSource source until (withMtu mark m (withTimes used expires (withPath p (emptyEntry created))))
 
 -- an entry as `remove` answers it; an MTU value under mark 0 is not shown
 unfoldable pub entryValue : Entry → CacheEntry

@@ -7,13 +7,12 @@ use lib.Dec.{ltb, eqb}
 use lib.ListN.{length, getD, replicate}
 use Rattle.types.specs.declared.node_addr.NodeAddr.{NodeAddr}
 use Rattle.types.specs.Addresses.{sameAddr, addrBefore}
-use Rattle.types.specs.Paths.{emptyPath}
-use Rattle.rules.specs.Records.{Row, State, probation, withHeld}
+use Rattle.rules.specs.Records.{Row, State, emptyEntry, probation, withHeld}
 use Rattle.rules.specs.Layout.{rowSize}
 
 -- what stands past the last row; nothing reads it
 unfoldable pub blankRow : Row
-blankRow = record { key = record { 0 = [] }; entry = record { path = record { len = 0; entries = [] }; createdAt = 0; lastUsed = 0; expiresAt = 0; mtuMark = 0; mtu = 0; source = 0; verifiedUntil = 0 }; place = 0; stampFirst = 0; stampSeq = 0; weight = 0 }
+blankRow = record { key = record { 0 = [] }; entry = emptyEntry 0; place = 0; stampFirst = 0; stampSeq = 0; weight = 0 }
 
 -- row i
 abbrev pub rowAt : ℕ → List Row → Row

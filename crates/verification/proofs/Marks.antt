@@ -4,16 +4,15 @@ use Prim.Native.Nat.{ℕ}
 use mathlib.Core.List.{List}
 use Rattle.types.specs.declared.entry.PathMtu.{PathMtu}
 use Rattle.types.specs.declared.entry.PathMtu.the-variants.{Unknown, Known}
-use Rattle.rules.specs.Records.{Row, State}
+use Rattle.rules.specs.Records.{Row, State, someMtu, verifiedSource, withMtu, withSource}
 use Rattle.rules.specs.Rows.{rowAt, withRows}
-use Rattle.rules.specs.Entries.{addTimes, markVerified, setMtu}
+use Rattle.rules.specs.Entries.{addTimes, markVerified, setMtu, verifiedTtl}
 use Rattle.rules.specs.Lookups.{withEntry, rewrite}
 use Rattle.rules.proofs.RowLists.{change-none}
-use Rattle.memory.specs.Edits.{withSource, withMtu}
 use Rattle.verification.specs.Mtu.{givenMtu}
 
-pub verified-source : (t u i : ℕ) (s : State) → u ≡ addTimes t 300000 → rewrite (withSource 0 u) i s ≡ rewrite (markVerified t) i s
-unfolding withSource markVerified
+pub verified-source : (t u i : ℕ) (s : State) → u ≡ addTimes t verifiedTtl → rewrite (withSource verifiedSource u) i s ≡ rewrite (markVerified t) i s
+unfolding markVerified
 verified-source t u i s e = rw e
 
 same-entry : (r : Row) → withEntry (r .entry) r ≡ r
@@ -27,6 +26,6 @@ rewrite-same i s = ap (λ (rs : List Row). withRows rs s) (change-none (λ r. wi
 pub no-mtu : (i : ℕ) (mtu : PathMtu) (s : State) → mtu ≡ Unknown → s ≡ rewrite (givenMtu mtu) i s
 no-mtu i mtu s e = rw e (sym (rewrite-same i s))
 
-pub some-mtu : (i m : ℕ) (mtu : PathMtu) (s : State) → mtu ≡ Known m → rewrite (withMtu 1 m) i s ≡ rewrite (givenMtu mtu) i s
-unfolding withMtu setMtu
+pub some-mtu : (i m : ℕ) (mtu : PathMtu) (s : State) → mtu ≡ Known m → rewrite (withMtu someMtu m) i s ≡ rewrite (givenMtu mtu) i s
+unfolding setMtu
 some-mtu i m mtu s e = rw e

@@ -4,7 +4,7 @@ use Prim.Native.Nat.{ℕ}
 use Rattle.rules.specs.Entries.{addTimes}
 use Rattle.rules.specs.Lookups.{rewrite}
 use Rattle.rules.specs.Memory.{viewRows}
-use Rattle.memory.specs.Edits.{withTimes}
+use Rattle.rules.specs.Records.{withTimes}
 use Rattle.memory.proofs.Fields.{same-head}
 use borrow.Author.Needs.{needs}
 use Rattle.lookups.proofs.TouchedRows.{refreshed}

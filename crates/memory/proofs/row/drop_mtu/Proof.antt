@@ -1,12 +1,11 @@
 -- Unfolded, `dropMtu` is `withMtu` with mark 0 and MTU 0, and with these `set_mtu` is called.
 use Rattle.rules.specs.Entries.{dropMtu}
-use Rattle.memory.specs.Edits.{withMtu}
 use borrow.Author.Needs.{needs}
 use Rattle.memory.proofs.row.drop_mtu.Statement.{statement}
 use Rattle.memory.proofs.row.drop_mtu.Tie as tie
 
 returns : tie.Need-returns
-unfolding dropMtu withMtu
+unfolding dropMtu
 returns c = c .before .before .set-mtu .ensures
 
 pub drop-mtu-spec : {M : Type 1} → statement M

@@ -1,24 +1,19 @@
--- Each write changes one number of row i in the view; both changes are one of last_used and expires_at.
-use mathlib.Core.Path.{refl}
-use mathlib.Core.List.{[], _∷_}
+-- Both writes are one run, the bytes of last_used and expires_at, and nothing else of row i is read from it.
 use borrow.Author.Needs.{needs}
-use Rattle.rules.specs.Lookups.{rewrite, withEntry}
-use Rattle.rules.specs.Layout.{expiresAtInRow, lastUsedInRow}
-use Rattle.memory.specs.Edits.{withTimes}
-use Rattle.memory.proofs.Fields.{field-store, withNumber}
+use Rattle.rules.specs.Layout.{numberSize}
+use Rattle.rules.proofs.Sizes.{small}
+use Rattle.memory.proofs.Fields.{times-store}
 use Rattle.memory.proofs.row.set_times.Statement.{statement}
 use Rattle.memory.proofs.row.set_times.Tie as tie
 
 returns : tie.Need-returns
-unfolding rewrite withEntry withTimes withNumber
 returns c =
     let w2 = c .before .before in
     let w1 = w2 .before .before .before .before in
     let s = w1 .before .before .before in
     let a = s .args in
     rw (w2 .write-u642 .ensures, w1 .write-u64 .ensures)
-    (field-store ((lastUsedInRow, 8, a .used) ∷ (expiresAtInRow, 8, a .expires) ∷ [])
-    ((refl, s .fits .used .fits), ((refl, s .fits .expires .fits), tt)) (a .state .now) (a .n) (a .i) (s .pre .0) (s .pre .1))
+    (times-store (a .state .now) (a .n) (a .i) (a .used) (a .expires) (small numberSize (a .used) (s .fits .used .fits)) (small numberSize (a .expires) (s .fits .expires .fits)) (s .pre .0) (s .pre .1))
 
 pub set-times-spec : {M : Type 1} → statement M
 set-times-spec =

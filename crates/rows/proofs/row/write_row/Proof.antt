@@ -6,16 +6,14 @@ use borrow.Author.Needs.{needs}
 use Rattle.rows.proofs.row.write_row.Statement.{statement}
 use Rattle.rows.proofs.row.write_row.Tie as tie
 
-add-write-stamp : tie.Need-add-write-stamp
-add-write-stamp c =
-    let w2 = c .before .before .before .before .before .before .before .before .before .before .before in
-    let s = w2 .before .before .before .before .before .before .before in
-    omega (arith, s .pre, s .good .0)
-
 write-stamp-requires : tie.Need-write-stamp-requires
 write-stamp-requires c κs =
-    let w2 = c .before .before .before .before .before .before .before .before .before .before .before in
-    omega (arith, w2)
+    let w4 = c .before .before .before in
+    let w3 = w4 .before .before .before .before in
+    let w2 = w3 .before .before .before .before in
+    let w1 = w2 .before .before .before .before in
+    let s = w1 .before .before .before in
+    omega (arith, s .pre .0, w4 .write-marks .kept .0, w3 .write-times .kept .0, w2 .store-path .kept .0, w1 .store-addr .kept .0)
 
 same-length : tie.Need-same-length
 same-length c =
@@ -46,9 +44,7 @@ pub write-row-spec : {M : Type 1} → statement M
 write-row-spec =
     tie.close
     (tie.spec
-    (λ c κs. search needs) (λ c. search needs) (λ c κs. search needs) (λ c. search needs) (λ c κs. search needs) (λ c. search needs)
-    (λ c κs. search needs)
-    add-write-stamp
+    (λ c κs. search needs) (λ c. search needs) (λ c κs. search needs) (λ c κs. search needs) (λ c κs. search needs)
     write-stamp-requires
     same-length
     returns)

@@ -1,9 +1,10 @@
--- The offsets 1, 9 and 17 are the sums of the widths before them, so that by `four` the stores are one run.
+-- Place, stamp and weight are a row's last bytes, and by `four-from` the four stores are one run of them.
 use native.Mathlib.Omega.{arith}
+use Rattle.rules.specs.Layout.{byteSize, numberSize, placeOffset, stampFirstOffset, stampSeqOffset, weightOffset}
 use Rattle.rules.specs.Memory.{leBytes}
-use Rattle.rules.proofs.ViewLaws.{length-le}
-use Rattle.rules.proofs.Sizes.{small1, small8}
-use Rattle.memory.proofs.StoreRuns.{four}
+use Rattle.rules.proofs.MemoryLaws.{length-le}
+use Rattle.rules.proofs.Sizes.{small}
+use Rattle.memory.proofs.StoreRuns.{four-from}
 use borrow.Author.Needs.{needs}
 use Rattle.rows.proofs.row.write_stamp.Statement.{statement}
 use Rattle.rows.proofs.row.write_stamp.Tie as tie
@@ -16,12 +17,12 @@ returns c =
     let w1 = w2 .before .before .before .before in
     let s = w1 .before .before .before in
     let a = s .args in
-    (rw (w4 .write-u82 .ensures, w3 .write-u642 .ensures, w2 .write-u64 .ensures, w1 .write-u8 .ensures) (four (a .s .now) (leBytes 1 (a .place)) (leBytes 8 (a .first)) (leBytes 8 (a .seq)) (leBytes 1 (a .weight)) (a .at) 1 9 17 (length-le 1 (a .place)) (omega (arith, length-le 8 (a .first))) (omega (arith, length-le 8 (a .seq)))), (small1 (a .place) (s .fits .place .fits), small8 (a .first) (s .fits .first .fits), small8 (a .seq) (s .fits .seq .fits), small1 (a .weight) (s .fits .weight .fits)))
+    (rw (w4 .write-u82 .ensures, w3 .write-u642 .ensures, w2 .write-u64 .ensures, w1 .write-u8 .ensures) (four-from (a .s .now) (leBytes byteSize (a .place)) (leBytes numberSize (a .first)) (leBytes numberSize (a .seq)) (leBytes byteSize (a .weight)) (a .at) placeOffset stampFirstOffset stampSeqOffset weightOffset (omega (arith, length-le byteSize (a .place))) (omega (arith, length-le numberSize (a .first))) (omega (arith, length-le numberSize (a .seq)))), (small byteSize (a .place) (s .fits .place .fits), small numberSize (a .first) (s .fits .first .fits), small numberSize (a .seq) (s .fits .seq .fits), small byteSize (a .weight) (s .fits .weight .fits)))
 
 pub write-stamp-spec : {M : Type 1} → statement M
 write-stamp-spec =
     tie.close
     (tie.spec
-    (λ c κs. search needs) (λ c. search needs) (λ c κs. search needs) (λ c. search needs) (λ c κs. search needs) (λ c. search needs)
-    (λ c κs. search needs) (λ c. search needs)
+    (λ c. search needs) (λ c κs. search needs) (λ c. search needs) (λ c κs. search needs) (λ c. search needs) (λ c κs. search needs) (λ c. search needs) (λ c κs. search needs)
+    (λ c. search needs)
     returns)

@@ -2,7 +2,7 @@
 use mathlib.Core.List.{append-nil}
 use native.Mathlib.Omega.{arith}
 use Rattle.rules.specs.Memory.{leBytes, coordEntriesBytes}
-use Rattle.rules.proofs.ViewLaws.{length-le}
+use Rattle.rules.proofs.MemoryLaws.{length-le}
 use Rattle.memory.proofs.OwnedValues.{owned-entry}
 use Rattle.memory.proofs.StoreRuns.{three}
 use borrow.Author.Needs.{needs}
