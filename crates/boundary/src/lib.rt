@@ -75,7 +75,7 @@ pub fn funding(kind: u8, amount: u64) -> Funding
 }
 
 // The bytes of the key's row, where it has one.
-pub fn keep_row(state: &[u8], key: NodeAddr, row: &mut [u8; ROW])
+pub fn take_row(state: &[u8], key: NodeAddr, row: &mut [u8; ROW])
     requires { ⌜ sound (capacity (now state)) (view (now state)) ≡ true ⌝ }
     ensures { λ _. ⌜ now (row .exit) ≡ rowTaken key (now (state .entry)) (now (row .entry)) ⌝ }
 {

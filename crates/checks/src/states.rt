@@ -9,8 +9,8 @@ use raw::layout::LAST_USED;
 use raw::layout::MAX_ENTRIES;
 use raw::layout::MTU;
 use raw::layout::MTU_MARK;
+use raw::layout::PATH_PLACES;
 use raw::layout::PLACE;
-use raw::layout::PLACES_AT;
 use raw::layout::ROW;
 use raw::layout::ROW_COUNT;
 use raw::layout::SEQ;
@@ -92,8 +92,8 @@ fn put_head(memory: &mut [u8], max: u32, ttl: u32, seq: u32, stored: u32, count:
 fn put_path(memory: &mut [u8], i: usize, key: u8, root: u8, len: u8) {
     put_address(memory, i, 0, key);
     put_in(memory, i, ENTRY, len);
-    put_address(memory, i, PLACES_AT, key);
-    put_address(memory, i, PLACES_AT + ELEMENT, root);
+    put_address(memory, i, PATH_PLACES, key);
+    put_address(memory, i, PATH_PLACES + ELEMENT, root);
 }
 
 fn put_times(memory: &mut [u8], i: usize, created: u32, used: u32, expires: u32) {

@@ -22,6 +22,7 @@ use Rattle.rules.proofs.RowLists.{by-cond}
 use Rattle.rules.proofs.MemoryLaws.{length-cut}
 use Rattle.rules.proofs.GotPart.{got-after-touch}
 use Rattle.rules.proofs.LentSound.{lent-sound}
+use Rattle.rules.specs.Layout.{numberSize}
 use Rattle.lookups.specs.Steps.{StandsAt, placeFound}
 use Rattle.lookups.proofs.PartReply.{got-reply}
 use Rattle.replies.specs.Part.{partReply}
@@ -61,7 +62,7 @@ module _ (l : List ℕ) (k′ : NodeAddr) {k : NodeAddr} {r : Reply} {n : ℕ} {
 
   -- get_and_touch replies what get does on the memory m after it
   pub touched-told : (m : List ℕ) (time : ℕ) {at bytes : ℕ} → StandsAt k time m at bytes → r ≡ partReply bytes
-      → m ≡ call l (GetAndTouch k time) .memory → sound (capacity l) (view l) ≡ true → Bytes l → AddrFits k → Small 8 time
+      → m ≡ call l (GetAndTouch k time) .memory → sound (capacity l) (view l) ≡ true → Bytes l → AddrFits k → Small numberSize time
       → Told (call l (GetAndTouch k′ time)) n vs m
   touched-told m time {at} {bytes} s e d o g y z =
       let later : sound (capacity m) (view m) ≡ true = rw d (lent-sound l (Asked (GetAndTouch k time)) g (y, z) o) in

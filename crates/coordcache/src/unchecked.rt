@@ -1,8 +1,8 @@
 // The calls for a memory that is known to be sound, such as one that only these functions have written since a done fresh.
 use boundary::address;
 use boundary::funding;
-use boundary::keep_row;
 use boundary::path_from;
+use boundary::take_row;
 use boundary::tell;
 use raw::layout::ROW;
 use types::reply::refused;
@@ -186,7 +186,7 @@ pub extern "C" fn coord_cache_remove_unchecked(
     ensures { λ r. ⌜ Told (call (now (state .entry)) (Remove (addressFrom (now (key .entry))))) r (now (values .exit)) (now (state .exit)) × (now (row .exit) ≡ rowTaken (addressFrom (now (key .entry))) (now (state .entry)) (now (row .entry))) ⌝ }
 {
     let k = address(key);
-    keep_row(state, k, row);
+    take_row(state, k, row);
     let answer = lookups::remove::remove_unchecked(state, k);
     let removal = answer.removal;
     tell(replies::answer::remove_reply(removal), values)

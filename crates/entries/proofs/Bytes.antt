@@ -15,22 +15,22 @@ use Rattle.types.proofs.PathLaws.{same-stop, same-go, same-end}
 use Rattle.rules.specs.Memory.{cut, leNumber, coordEntryOf}
 use Rattle.rules.proofs.Addresses.{same-eq, same-true, same-false, same-ne}
 use Rattle.rules.proofs.MemoryLaws.{length-cut}
-use Rattle.rules.specs.Layout.{coordEntrySize}
+use Rattle.rules.specs.Layout.{addressSize, coordEntrySize, numberSize, sequenceOffset, timestampOffset}
 use Rattle.raw.proofs.StoreLaws.{cut-cut}
 use Rattle.raw.proofs.CopyLaws.{cut-byte}
 
 -- ---- sixteen bytes against an address: a turn of the loop, and its end
 
-module _ (x l : List ℕ) (at i : ℕ) (hx : length x ≡ 16) (hl : at + 16 ≤ length l) where
-  pub addr-turn : i < 16 → sameBytes (drop i x) (drop i (cut at 16 l)) ≡ (eqb (getD x i 0) (getD l (at + i) 0) && sameBytes (drop (i + 1) x) (drop (i + 1) (cut at 16 l)))
+module _ (x l : List ℕ) (at i : ℕ) (hx : length x ≡ addressSize) (hl : at + addressSize ≤ length l) where
+  pub addr-turn : i < addressSize → sameBytes (drop i x) (drop i (cut at addressSize l)) ≡ (eqb (getD x i 0) (getD l (at + i) 0) && sameBytes (drop (i + 1) x) (drop (i + 1) (cut at addressSize l)))
   addr-turn h = go (eqb (getD x i 0) (getD l (at + i) 0)) refl
     where
-      go : (b : Bool) → eqb (getD x i 0) (getD l (at + i) 0) ≡ b → sameBytes (drop i x) (drop i (cut at 16 l)) ≡ (b && sameBytes (drop (i + 1) x) (drop (i + 1) (cut at 16 l)))
-      go true e = same-go x (cut at 16 l) i (omega arith) (omega (arith, length-cut at 16 l hl)) (eqb-true _ _ e ∙ cut-byte at 16 i l h)
-      go false e = same-stop x (cut at 16 l) i (omega arith) (omega (arith, length-cut at 16 l hl)) (λ q. eqb-false _ _ e (q ∙ sym (cut-byte at 16 i l h)))
+      go : (b : Bool) → eqb (getD x i 0) (getD l (at + i) 0) ≡ b → sameBytes (drop i x) (drop i (cut at addressSize l)) ≡ (b && sameBytes (drop (i + 1) x) (drop (i + 1) (cut at addressSize l)))
+      go true e = same-go x (cut at addressSize l) i (omega arith) (omega (arith, length-cut at addressSize l hl)) (eqb-true _ _ e ∙ cut-byte at addressSize i l h)
+      go false e = same-stop x (cut at addressSize l) i (omega arith) (omega (arith, length-cut at addressSize l hl)) (λ q. eqb-false _ _ e (q ∙ sym (cut-byte at addressSize i l h)))
 
-  pub addr-end : 16 ≤ i → sameBytes (drop i x) (drop i (cut at 16 l)) ≡ true
-  addr-end h = same-end x (cut at 16 l) i (omega arith) (omega (arith, length-cut at 16 l hl))
+  pub addr-end : addressSize ≤ i → sameBytes (drop i x) (drop i (cut at addressSize l)) ≡ true
+  addr-end h = same-end x (cut at addressSize l) i (omega arith) (omega (arith, length-cut at addressSize l hl))
 
 -- what was compared, with one byte more
 pub addr-more : (t a b c : Bool) → t ≡ (a && b) → b ≡ c → t ≡ (a && c)
@@ -48,23 +48,23 @@ same-sym a b = go (sameAddr a b) refl
 
 -- ---- a path element
 
-element-bytes : (at : ℕ) (l : List ℕ) → coordEntryOf (cut at coordEntrySize l) ≡ record { «node_addr» = record { 0 = cut at 16 l }; sequence = leNumber (cut (at + 16) 8 l); timestamp = leNumber (cut (at + 24) 8 l) }
+element-bytes : (at : ℕ) (l : List ℕ) → coordEntryOf (cut at coordEntrySize l) ≡ record { «node_addr» = record { 0 = cut at addressSize l }; sequence = leNumber (cut (at + sequenceOffset) numberSize l); timestamp = leNumber (cut (at + timestampOffset) numberSize l) }
 unfolding coordEntryOf
 element-bytes at l =
     let z : at + 0 ≡ at = omega arith in
-    rw (cut-cut at coordEntrySize 0 16 l (omega arith), cut-cut at coordEntrySize 16 8 l (omega arith), cut-cut at coordEntrySize 24 8 l (omega arith), z)
+    rw (cut-cut at coordEntrySize 0 addressSize l (omega arith), cut-cut at coordEntrySize sequenceOffset numberSize l (omega arith), cut-cut at coordEntrySize timestampOffset numberSize l (omega arith), z)
 
-pub element-addr : (at : ℕ) (l : List ℕ) → coordEntryOf (cut at coordEntrySize l) .«node_addr» ≡ record { 0 = cut at 16 l }
+pub element-addr : (at : ℕ) (l : List ℕ) → coordEntryOf (cut at coordEntrySize l) .«node_addr» ≡ record { 0 = cut at addressSize l }
 element-addr at l = ap (λ (x : CoordEntry). x .«node_addr») (element-bytes at l)
 
-pub element-made : (at : ℕ) (l : List ℕ) {a : NodeAddr} {s t : ℕ} → a ≡ record { 0 = cut at 16 l } → s ≡ leNumber (cut (at + 16) 8 l) → t ≡ leNumber (cut (at + 24) 8 l)
+pub element-made : (at : ℕ) (l : List ℕ) {a : NodeAddr} {s t : ℕ} → a ≡ record { 0 = cut at addressSize l } → s ≡ leNumber (cut (at + sequenceOffset) numberSize l) → t ≡ leNumber (cut (at + timestampOffset) numberSize l)
     → _≡_ {A = CoordEntry} (record { «node_addr» = a; sequence = s; timestamp = t }) (coordEntryOf (cut at coordEntrySize l))
 element-made at l p q r = rw (p, q, r) (sym (element-bytes at l))
 
 -- every field of an element against another's
-pub element-same : (at : ℕ) (l : List ℕ) (e : CoordEntry) {b : Bool} {s t : ℕ} → b ≡ sameAddr (e .«node_addr») (record { 0 = cut at 16 l }) → s ≡ leNumber (cut (at + 16) 8 l) → t ≡ leNumber (cut (at + 24) 8 l)
+pub element-same : (at : ℕ) (l : List ℕ) (e : CoordEntry) {b : Bool} {s t : ℕ} → b ≡ sameAddr (e .«node_addr») (record { 0 = cut at addressSize l }) → s ≡ leNumber (cut (at + sequenceOffset) numberSize l) → t ≡ leNumber (cut (at + timestampOffset) numberSize l)
     → (b && (eqb s (e .sequence) && eqb t (e .timestamp))) ≡ sameEntry (coordEntryOf (cut at coordEntrySize l)) e
 unfolding sameEntry
 element-same at l e {b} {s} {t} p q r =
-    ap (λ (x : Bool). x && (eqb s (e .sequence) && eqb t (e .timestamp))) (p ∙ same-sym (e .«node_addr») (record { 0 = cut at 16 l }))
+    ap (λ (x : Bool). x && (eqb s (e .sequence) && eqb t (e .timestamp))) (p ∙ same-sym (e .«node_addr») (record { 0 = cut at addressSize l }))
     ∙ ap (λ (x : CoordEntry). sameEntry x e) (element-made at l refl q r)

@@ -16,7 +16,7 @@ use Rattle.types.proofs.PathLaws.{entryAt, entries-turn, among-turn, last-eleme
 use Rattle.rules.specs.Records.{Row}
 use Rattle.rules.specs.Rows.{rowAt}
 use Rattle.rules.specs.Memory.{cut, coordEntryOf, coordEntriesOf, pathOf, entryOf, rowOf, viewRows}
-use Rattle.rules.specs.Layout.{coordEntrySize, entryOffset, entrySize, headSize, placesInRow, rowSize}
+use Rattle.rules.specs.Layout.{addressSize, coordEntrySize, entryOffset, entrySize, headSize, placesInRow, rowSize}
 use Rattle.rules.proofs.MemoryLaws.{elements-of-length}
 use Rattle.raw.proofs.StoreLaws.{cut-cut}
 use Rattle.memory.proofs.Fields.{row-at}
@@ -57,7 +57,7 @@ module _ (n i : ℕ) (l : List ℕ) (h : i < n) where
       ∙ row-place (cut (headSize + i * rowSize) rowSize l) k d g
       ∙ ap coordEntryOf (cut-cut (headSize + i * rowSize) rowSize (placesInRow + k * coordEntrySize) coordEntrySize l (omega arith) ∙ ap (λ (j : ℕ). cut j coordEntrySize l) e)
 
-  place-addr : (k : ℕ) → k < pathPlaces → entryAt (rowPath n i l) k .«node_addr» ≡ record { 0 = cut (headSize + i * rowSize + placesInRow + k * coordEntrySize) 16 l }
+  place-addr : (k : ℕ) → k < pathPlaces → entryAt (rowPath n i l) k .«node_addr» ≡ record { 0 = cut (headSize + i * rowSize + placesInRow + k * coordEntrySize) addressSize l }
   place-addr k g = ap (λ (x : CoordEntry). x .«node_addr») (place-at k _ g) ∙ element-addr (headSize + i * rowSize + placesInRow + k * coordEntrySize) l
 
   pub elements-count : length (elements (rowPath n i l)) ≡ min (rowPath n i l .len) pathPlaces
@@ -76,22 +76,22 @@ module _ (n i : ℕ) (l : List ℕ) (h : i < n) where
 
   -- a turn of the search for an address
   search-turn : (a : NodeAddr) (k : ℕ) → rowPath n i l .len ≤ pathPlaces → k < rowPath n i l .len
-      → among a (drop k (elements (rowPath n i l))) ≡ (sameAddr a (record { 0 = cut (headSize + i * rowSize + placesInRow + k * coordEntrySize) 16 l }) || among a (drop (k + 1) (elements (rowPath n i l))))
+      → among a (drop k (elements (rowPath n i l))) ≡ (sameAddr a (record { 0 = cut (headSize + i * rowSize + placesInRow + k * coordEntrySize) addressSize l }) || among a (drop (k + 1) (elements (rowPath n i l))))
   search-turn a k g b =
       among-turn a (rowPath n i l) k (omega (arith, elements-length g))
       ∙ ap (λ (x : NodeAddr). sameAddr a x || among a (drop (k + 1) (elements (rowPath n i l)))) (place-addr k (omega arith))
 
   pub search-hit : (a : NodeAddr) (k : ℕ) → rowPath n i l .len ≤ pathPlaces → k < rowPath n i l .len
-      → sameAddr a (record { 0 = cut (headSize + i * rowSize + placesInRow + k * coordEntrySize) 16 l }) ≡ true → among a (drop k (elements (rowPath n i l))) ≡ true
+      → sameAddr a (record { 0 = cut (headSize + i * rowSize + placesInRow + k * coordEntrySize) addressSize l }) ≡ true → among a (drop k (elements (rowPath n i l))) ≡ true
   search-hit a k g b e = search-turn a k g b ∙ rw e
 
   pub search-miss : (a : NodeAddr) (k : ℕ) → rowPath n i l .len ≤ pathPlaces → k < rowPath n i l .len
-      → sameAddr a (record { 0 = cut (headSize + i * rowSize + placesInRow + k * coordEntrySize) 16 l }) ≡ false → among a (drop k (elements (rowPath n i l))) ≡ among a (drop (k + 1) (elements (rowPath n i l)))
+      → sameAddr a (record { 0 = cut (headSize + i * rowSize + placesInRow + k * coordEntrySize) addressSize l }) ≡ false → among a (drop k (elements (rowPath n i l))) ≡ among a (drop (k + 1) (elements (rowPath n i l)))
   search-miss a k g b e = search-turn a k g b ∙ rw e
 
   -- the root stands in the last place up to the length
   pub root-place : rowPath n i l .len ≤ pathPlaces → 1 ≤ rowPath n i l .len
-      → rootOf (rowPath n i l) ≡ record { 0 = cut (headSize + i * rowSize + placesInRow + (rowPath n i l .len - 1) * coordEntrySize) 16 l }
+      → rootOf (rowPath n i l) ≡ record { 0 = cut (headSize + i * rowSize + placesInRow + (rowPath n i l .len - 1) * coordEntrySize) addressSize l }
   unfolding rootOf
   root-place g b =
       last-element _ (rowPath n i l) (λ e. omega (arith, elements-length g))

@@ -1,4 +1,5 @@
 // Addresses and path elements at an offset of the memory.
+use raw::layout::ADDRESS;
 use types::coord::CoordEntry;
 use types::node_addr::NodeAddr;
 ghost use mathlib.Core.Path.{_≡_};
@@ -18,7 +19,7 @@ pub(crate) fn addr_at(state: &[u8], at: usize, a: NodeAddr) -> bool
     let x = a.0;
     let mut same = true;
     let mut i = 0;
-    while i < 16 {
+    while i < ADDRESS {
         same = same & (x[i] == state[at + i]);
         i += 1;
     }
@@ -40,9 +41,9 @@ pub fn load_addr(state: &[u8], at: usize) -> NodeAddr
     requires { ⌜ at + addressSize ≤ length (now state) ⌝ }
     ensures { λ r. ⌜ r ≡ record { 0 = cut at addressSize (now (state .entry)) } ⌝ }
 {
-    let mut a = [0u8; 16];
+    let mut a = [0u8; ADDRESS];
     let mut k = 0;
-    while k < 16 {
+    while k < ADDRESS {
         a[k] = state[at + k];
         k += 1;
     }

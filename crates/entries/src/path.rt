@@ -1,9 +1,10 @@
 // The path of row i of n. Its places stand one behind another.
 use crate::addr;
 use memory::row;
+use raw::layout::ADDRESS;
 use raw::layout::ELEMENT;
 use raw::layout::HEAD;
-use raw::layout::PLACES_AT;
+use raw::layout::PATH_PLACES;
 use raw::layout::ROW;
 use types::coord::CoordEntry;
 use types::coord::PLACES;
@@ -42,7 +43,7 @@ pub fn path_is(state: &[u8], n: usize, i: usize, path: Path) -> bool
     if held != path.count() {
         return false;
     }
-    let places = HEAD + i * ROW + PLACES_AT;
+    let places = HEAD + i * ROW + PATH_PLACES;
     let mut k = 0;
     while k < held {
         let e = path.entries[k];
@@ -60,7 +61,7 @@ pub fn path_contains(state: &[u8], n: usize, i: usize, a: NodeAddr) -> bool
     ensures { λ r. ⌜ r ≡ contains a (rowAt i (viewRows n (now (state .entry)) .rows) .entry .path) ⌝ }
 {
     let len = row::path_len(state, n, i) as usize;
-    let places = HEAD + i * ROW + PLACES_AT;
+    let places = HEAD + i * ROW + PATH_PLACES;
     let mut k = 0;
     while k < len {
         if addr::addr_at(state, places + k * ELEMENT, a) {
@@ -77,7 +78,7 @@ pub fn root_is(state: &[u8], n: usize, i: usize, a: NodeAddr) -> bool
     ensures { λ r. ⌜ r ≡ sameAddr (rootOf (rowAt i (viewRows n (now (state .entry)) .rows) .entry .path)) a ⌝ }
 {
     let len = row::path_len(state, n, i) as usize;
-    let places = HEAD + i * ROW + PLACES_AT;
+    let places = HEAD + i * ROW + PATH_PLACES;
     addr::addr_at(state, places + (len - 1) * ELEMENT, a)
 }
 
@@ -88,7 +89,7 @@ pub fn path_place(state: &[u8], n: usize, i: usize) -> PathPlace
 {
     let len = row::path_len(state, n, i) as usize;
     PathPlace {
-        at: HEAD + i * ROW + PLACES_AT,
+        at: HEAD + i * ROW + PATH_PLACES,
         bytes: len * ELEMENT,
     }
 }
@@ -98,9 +99,9 @@ pub(crate) fn load_path(state: &[u8], n: usize, i: usize) -> Path
     requires { ⌜ (i < n) × (headSize + n * rowSize ≤ length (now state)) ⌝ }
     ensures { λ r. ⌜ r ≡ rowAt i (viewRows n (now (state .entry)) .rows) .entry .path ⌝ }
 {
-    let places = HEAD + i * ROW + PLACES_AT;
+    let places = HEAD + i * ROW + PATH_PLACES;
     let blank = CoordEntry {
-        node_addr: NodeAddr([0u8; 16]),
+        node_addr: NodeAddr([0u8; ADDRESS]),
         sequence: 0,
         timestamp: 0,
     };

@@ -1,5 +1,6 @@
 // An entry where it stands in a row: whether it is expired, and whether it is verified; sums of times.
 use memory::codes::VERIFIED;
+use types::reply::LARGEST_NUMBER;
 ghost use mathlib.Core.Path.{_≡_};
 ghost use Prim.Native.Nat.{_+_, _*_, _-_, _≤_, _<_};
 ghost use lib.ListN.{length};
@@ -9,6 +10,9 @@ ghost use Rattle.rules.specs.Memory.{viewRows};
 ghost use Rattle.rules.specs.Layout.{headSize, rowSize};
 ghost use Prim.Native.Nat.{_+_, _*_, _≤_, _<_};
 ghost use Rattle.rules.specs.Entries.{verified};
+
+// Where sums of times stop.
+const LAST_TIME: u64 = LARGEST_NUMBER;
 
 // How long a verified entry outranks a hint, in milliseconds.
 pub const VERIFIED_TTL_MS: u64 = 300000;
@@ -21,15 +25,11 @@ pub fn is_expired(state: &[u8], n: usize, i: usize, time: u64) -> bool
     memory::row::expires_at(state, n, i) < time
 }
 
-// Sums of times stop at 2^64 − 1.
+// A sum of times.
 pub fn add_times(a: u64, b: u64) -> u64
     ensures { λ r. ⌜ r ≡ addTimes a b ⌝ }
 {
-    if 18446744073709551615 - a < b {
-        18446744073709551615
-    } else {
-        a + b
-    }
+    if LAST_TIME - a < b { LAST_TIME } else { a + b }
 }
 
 // Source Verified, and now ≤ verified_until.

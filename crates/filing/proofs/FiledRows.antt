@@ -8,6 +8,7 @@ use native.Mathlib.Omega.{arith}
 use lib.Dec.{ltb}
 use lib.ListN.{length, take, drop, length-append, length-take, length-drop}
 use Rattle.types.specs.declared.node_addr.NodeAddr.{NodeAddr}
+use Rattle.types.specs.Values.{largestNumber}
 use Rattle.rules.specs.Records.{Entry, Row, State, maxRows, weightLimit, withSeq}
 use Rattle.rules.specs.Rows.{rowAt, inMain, find, changeRow, insertInOrder, weighRows, mainWeight, withRows}
 use Rattle.rules.specs.Sound.{ascends}
@@ -137,7 +138,7 @@ module _ {k : NodeAddr} {n i : ℕ} {r : Row} {l m : List ℕ} (s : Standing k n
   unfolding inserted
   count-asks = (omega (arith, row-there), omega (arith, stored-light (s .free), same-head 0 (n + 1) m .storedWeight, ap (λ (x : State). x .storedWeight) (s .state), same-head 0 n l .storedWeight))
 
-  pub seq-left : viewRows (n + 1) m .seq < 18446744073709551615
+  pub seq-left : viewRows (n + 1) m .seq < largestNumber
   unfolding inserted
   seq-left = rw (s .state) (s .free .seq)
 

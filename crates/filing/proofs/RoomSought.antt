@@ -6,6 +6,7 @@ use mathlib.Core.List.{List}
 use mathlib.Core.Bool.{true, false, cond}
 use lib.ListN.{length}
 use Rattle.types.specs.declared.node_addr.NodeAddr.{NodeAddr}
+use Rattle.types.specs.Values.{largestNumber}
 use Rattle.rules.specs.Records.{State, mainLimit, maxRows}
 use Rattle.rules.specs.Rows.{inProbation, total, mainCount, probationCount, withOnlyRows}
 use Rattle.rules.specs.Sound.{sound}
@@ -17,8 +18,9 @@ use Rattle.rules.proofs.LentMemory.{capacity-same}
 use Rattle.rules.proofs.Walks.{Roomed, room-roomed}
 use Rattle.rules.proofs.Moves.{ready, room-sound, probation-twice}
 use Rattle.rules.proofs.Others.{room-gone, made-free}
-use Rattle.rules.specs.Layout.{headSize, rowSize}
+use Rattle.rules.specs.Layout.{headSize, numberLimit, rowSize}
 use Rattle.rules.proofs.Foreign.{view-length}
+use Rattle.rules.specs.Refusals.{lastSeq}
 use Rattle.stamps.specs.declared.lowest.Lowest.{Lowest}
 use Rattle.stamps.specs.declared.lowest.Lowest.the-variants.{At, Nothing}
 use Rattle.room.specs.declared.victims.Room.{Room as RoomAnswer}
@@ -31,11 +33,11 @@ use Rattle.filing.specs.InRoom.{Takes}
 -- ---- before
 
 -- enough stamps for every walk
-pub stamps-left : (n : ℕ) (l : List ℕ) → sound (capacity l) (viewRows n l) ≡ true → viewRows n l .seq ≤ 18446744073709547519 → StampsLeft n l
+pub stamps-left : (n : ℕ) (l : List ℕ) → sound (capacity l) (viewRows n l) ≡ true → viewRows n l .seq ≤ lastSeq → StampsLeft n l
 stamps-left n l h q = omega (arith, probation-visits (viewRows n l .rows), view-length n l, few n l h)
 
-pub room-asks : (time n : ℕ) (l : List ℕ) → sound (capacity l) (viewRows n l) ≡ true → viewRows n l .seq ≤ 18446744073709547519
-    → (headSize + n * rowSize ≤ length l) × (sound (capacity l) (viewRows n l) ≡ true) × (viewRows n l .seq + total (mainVisits time) (viewRows n l .rows) < 18446744073709551616)
+pub room-asks : (time n : ℕ) (l : List ℕ) → sound (capacity l) (viewRows n l) ≡ true → viewRows n l .seq ≤ lastSeq
+    → (headSize + n * rowSize ≤ length l) × (sound (capacity l) (viewRows n l) ≡ true) × (viewRows n l .seq + total (mainVisits time) (viewRows n l .rows) < numberLimit)
 room-asks time n l h q = (laid-out n l h, h, omega (arith, main-visits time (viewRows n l .rows), view-length n l, few n l h))
 
 -- ---- a victim that was left in place
@@ -48,7 +50,7 @@ victim-seq Nothing s = refl
 
 -- what a row asks that takes its place, or a free row
 pub left-takes : {k : NodeAddr} {v : Lowest} {w n j : ℕ} {l m : List ℕ} → Without k n l → length m ≡ length l → j ≤ n → Leaves v w (viewRows n l .rows) (viewRows j m .rows)
-    → viewRows j m .seq < 18446744073709551615 → (v ≡ Nothing → Without k j m × (j < capacity m)) → Takes k v w j m
+    → viewRows j m .seq < largestNumber → (v ≡ Nothing → Without k j m × (j < capacity m)) → Takes k v w j m
 left-takes {k} {n = n} {j} {l} {m} wo z h d q f = record {
   free = λ e. record { without = f e .0; room = f e .1; seq = q };
   over = λ i e. record {
@@ -107,7 +109,7 @@ module _ (k : NodeAddr) (n : ℕ) (l m : List ℕ) (time w : ℕ) (r : RoomAnswe
   pub examined-few : r .examined ≤ 2 * maxRows
   examined-few = omega (arith, room-examined, made .seen, both)
 
-  pub room-seq : viewRows n l .seq ≤ 18446744073709547519 → makeRoom time w (viewRows n l) .state .seq < 18446744073709551615
+  pub room-seq : viewRows n l .seq ≤ lastSeq → makeRoom time w (viewRows n l) .state .seq < largestNumber
   room-seq q = omega (arith, made .stamps, made .seen, both)
 
   -- no victim was left
@@ -127,16 +129,16 @@ module _ (k : NodeAddr) (n : ℕ) (l m : List ℕ) (time w : ℕ) (r : RoomAnswe
   pub made-in-main : r .made ≡ true → r .victim ≡ Nothing → r .rows < capacity m
   made-in-main t = free-main (made-free (viewRows n l) (shown n l (wo .sound)) time w (sym room-made ∙ t))
 
-  pub takes : (r .victim ≡ Nothing → r .rows < capacity m) → viewRows n l .seq ≤ 18446744073709547519 → Takes k (r .victim) (r .stored) (r .rows) m
+  pub takes : (r .victim ≡ Nothing → r .rows < capacity m) → viewRows n l .seq ≤ lastSeq → Takes k (r .victim) (r .stored) (r .rows) m
   takes f q =
-      let s : viewRows (r .rows) m .seq < 18446744073709551615 = omega (arith, room-seq q, victim-seq (r .victim) (viewRows (r .rows) m), ap (λ (x : State). x .seq) left-state) in
+      let s : viewRows (r .rows) m .seq < largestNumber = omega (arith, room-seq q, victim-seq (r .victim) (viewRows (r .rows) m), ap (λ (x : State). x .seq) left-state) in
       left-takes wo (so .size) (so .rows) (so .leaves) s (λ e. (still-without e, f e))
 
   -- no room was made
   visits : r .victim ≡ Nothing → total probationVisits (viewRows (r .rows) m .rows) ≤ 2 * probationCount (viewRows n l)
   visits e = rw (free-state e) (omega (arith, total-twice probationVisits (λ x. cond (inProbation x) 1 0) probation-twice (makeRoom time w (viewRows n l) .state .rows), made .probations))
 
-  pub stamps-after : r .victim ≡ Nothing → viewRows n l .seq ≤ 18446744073709547519 → StampsLeft (r .rows) m
+  pub stamps-after : r .victim ≡ Nothing → viewRows n l .seq ≤ lastSeq → StampsLeft (r .rows) m
   stamps-after e q =
       let a : viewRows (r .rows) m .seq ≤ viewRows n l .seq + 2 * mainCount (viewRows n l) = rw (free-state e) (omega (arith, made .stamps, made .seen)) in
       omega (arith, visits e, both)

@@ -8,6 +8,7 @@ use lib.ListN.{length}
 use Rattle.types.specs.declared.coord.Path.{Path}
 use Rattle.types.specs.declared.node_addr.NodeAddr.{NodeAddr}
 use Rattle.types.specs.Paths.{pathPlaces}
+use Rattle.types.specs.Values.{largestNumber}
 use Rattle.rules.specs.Records.{maxRows, weightLimit}
 use Rattle.rules.specs.Rows.{find, inMain, weighRows, withoutRow}
 use Rattle.rules.specs.Sound.{ascends}
@@ -24,7 +25,7 @@ pub record Writable (p : Path) : Type 0 where
 pub record Free (k : NodeAddr) (n : ℕ) (l : List ℕ) : Type 0 where
   pub without : Without k n l
   pub room : n < capacity l
-  pub seq : viewRows n l .seq < 18446744073709551615
+  pub seq : viewRows n l .seq < largestNumber
 
 -- row i of n may leave for a row of key k; w is the weight that is stored without it
 pub record Over (k : NodeAddr) (n i w : ℕ) (l : List ℕ) : Type 0 where
@@ -34,4 +35,4 @@ pub record Over (k : NodeAddr) (n i w : ℕ) (l : List ℕ) : Type 0 where
   pub gone : find k (viewRows n l .rows) ≡ none
   pub weighs : w ≡ weighRows inMain (withoutRow i (viewRows n l .rows))
   pub light : w ≤ maxRows * weightLimit
-  pub seq : viewRows n l .seq < 18446744073709551615
+  pub seq : viewRows n l .seq < largestNumber

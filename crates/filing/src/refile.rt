@@ -7,6 +7,7 @@ ghost use mathlib.Core.Path.{_≡_};
 ghost use Prim.Native.Nat.{_+_, _*_, _≤_, _<_};
 ghost use lib.ListN.{length};
 ghost use Rattle.types.specs.Paths.{pathPlaces};
+ghost use Rattle.types.specs.Values.{largestNumber};
 ghost use Rattle.rules.specs.Rows.{rowAt};
 ghost use Rattle.rules.specs.Entries.{update};
 ghost use Rattle.rules.specs.Lookups.{rewrite};
@@ -27,7 +28,7 @@ fn update(state: &mut [u8], n: usize, i: usize, path: Path, time: u64, ttl: u64)
 
 // Row i gets this weight, and is stamped with last_used.
 fn refile(state: &mut [u8], n: usize, i: usize, weight: u8)
-    requires { ⌜ (i < n) × (headSize + n * rowSize ≤ length (now state)) × (viewRows n (now state) .seq < 18446744073709551615) ⌝ }
+    requires { ⌜ (i < n) × (headSize + n * rowSize ≤ length (now state)) × (viewRows n (now state) .seq < largestNumber) ⌝ }
     ensures { λ _. ⌜ viewRows n (now (state .exit)) ≡ refile (rowAt i (viewRows n (now (state .entry)) .rows) .entry) weight i (viewRows n (now (state .entry))) ⌝ }
 {
     row::set_weight(state, n, i, weight);
@@ -44,7 +45,7 @@ pub fn update_in_place(
     ttl: u64,
     weight: u8,
 )
-    requires { ⌜ (i < n) × (headSize + n * rowSize ≤ length (now state)) × (viewRows n (now state) .seq < 18446744073709551615) × (path .len ≤ pathPlaces) ⌝ }
+    requires { ⌜ (i < n) × (headSize + n * rowSize ≤ length (now state)) × (viewRows n (now state) .seq < largestNumber) × (path .len ≤ pathPlaces) ⌝ }
     ensures { λ _. ⌜ viewRows n (now (state .exit)) ≡ refile (update path time ttl (rowAt i (viewRows n (now (state .entry)) .rows) .entry)) weight i (viewRows n (now (state .entry))) ⌝ }
 {
     update(state, n, i, path, time, ttl);

@@ -8,6 +8,7 @@ use mathlib.Core.Bool.{Bool, true, false}
 use lib.ListN.{length}
 use borrow.Author.Tests.{eq-eqb, ne-eqb, lt-ltb, le-ltb}
 use Rattle.types.specs.declared.node_addr.NodeAddr.{NodeAddr}
+use Rattle.types.specs.Values.{largestNumber}
 use Rattle.rules.specs.Records.{Row, State}
 use Rattle.rules.specs.Rows.{rowAt, atPlace, inMain, changeRow, withRows}
 use Rattle.rules.specs.Sound.{sound}
@@ -15,7 +16,7 @@ use Rattle.rules.specs.Entries.{markHint}
 use Rattle.rules.specs.Room.{refile, restamp, stamp, raised, refiled}
 use Rattle.rules.specs.Lookups.{rewrite, withEntry, demoted, holds}
 use Rattle.rules.specs.Calls.{Demote, KeyHeld, Refused, pathGiven, verifiedWrite, drawsStamps}
-use Rattle.rules.specs.Refusals.{seqSpent, perform, gives}
+use Rattle.rules.specs.Refusals.{seqSpent, perform, gives, lastSeq}
 use Rattle.rules.specs.Memory.{capacity, viewRows, view}
 use Rattle.rules.specs.Lent.{Bytes, call}
 use Rattle.rules.proofs.Refused.{refused-three, refused-only-one}
@@ -54,23 +55,23 @@ demoted-in-place i s x p e = e ∙ rw (ne-eqb (rowAt i (s .rows) .place) 1 p)
 abbrev pub Demoted : NodeAddr → Bool → List ℕ → List ℕ → Type 0
 Demoted k b l m = (KeyHeld b ≡ call l (Demote k) .answer) × (m ≡ call l (Demote k) .memory)
 
-pub demote-refused : (l : List ℕ) (k : NodeAddr) {q : ℕ} → sound (capacity l) (view l) ≡ true → q ≡ viewRows 0 l .seq → 18446744073709547519 < q
+pub demote-refused : (l : List ℕ) (k : NodeAddr) {q : ℕ} → sound (capacity l) (view l) ≡ true → q ≡ viewRows 0 l .seq → lastSeq < q
     → (Refused 3 ≡ call l (Demote k) .answer) × (l ≡ call l (Demote k) .memory)
 unfolding pathGiven drawsStamps seqSpent
 demote-refused l k {q} h e w =
     let d : q ≡ view l .seq = e ∙ shown-seq l in
-    said l (Demote k) 3 (refused-three (capacity l) (view l) (Demote k) h refl refl (rw (← d) (lt-ltb 18446744073709547519 q w)))
+    said l (Demote k) 3 (refused-three (capacity l) (view l) (Demote k) h refl refl (rw (← d) (lt-ltb lastSeq q w)))
 
 -- q is the head's seq
-module _ {k : NodeAddr} {n q : ℕ} {l : List ℕ} (e : q ≡ viewRows 0 l .seq) (w : q ≤ 18446744073709547519) where
+module _ {k : NodeAddr} {n q : ℕ} {l : List ℕ} (e : q ≡ viewRows 0 l .seq) (w : q ≤ lastSeq) where
   demote-done : {o : Option ℕ} → Found k n o l → (m : List ℕ) → Bytes m → length m ≡ length l → viewRows n m ≡ perform (viewRows n l) (Demote k) .state
       → Answered l n (Demote k) m
   unfolding pathGiven verifiedWrite drawsStamps seqSpent
   demote-done f m b z v =
       let d : q ≡ view l .seq = e ∙ shown-seq l in
-      done-rows (f .memory) (Demote k) m n (refused-only-one (capacity l) (view l) (Demote k) (f .sound) refl refl (rw (← d) (le-ltb 18446744073709547519 q w))) b z v
+      done-rows (f .memory) (Demote k) m n (refused-only-one (capacity l) (view l) (Demote k) (f .sound) refl refl (rw (← d) (le-ltb lastSeq q w))) b z v
 
-  pub demote-asked : {i : ℕ} → Found k n (some i) l → (i < n) × (headSize + n * rowSize ≤ length l) × (viewRows n l .seq < 18446744073709551615)
+  pub demote-asked : {i : ℕ} → Found k n (some i) l → (i < n) × (headSize + n * rowSize ≤ length l) × (viewRows n l .seq < largestNumber)
   demote-asked f = (inside f, f .memory .long, omega (arith, e, w, same-head 0 n l .seq))
 
   pub demoted-at : {i : ℕ} → Found k n (some i) l → (m : List ℕ) → Bytes m → length m ≡ length l → viewRows n m ≡ demotedAt i (viewRows n l)

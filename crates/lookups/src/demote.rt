@@ -13,10 +13,11 @@ ghost use Rattle.rules.specs.Memory.{capacity, viewRows, view};
 ghost use Rattle.rules.specs.Lent.{call};
 ghost use Rattle.rules.specs.Layout.{headSize, rowSize};
 ghost use Rattle.lookups.specs.KeyedSteps.{demotedAt};
+ghost use Rattle.types.specs.Values.{largestNumber};
 
 // Row i's entry becomes a hint; a parked row is refiled.
 fn demote_at(state: &mut [u8], n: usize, i: usize)
-    requires { ⌜ (i < n) × (headSize + n * rowSize ≤ length (now state)) × (viewRows n (now state) .seq < 18446744073709551615) ⌝ }
+    requires { ⌜ (i < n) × (headSize + n * rowSize ≤ length (now state)) × (viewRows n (now state) .seq < largestNumber) ⌝ }
     ensures { λ _. ⌜ viewRows n (now (state .exit)) ≡ demotedAt i (viewRows n (now (state .entry))) ⌝ }
 {
     let place = memory::row::place(state, n, i);

@@ -19,7 +19,7 @@ use Rattle.raw.proofs.CopyLaws.{cut-byte}
 use Rattle.rules.proofs.MemoryLaws.{drop-take-add}
 use Rattle.raw.proofs.StoreLaws.{take-sets-le, drop-sets-add, cut-else, cut-same, cut-cut}
 use Rattle.rules.specs.Refusals.{fresh}
-use Rattle.rules.specs.Layout.{defaultTtlOffset, headSize, rowCountOffset, rowSize}
+use Rattle.rules.specs.Layout.{defaultTtlOffset, headSize, maxEntriesOffset, numberSize, rowCountOffset, rowSize, seqOffset, storedWeightOffset}
 use Rattle.memory.specs.Edits.{withStoredWeight, withRowCount, OnlyRows, shrunk}
 use Rattle.memory.proofs.RowBlocks.{rows-take, parts-rows, without-eq}
 use Rattle.memory.proofs.StoreRuns.{Run}
@@ -72,14 +72,14 @@ zeroed-view n j w l h k =
     let b : (a x : ℕ) → a + x ≤ headSize → cut a x m ≡ cut a x l = λ a x q. cut-else l vs (headSize + j * rowSize) a x (inl (omega arith)) in
     let e : headSize + j * rowSize + length vs ≡ headSize + n * rowSize = omega arith in
     let r : drop (headSize + j * rowSize) m ≡ vs ++ drop (headSize + n * rowSize) l = stored-rest l vs (headSize + j * rowSize) (omega arith) ∙ ap (λ (x : ℕ). vs ++ drop x l) e in
-    rw (zeros n j h, b 0 8 (omega arith), b 8 8 (omega arith), b 16 8 (omega arith), view-before j l vs, r)
+    rw (zeros n j h, b maxEntriesOffset numberSize (omega arith), b defaultTtlOffset numberSize (omega arith), b seqOffset numberSize (omega arith), view-before j l vs, r)
 
 -- where only the rows differ, the shrunk memory is the state with only these rows
 pub only-shrunk : (n j : ℕ) (rs : List Row) (l m : List ℕ) → j ≤ n → length rs ≡ j → OnlyRows n j rs l m → shrunk n j (weighRows inMain rs) m ≡ withOnlyRows rs (viewRows n l)
 unfolding viewRows shrunk withOnlyRows
 only-shrunk n j rs l m h e o =
     let c : (a w : ℕ) → a + w ≤ headSize → cut a w m ≡ cut a w l = λ a w q. head-cut a w l m q (o .head) in
-    rw (view-length n l, e, o .rows, o .rest, c 0 8 (omega arith), c 8 8 (omega arith), c 16 8 (omega arith))
+    rw (view-length n l, e, o .rows, o .rest, c maxEntriesOffset numberSize (omega arith), c defaultTtlOffset numberSize (omega arith), c seqOffset numberSize (omega arith))
 
 -- ---- blocks of rows put together
 
@@ -114,7 +114,7 @@ parts-view n p a e s f h g u w l k =
     let rt : drop (headSize + n * rowSize) m ≡ drop (headSize + n * rowSize) l =
     ap (drop (headSize + n * rowSize)) (sym (append-assoc x y z)) ∙ ap (λ (o : ℕ). drop o ((x ++ y) ++ z)) en ∙ drop-append-add (x ++ y) z ((n - s) * rowSize)
     ∙ drop-drop ((n - s) * rowSize) (headSize + s * rowSize) l ∙ ap (λ (o : ℕ). drop o l) es in
-    rw (cu 0 8 (omega arith), cu 8 8 (omega arith), cu 16 8 (omega arith), cu 24 8 (omega arith), cu rowCountOffset 8 (omega arith), rs, rt)
+    rw (cu maxEntriesOffset numberSize (omega arith), cu defaultTtlOffset numberSize (omega arith), cu seqOffset numberSize (omega arith), cu storedWeightOffset numberSize (omega arith), cu rowCountOffset numberSize (omega arith), rs, rt)
 
 -- ---- a row leaves
 
@@ -198,14 +198,14 @@ zero-tail l R k =
     let e : 0 + length (replicate {A = ℕ} n 0) ≡ n = omega arith in
     ap (drop headSize) (stored-rest l (replicate n 0) 0 (omega arith) ∙ ap (λ (x : ℕ). replicate n 0 ++ drop x l) e) ∙ drop-append-le headSize (replicate n 0) (drop n l) (omega arith) ∙ ap (λ (x : List ℕ). x ++ drop n l) (zeros-drop headSize (R * rowSize))
 
-pub fresh-view : (l : List ℕ) (R m t : ℕ) → m < 256 ^ 8 → t < 256 ^ 8 → headSize + R * rowSize ≤ length l
-    → viewRows 0 (sets (sets (sets l 0 (replicate (headSize + R * rowSize - 0) 0)) 0 (leBytes 8 m)) 8 (leBytes 8 t)) ≡ fresh R m t (drop (headSize + R * rowSize) l)
+pub fresh-view : (l : List ℕ) (R m t : ℕ) → m < 256 ^ numberSize → t < 256 ^ numberSize → headSize + R * rowSize ≤ length l
+    → viewRows 0 (sets (sets (sets l 0 (replicate (headSize + R * rowSize - 0) 0)) maxEntriesOffset (leBytes numberSize m)) defaultTtlOffset (leBytes numberSize t)) ≡ fresh R m t (drop (headSize + R * rowSize) l)
 unfolding viewRows fresh rowsOf zeroRows withHeadNumber
 fresh-view l R m t hm ht k =
     let n : ℕ = headSize + R * rowSize in
     let z : n - 0 ≡ n = omega arith in
     let x : List ℕ = sets l 0 (replicate n 0) in
     let c : (o w : ℕ) → o + w ≤ n → leNumber (cut o w x) ≡ 0 = λ o w p. ap leNumber (zero-cut o w n l p k) ∙ zero-number w in
-    rw z (head-store defaultTtlOffset t refl ht 0 (sets x 0 (leBytes 8 m)) (simp length-sets (omega arith))
-    ∙ ap (withHeadNumber defaultTtlOffset t) (head-store 0 m refl hm 0 x (simp length-sets (omega arith)))
-    ∙ rw (c 16 8 (omega arith), c 24 8 (omega arith), c rowCountOffset 8 (omega arith), zero-tail l R k))
+    rw z (head-store defaultTtlOffset t refl ht 0 (sets x maxEntriesOffset (leBytes numberSize m)) (simp length-sets (omega arith))
+    ∙ ap (withHeadNumber defaultTtlOffset t) (head-store maxEntriesOffset m refl hm 0 x (simp length-sets (omega arith)))
+    ∙ rw (c seqOffset numberSize (omega arith), c storedWeightOffset numberSize (omega arith), c rowCountOffset numberSize (omega arith), zero-tail l R k))

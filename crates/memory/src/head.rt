@@ -9,6 +9,7 @@ ghost use Rattle.rules.specs.Memory.{capacity, viewRows};
 ghost use Rattle.rules.specs.Layout.{headSize};
 ghost use Rattle.rules.specs.Records.{withSeq};
 ghost use Rattle.memory.specs.Edits.{withStoredWeight, withRowCount};
+ghost use Rattle.types.specs.Values.{largestNumber};
 
 // R: the rows that fit whole; 0 where the head doesn't fit.
 pub fn rows_that_fit(state: &[u8]) -> usize
@@ -65,7 +66,7 @@ fn set_seq(state: &mut [u8], n: usize, v: u64)
 
 // seq, raised by 1, for a new stamp.
 pub fn next_key(state: &mut [u8], n: usize) -> u64
-    requires { ⌜ (headSize ≤ length (now state)) × (viewRows n (now state) .seq < 18446744073709551615) ⌝ }
+    requires { ⌜ (headSize ≤ length (now state)) × (viewRows n (now state) .seq < largestNumber) ⌝ }
     ensures { λ r. ⌜ (r ≡ viewRows n (now (state .entry)) .seq + 1) × (viewRows n (now (state .exit)) ≡ withSeq r (viewRows n (now (state .entry)))) ⌝ }
 {
     let next = seq(state) + 1;

@@ -28,7 +28,7 @@ use Rattle.rules.proofs.Walks.{Roomed, room-roomed}
 use Rattle.rules.proofs.Moves.{ready, takeOut-sound}
 use Rattle.rules.proofs.Limits.{limitsOf, probationOf}
 use Rattle.rules.proofs.Others.{takeOut-gone, takeOut-seq, takeOut-limits, takeOut-main}
-use Rattle.rules.specs.Layout.{headSize, rowSize}
+use Rattle.rules.specs.Layout.{headSize, numberLimit, rowSize}
 use Rattle.rules.proofs.Foreign.{view-length}
 use Rattle.memory.proofs.Fields.{row-at}
 use Rattle.stamps.specs.declared.lowest.Lowest.the-variants.{Nothing}
@@ -87,7 +87,7 @@ module _ {k : NodeAddr} {n i : ℕ} {l m : List ℕ} (u : Out k n i l m) where
 
   pub out-room-asks : (time : ℕ) → viewRows n l .seq ≤ lastSeq
       → (headSize + (n - 1) * rowSize ≤ length m) × (sound (capacity m) (viewRows (n - 1) m) ≡ true)
-      × (viewRows (n - 1) m .seq + total (mainVisits time) (viewRows (n - 1) m .rows) < 18446744073709551616)
+      × (viewRows (n - 1) m .seq + total (mainVisits time) (viewRows (n - 1) m .rows) < numberLimit)
   out-room-asks time q = room-asks time (n - 1) m (out-without .sound) (out-seq q)
 
   module _ {x : List ℕ} {time w : ℕ} {r : RoomAnswer} (so : Sought m x (n - 1) time w r) where

@@ -8,6 +8,7 @@ use lib.ListN.{length}
 use Rattle.types.specs.declared.node_addr.NodeAddr.{NodeAddr}
 use Rattle.types.specs.declared.coord.Path.{Path}
 use Rattle.types.specs.Paths.{pathWeight}
+use Rattle.types.specs.Values.{largestNumber}
 use Rattle.rules.specs.Records.{State, maxRows, weightLimit}
 use Rattle.rules.specs.Room.{Walk, makeProbationRoom}
 use Rattle.rules.specs.Refusals.{lastSeq}
@@ -77,5 +78,5 @@ module _ {k : NodeAddr} {n : ℕ} {r : ProbationRoom} {l m : List ℕ} (s : Room
   probation-takes =
       let u = made .evicted in
       let v = victim-seq (r .victim) (viewRows n m) in
-      let q : viewRows n m .seq < 18446744073709551615 = omega (arith, u .stamps, u .done, s .stamps, ap (λ (x : State). x .seq) left-state) in
+      let q : viewRows n m .seq < largestNumber = omega (arith, u .stamps, u .done, s .stamps, ap (λ (x : State). x .seq) left-state) in
       left-takes (s .without) (s .size) (omega arith) (s .leaves) q free

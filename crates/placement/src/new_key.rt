@@ -13,12 +13,12 @@ use types::placed::HintOutcome;
 use types::placed::Placed;
 use types::placed::Segment;
 ghost use mathlib.Core.Path.{_≡_};
-ghost use Prim.Native.Nat.{_≤_};
+ghost use Prim.Native.Nat.{_*_, _≤_};
 ghost use Rattle.types.specs.Paths.{pathWeight};
 ghost use mathlib.Core.Bool.{false};
 ghost use Rattle.types.specs.declared.placed.Segment.the-variants.{Main};
 ghost use Rattle.types.specs.declared.placed.HintOutcome.the-variants.{Inserted};
-ghost use Rattle.rules.specs.Records.{byUse, weightLimit};
+ghost use Rattle.rules.specs.Records.{byUse, maxRows, weightLimit};
 ghost use Rattle.rules.specs.Refusals.{lastSeq};
 ghost use Rattle.rules.specs.Entries.{newEntry};
 ghost use Rattle.rules.specs.Room.{fileNew};
@@ -60,7 +60,7 @@ fn new_in_probation(
     unfunded: bool,
     before: u64,
 ) -> Placed
-    requires { ⌜ Without key n (now state) × Writable path × StampsLeft n (now state) × (before ≤ 4096) ⌝ }
+    requires { ⌜ Without key n (now state) × Writable path × StampsLeft n (now state) × (before ≤ 2 * maxRows) ⌝ }
     ensures { λ r. ⌜ Placing (newInProbation key (newEntry path time ttl) (pathWeight path) unfunded before (viewRows n (now (state .entry)))) r (now (state .exit)) ⌝ }
 {
     let w = row_weight(path);
@@ -103,7 +103,7 @@ fn new_without_room(
     funding: Funding,
     examined: u64,
 ) -> Placed
-    requires { ⌜ Without key n (now state) × Writable path × StampsLeft n (now state) × (examined ≤ 4096) ⌝ }
+    requires { ⌜ Without key n (now state) × Writable path × StampsLeft n (now state) × (examined ≤ 2 * maxRows) ⌝ }
     ensures { λ r. ⌜ Placing (newWithoutRoom funding key (newEntry path time ttl) (pathWeight path) (noRoom (viewRows n (now (state .entry))) examined)) r (now (state .exit)) ⌝ }
 {
     match funding {

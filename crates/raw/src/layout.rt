@@ -1,5 +1,6 @@
 // Where the fields of the lent memory stand, and how many bytes each has: sums of widths and places, as rules' Layout has them.
 use types::coord::PLACES;
+use types::node_addr::ADDRESS_BYTES;
 
 // Widths: a mark, code, length or weight; an MTU; a number of 64 bits; an address.
 pub const BYTE: usize = 1;
@@ -8,7 +9,7 @@ pub const MTU_BYTES: usize = 2;
 
 pub const NUMBER: usize = 8;
 
-pub const ADDRESS: usize = 16;
+pub const ADDRESS: usize = ADDRESS_BYTES;
 
 // In the head, and its size.
 pub const MAX_ENTRIES: usize = 0;
@@ -36,7 +37,7 @@ pub const PATH: usize = BYTE + PLACES * ELEMENT;
 // In a row, and its size.
 pub const ENTRY: usize = ADDRESS;
 
-pub const PLACES_AT: usize = ENTRY + BYTE;
+pub const PATH_PLACES: usize = ENTRY + BYTE;
 
 pub const CREATED_AT: usize = ENTRY + PATH;
 

@@ -11,7 +11,7 @@ use Rattle.rules.specs.Cases.{maybe}
 use Rattle.rules.specs.Records.{State}
 use Rattle.rules.specs.Sound.{sound}
 use Rattle.rules.specs.Calls.{Call, Refused, pathGiven, drawsStamps, verifiedWrite}
-use Rattle.rules.specs.Refusals.{Asked, refusal, badPath, seqSpent}
+use Rattle.rules.specs.Refusals.{Asked, refusal, badPath, seqSpent, lastSeq}
 use Rattle.rules.specs.Memory.{capacity, view}
 use Rattle.rules.specs.Lent.{call}
 use Rattle.rules.proofs.Refused.{refused-two, refused-three, write-allowed}
@@ -26,13 +26,13 @@ module _ (p : Path) (s : State) {b : Bool} (e : b ≡ badPath p) where
   bad-two h = rw (sym e ∙ h)
 
   module _ {q : ℕ} (h : b ≡ false) (v : q ≡ s .seq) where
-    pub spent-three : 18446744073709547519 < q → 3 ≡ writeRefusal p s
+    pub spent-three : lastSeq < q → 3 ≡ writeRefusal p s
     unfolding writeRefusal seqSpent
-    spent-three w = rw (sym e ∙ h, ← v, lt-ltb 18446744073709547519 q w)
+    spent-three w = rw (sym e ∙ h, ← v, lt-ltb lastSeq q w)
 
-    pub none-zero : q ≤ 18446744073709547519 → 0 ≡ writeRefusal p s
+    pub none-zero : q ≤ lastSeq → 0 ≡ writeRefusal p s
     unfolding writeRefusal seqSpent
-    none-zero w = rw (sym e ∙ h, ← v, le-ltb 18446744073709547519 q w)
+    none-zero w = rw (sym e ∙ h, ← v, le-ltb lastSeq q w)
 
 -- ---- a write that is refused, and one that goes on
 

@@ -10,6 +10,7 @@ use lib.Dec.{ltb}
 use lib.ListN.{length, length-append}
 use borrow.Author.Tests.{ltb-true, ltb-false, lt-ltb}
 use Rattle.rules.specs.Commands.{decimalDigits, decimal}
+use Rattle.rules.specs.Layout.{numberLimit}
 
 -- the last i digits of v
 unfoldable pub lastDigits : ℕ → ℕ → List ℕ
@@ -83,7 +84,7 @@ pub record Counted (v n r : ℕ) : Type 0 where
   pub below : r < 10 ^ (20 - n)
   pub all : n + turns (20 - n) r ≡ length (decimal v)
 
-pub count-start : (v : ℕ) → v < 18446744073709551616 → Counted v 1 (v / 10)
+pub count-start : (v : ℕ) → v < numberLimit → Counted v 1 (v / 10)
 unfolding decimal
 count-start v h = record { within = omega arith; below = omega arith; all = omega (arith, one-and-turns 19 v) }
 

@@ -8,6 +8,7 @@ use lib.ListN.{length, drop, getD, set, length-append, drop-of-length-le}
 use lib.Seq.{sets, set-comm, drop-cons}
 use Rattle.raw.proofs.StoreLaws.{sets-more}
 use Rattle.types.specs.declared.reply.Reply.{Reply}
+use Rattle.types.specs.Values.{space}
 use Rattle.rules.specs.Commands.{hexDigit, decimal, spaced, line, lineText}
 use Rattle.replies.proofs.Digits.{lastDigits, length-last, at-most}
 
@@ -35,7 +36,7 @@ digit-turn l m at (suc i) v h e = let p : suc i - 1 ≡ i = omega arith in rw p 
 
 -- ---- numbers after spaces
 
-spaced-next : (vs : List ℕ) (k : ℕ) → k < length vs → spaced (drop k vs) ≡ 32 ∷ (decimal (getD vs k 0) ++ spaced (drop (k + 1) vs))
+spaced-next : (vs : List ℕ) (k : ℕ) → k < length vs → spaced (drop k vs) ≡ space ∷ (decimal (getD vs k 0) ++ spaced (drop (k + 1) vs))
 unfolding spaced
 spaced-next vs k h = rw (drop-cons vs k 0 h, add-one)
 
@@ -52,7 +53,7 @@ pub record Written (l : List ℕ) (at : ℕ) (vs s : List ℕ) (end k : ℕ) : T
   pub text : sets s end (spaced (drop k vs)) ≡ sets l at (spaced vs)
 
 pub number-turn : (l : List ℕ) (at : ℕ) (vs s t : List ℕ) (end k n : ℕ) → k < length vs → n ≡ end + (1 + length (decimal (getD vs k 0)))
-    → t ≡ sets s end (32 ∷ decimal (getD vs k 0)) → Written l at vs s end k → Written l at vs t n (k + 1)
+    → t ≡ sets s end (space ∷ decimal (getD vs k 0)) → Written l at vs s end k → Written l at vs t n (k + 1)
 number-turn l at vs s t end k n h e f w =
     let d = decimal (getD vs k 0) in
     let r = spaced (drop (k + 1) vs) in
@@ -61,7 +62,7 @@ number-turn l at vs s t end k n h e f w =
       within = omega arith;
       room = omega (arith, w .room, at-most (getD vs k 0));
       size = omega (arith, w .size, ap length q, length-append d r);
-      text = goes-on s (32 ∷ d) r t end n (omega arith) f ∙ ap (sets s end) (sym q) ∙ w .text;
+      text = goes-on s (space ∷ d) r t end n (omega arith) f ∙ ap (sets s end) (sym q) ∙ w .text;
     }
 
 pub all-written : (l : List ℕ) (at : ℕ) (vs s : List ℕ) (end k : ℕ) → length vs ≤ k → Written l at vs s end k → (end ≡ at + length (spaced vs)) × (s ≡ sets l at (spaced vs))
@@ -86,14 +87,14 @@ line-fits at first end n v vs e f h k = omega (arith, at-most v, spaced-most vs)
 
 -- the stores of a line, as a caller of the two parts knows them, are its text
 pub line-written : (l : List ℕ) (at b : ℕ) (r : Reply) (x y first : ℕ) (s : List ℕ) (end : ℕ) (t : List ℕ) → x ≡ hexDigit (b / 16) → y ≡ hexDigit (b % 16)
-    → first ≡ at + 2 + (1 + length (decimal (r .refusal))) → s ≡ sets (set (set l at x) (at + 1) y) (at + 2) (32 ∷ decimal (r .refusal))
+    → first ≡ at + 2 + (1 + length (decimal (r .refusal))) → s ≡ sets (set (set l at x) (at + 1) y) (at + 2) (space ∷ decimal (r .refusal))
     → end ≡ first + length (spaced (r .values)) → t ≡ sets s first (spaced (r .values))
     → (end + 1 ≡ at + length (lineText (line b r))) × (set t end 10 ≡ sets l at (lineText (line b r)))
 unfolding lineText line spaced
 line-written l at b r x y first s end t ex ey ef es ee et =
     let d = decimal (r .refusal) in
     let vs = spaced (r .values) in
-    let head : List ℕ = x ∷ y ∷ 32 ∷ d in
+    let head : List ℕ = x ∷ y ∷ space ∷ d in
     let e1 : at + 1 ≡ suc at = omega arith in
     let e2 : at + 2 ≡ suc (suc at) = omega arith in
     let i : s ≡ sets l at head = rw (e1, e2) at es in

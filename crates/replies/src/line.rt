@@ -6,6 +6,7 @@ ghost use Prim.Native.Nat.{_+_, _≤_, _<_};
 ghost use lib.ListN.{length};
 ghost use lib.Seq.{sets};
 ghost use Rattle.rules.specs.Commands.{hexDigit, decimal, spaced, line, lineText};
+ghost use Rattle.types.specs.Values.{space};
 
 // Room for any line: two digits, six numbers of up to twenty digits after a space each, the line's end.
 pub const LINE: usize = 129;
@@ -49,7 +50,7 @@ fn put_decimal(out: &mut [u8], at: usize, v: u64) -> usize
 // A number after a space.
 fn put_number(out: &mut [u8], at: usize, v: u64) -> usize
     requires { ⌜ at + 21 ≤ length (now out) ⌝ }
-    ensures { λ r. ⌜ (r ≡ at + (1 + length (decimal v))) × (now (out .exit) ≡ sets (now (out .entry)) at (32 ∷ decimal v)) ⌝ }
+    ensures { λ r. ⌜ (r ≡ at + (1 + length (decimal v))) × (now (out .exit) ≡ sets (now (out .entry)) at (space ∷ decimal v)) ⌝ }
 {
     out[at] = b' ';
     put_decimal(out, at + 1, v)

@@ -13,7 +13,7 @@ use Rattle.rules.specs.Sound.{sound}
 use Rattle.rules.specs.Entries.{verified}
 use Rattle.rules.specs.Room.{Walk, Sought, mainVisits, visitsLeft, takeUp, restamp, park, stamp, raised, untouched, stale, returnLapsed, seek, sought, nextVictim, hasRoom, atNewPlace, setAside}
 use Rattle.rules.specs.Memory.{capacity, viewRows}
-use Rattle.rules.specs.Layout.{headSize, rowSize}
+use Rattle.rules.specs.Layout.{headSize, numberLimit, rowSize}
 use Rattle.rules.proofs.Limits.{maxOf}
 use Rattle.rules.proofs.Addresses.{contradiction}
 use Rattle.rules.proofs.RowLists.{by-cond, by-maybe, lowest-at, total-change}
@@ -153,7 +153,7 @@ pub record Choice (q : Call) (count stored i e : ℕ) (m : List ℕ) : Type 0 wh
   pub max : q .max ≡ given q .maxEntries
   pub most : q .max ≤ maxRows
   pub bound : q .w ≤ weightBound (q .max)
-  pub stamps : given q .seq + total (mainVisits (q .now)) (given q .rows) < 18446744073709551616
+  pub stamps : given q .seq + total (mainVisits (q .now)) (given q .rows) < numberLimit
   choosing : Choosing (q .now) (q .w) (given q) count stored (walkFrom (viewRows (q .n) m) e)
   pub last : LastAside (q .mains) count i (viewRows (q .n) m .rows)
 
@@ -167,7 +167,7 @@ module _ {q : Call} {count stored i e : ℕ} {m : List ℕ} (k : Choice q count 
   choice-test = sym (rw (k .choosing .mains, k .choosing .loads, k .max, ← ap maxOf (k .choosing .led .limits)))
 
   -- seq has room for the walk that is left
-  pub choice-seq : viewRows (q .n) m .seq + total (mainVisits (q .now)) (viewRows (q .n) m .rows) < 18446744073709551616
+  pub choice-seq : viewRows (q .n) m .seq + total (mainVisits (q .now)) (viewRows (q .n) m .rows) < numberLimit
   choice-seq = omega (arith, k .stamps, k .choosing .led .done, k .choosing .led .stamps)
 
   pub chosen-enough : {b : Bool} → b ≡ fits q count stored → b ≡ true →
@@ -178,7 +178,7 @@ module _ {q : Call} {count stored i e : ℕ} {m : List ℕ} (k : Choice q count 
   set-aside = record { mains = k .choosing .mains; weighs = k .choosing .loads; light = k .choosing .small; last = k .last }
 
 pub choice-start : (q : Call) {main : LowestOfMain} {stored i : ℕ} → headSize + q .n * rowSize ≤ length (q .memory) → sound (capacity (q .memory)) (given q) ≡ true →
-    given q .seq + total (mainVisits (q .now)) (given q .rows) < 18446744073709551616 → MainIs main (given q .rows) → q .mains ≡ main .count →
+    given q .seq + total (mainVisits (q .now)) (given q .rows) < numberLimit → MainIs main (given q .rows) → q .mains ≡ main .count →
     q .w ≤ weightBound (given q .maxEntries) → hasRoom (q .w) (given q) ≡ false → q .max ≡ viewRows 0 (q .memory) .maxEntries → stored ≡ viewRows 0 (q .memory) .storedWeight →
     Choice q (main .count) stored i 0 (q .memory) × MainIs main (given q .rows) × (fits q (main .count) stored ≡ false)
 choice-start q {main} {stored} {i} h z k m c b f em es =
@@ -210,7 +210,7 @@ pub record Victim (q : Call) (count stored e i : ℕ) (y : List ℕ) : Type 0 wh
 -- the walk for one victim came to memory y, and answered r
 pub record Came (q : Call) (count stored e : ℕ) (y : List ℕ) (r : VictimAnswer) : Type 0 where
   pub long : length y ≡ length (q .memory)
-  pub keys : e + r .examined < 18446744073709551616
+  pub keys : e + r .examined < numberLimit
   pub none-left : r .found ≡ Nothing → record { made = false; walk = walkFrom (viewRows (q .n) y) (e + r .examined) } ≡ choosing (q .now) (q .w) (walkFrom (given q) 0)
   pub victim : {i : ℕ} → r .found ≡ At i → Victim q count stored (e + r .examined) i y
 
@@ -273,6 +273,6 @@ came {q} {count} {stored} {last} {e} {m} {y} {r} c f len a =
     }
   where
     bound : (o : Option ℕ) → lowestOf (r .found) ≡ o →
-        Ends (q .now) (given q) (walkFrom (viewRows (q .n) m) e) (sought (lowestOf (r .found)) (walkFrom (viewRows (q .n) y) (e + r .examined))) → e + r .examined < 18446744073709551616
+        Ends (q .now) (given q) (walkFrom (viewRows (q .n) m) e) (sought (lowestOf (r .found)) (walkFrom (viewRows (q .n) y) (e + r .examined))) → e + r .examined < numberLimit
     bound none d k = omega (arith, c .stamps, k .ended d .led .done)
     bound (some i) d k = omega (arith, c .stamps, k .yields i d .0 .done)

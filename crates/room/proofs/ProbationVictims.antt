@@ -13,7 +13,7 @@ use Rattle.rules.specs.Rows.{rowAt, atPlace, inMain, inProbation, changeRow, wi
 use Rattle.rules.specs.Sound.{sound}
 use Rattle.rules.specs.Room.{Walk, takeUp, takeOut, restamp, stamp, raised, refiled, stale, probationVisits, evictBelow, makeProbationRoom}
 use Rattle.rules.specs.Memory.{capacity, viewRows}
-use Rattle.rules.specs.Layout.{headSize, rowSize}
+use Rattle.rules.specs.Layout.{headSize, numberLimit, rowSize}
 use Rattle.rules.proofs.RowLists.{core, cores, change-cores, lowest-at, total-change, total-some, total-without}
 use Rattle.rules.proofs.Limits.{limitsOf, probationOf}
 use Rattle.rules.proofs.SoundTest.{Sound, sound-is}
@@ -28,6 +28,7 @@ use Rattle.stamps.specs.Walked.{lowestOf, walkFrom, LowestIs}
 use Rattle.stamps.proofs.WalkLaws.{found-at, found-none}
 use Rattle.room.specs.Rooms.{LeftAt, Leaves, withoutVictim}
 use Rattle.room.proofs.LeftVictims.{at-none, at-one, left-at, without-none}
+use Rattle.types.specs.Values.{largestNumber}
 
 abbrev visits : State → ℕ
 visits s = total probationVisits (s .rows)
@@ -82,8 +83,8 @@ pub record Evicting (n e k : ℕ) (l m : List ℕ) : Type 0 where
   sound : Sound (capacity l) (viewRows n m)
   limits : limitsOf (viewRows n m) ≡ limitsOf (viewRows n l)
   same : evicting (probationLimit (viewRows n l)) (walkFrom (viewRows n l) 0) ≡ evicting (probationLimit (viewRows n l)) (walkFrom (viewRows n m) e)
-  keys : e + total probationVisits (viewRows n m .rows) < 18446744073709551616
-  stamps : viewRows n m .seq + total probationVisits (viewRows n m .rows) < 18446744073709551616
+  keys : e + total probationVisits (viewRows n m .rows) < numberLimit
+  stamps : viewRows n m .seq + total probationVisits (viewRows n m .rows) < numberLimit
   full : probationLimit (viewRows n l) ≤ probationCount (viewRows n m)
   stored : k ≡ viewRows n m .storedWeight
   cores : cores (viewRows n m .rows) ≡ cores (viewRows n l .rows)
@@ -103,7 +104,7 @@ module _ (n : ℕ) (l : List ℕ) {max bound : ℕ} {r : LowestStamp}
   room-free h = (sym (evict-done (probationLimit (viewRows n l)) (visits (viewRows n l)) (walkFrom (viewRows n l) 0) (rw (← limit, ← c .count) (lt-ltb (r .count) bound h))), at-none _ _ refl)
 
   pub evict-start : {k : ℕ} → headSize + n * rowSize ≤ length l → sound (capacity l) (viewRows n l) ≡ true →
-      viewRows n l .seq + total probationVisits (viewRows n l .rows) < 18446744073709551616 → k ≡ viewRows 0 l .storedWeight → bound ≤ r .count → Evicting n 0 k l l
+      viewRows n l .seq + total probationVisits (viewRows n l .rows) < numberLimit → k ≡ viewRows 0 l .storedWeight → bound ≤ r .count → Evicting n 0 k l l
   evict-start h z s q b =
       record {
         long = refl;
@@ -159,11 +160,11 @@ module _ {n e k i : ℕ} {l m : List ℕ} (u : Taken n e k i l m) where
   full : ltb (probationCount (viewRows n m)) (probationLimit (viewRows n l)) ≡ false
   full = le-ltb (probationCount (viewRows n m)) (probationLimit (viewRows n l)) (u .going .full)
 
-  pub key-fits : e + 1 < 18446744073709551616
+  pub key-fits : e + 1 < numberLimit
   key-fits = omega (arith, u .visit, u .going .keys)
 
   -- what restamp asks
-  pub restamp-asks : (i < n) × (headSize + n * rowSize ≤ length m) × (viewRows n m .seq < 18446744073709551615)
+  pub restamp-asks : (i < n) × (headSize + n * rowSize ≤ length m) × (viewRows n m .seq < largestNumber)
   restamp-asks = (u .inside, u .going .size, omega (arith, u .visit, u .going .stamps))
 
   pub stale-turn : {b : Bool} {x : List ℕ} → b ≡ stale (rowAt i (viewRows n m .rows)) → b ≡ true → length x ≡ length m → viewRows n x ≡ restamp i (viewRows n m) →

@@ -6,6 +6,7 @@ use mathlib.Core.Option.{none}
 use mathlib.Core.Bool.{true}
 use lib.ListN.{length}
 use Rattle.types.specs.declared.node_addr.NodeAddr.{NodeAddr}
+use Rattle.types.specs.Values.{largestNumber}
 use Rattle.rules.specs.Records.{Row, State, probation, aside, maxRows, weightLimit}
 use Rattle.rules.specs.Rows.{rowAt, atPlace, inMain, find, withoutRow, total, weighRows, mainCount, mainWeight}
 use Rattle.rules.specs.Sound.{sound, ascends}
@@ -63,4 +64,4 @@ pub record Without (k : NodeAddr) (n : ℕ) (l : List ℕ) : Type 0 where
 
 -- enough stamps for room in probation and a row filed
 abbrev pub StampsLeft : ℕ → List ℕ → Type 0
-StampsLeft n l = viewRows n l .seq + total probationVisits (viewRows n l .rows) < 18446744073709551615
+StampsLeft n l = viewRows n l .seq + total probationVisits (viewRows n l .rows) < largestNumber

@@ -13,7 +13,7 @@ ghost use Rattle.rules.specs.Rows.{total};
 ghost use Rattle.rules.specs.Sound.{sound};
 ghost use Rattle.rules.specs.Room.{probationVisits, makeProbationRoom};
 ghost use Rattle.rules.specs.Memory.{capacity, viewRows};
-ghost use Rattle.rules.specs.Layout.{headSize, rowSize};
+ghost use Rattle.rules.specs.Layout.{headSize, numberLimit, rowSize};
 ghost use Rattle.stamps.specs.Walked.{walkFrom};
 ghost use Rattle.room.specs.Rooms.{withoutVictim, Leaves};
 
@@ -27,7 +27,7 @@ pub struct ProbationRoom {
 // Where probation rows ≥ Q the lowest stamp is taken up, and restamped if stale. The first that is not is the victim, and the only one,
 // since a sound state has at most Q; it is left for the row that takes its place.
 pub fn make_probation_room(state: &mut [u8], n: usize) -> ProbationRoom
-    requires { ⌜ (headSize + n * rowSize ≤ length (now state)) × (sound (capacity (now state)) (viewRows n (now state)) ≡ true) × (viewRows n (now state) .seq + total probationVisits (viewRows n (now state) .rows) < 18446744073709551616) ⌝ }
+    requires { ⌜ (headSize + n * rowSize ≤ length (now state)) × (sound (capacity (now state)) (viewRows n (now state)) ≡ true) × (viewRows n (now state) .seq + total probationVisits (viewRows n (now state) .rows) < numberLimit) ⌝ }
     ensures { λ r. ⌜ (walkFrom (withoutVictim (r .victim) (viewRows n (now (state .exit)))) (r .examined) ≡ makeProbationRoom (viewRows n (now (state .entry)))) × Leaves (r .victim) (r .stored) (viewRows n (now (state .entry)) .rows) (viewRows n (now (state .exit)) .rows) ⌝ }
 {
     let bound = probation_bound(memory::head::max_entries(state));

@@ -4,6 +4,7 @@ use crate::closed_form::cut_to_bound;
 use crate::closed_form::has_room;
 use memory::codes::ASIDE;
 use memory::codes::BY_USE;
+use raw::layout::ADDRESS;
 use stamps::lowest::Lowest;
 use stamps::lowest::LowestOfMain;
 use stamps::lowest::lowest_of_main;
@@ -19,7 +20,7 @@ ghost use Rattle.rules.specs.Rows.{atPlace, changeRow, keepRows, withRows, with
 ghost use Rattle.rules.specs.Sound.{sound};
 ghost use Rattle.rules.specs.Room.{mainVisits, hasRoom, atNewPlace, putBack, chooseVictims, makeRoom};
 ghost use Rattle.rules.specs.Memory.{capacity, viewRows};
-ghost use Rattle.rules.specs.Layout.{headSize, rowSize};
+ghost use Rattle.rules.specs.Layout.{headSize, numberLimit, rowSize};
 ghost use Rattle.stamps.specs.declared.lowest.Lowest.the-variants.{Nothing};
 ghost use Rattle.stamps.specs.Walked.{walkFrom, MainIs};
 ghost use Rattle.retention.specs.Sweep.{PathsFit};
@@ -58,7 +59,7 @@ fn set_place(state: &mut [u8], n: usize, i: usize, place: u8)
 // Victims are set aside until there is room for w, or none is left. At the start there is no room, and `lowest` is of the rows as they
 // then are.
 fn choose_victims(state: &mut [u8], n: usize, lowest: LowestOfMain, w: u64, time: u64) -> Chosen
-    requires { ⌜ (headSize + n * rowSize ≤ length (now state)) × (sound (capacity (now state)) (viewRows n (now state)) ≡ true) × (viewRows n (now state) .seq + total (mainVisits time) (viewRows n (now state) .rows) < 18446744073709551616) × MainIs lowest (viewRows n (now state) .rows) × (w ≤ weightBound (viewRows n (now state) .maxEntries)) × (hasRoom w (viewRows n (now state)) ≡ false) ⌝ }
+    requires { ⌜ (headSize + n * rowSize ≤ length (now state)) × (sound (capacity (now state)) (viewRows n (now state)) ≡ true) × (viewRows n (now state) .seq + total (mainVisits time) (viewRows n (now state) .rows) < numberLimit) × MainIs lowest (viewRows n (now state) .rows) × (w ≤ weightBound (viewRows n (now state) .maxEntries)) × (hasRoom w (viewRows n (now state)) ≡ false) ⌝ }
     ensures { λ r. ⌜ (chosenOf r (viewRows n (now (state .exit))) ≡ chooseVictims (suc (mainCount (viewRows n (now (state .entry))))) time w (walkFrom (viewRows n (now (state .entry))) 0)) × (r .made ≡ true → SetAside (lowest .count) r (viewRows n (now (state .exit)))) ⌝ }
 {
     let max = memory::head::max_entries(state);
@@ -128,7 +129,7 @@ fn drop_aside(state: &mut [u8], n: usize) -> usize
     requires { ⌜ (n ≤ maxRows) × (headSize + n * rowSize ≤ length (now state)) × PathsFit (viewRows n (now state) .rows) ⌝ }
     ensures { λ r. ⌜ (r ≤ n) × (viewRows r (now (state .exit)) ≡ withOnlyRows (keepRows (λ x. not (atPlace aside x)) (viewRows n (now (state .entry)) .rows)) (viewRows n (now (state .entry)))) ⌝ }
 {
-    let none = NodeAddr([0u8; 16]);
+    let none = NodeAddr([0u8; ADDRESS]);
     retention::rows::retain_rows(state, n, retention::rows::SET_ASIDE, 0, none)
 }
 
@@ -148,7 +149,7 @@ fn room_there(rows: usize, stored: u64) -> Room
 // Room for w in main; where one victim is enough, it is left aside. Where there is room nothing is written, and main is not counted
 // where all rows are fewer than max_entries; where room can't be made no row leaves.
 pub fn make_room(state: &mut [u8], n: usize, w: u64, time: u64) -> Room
-    requires { ⌜ (headSize + n * rowSize ≤ length (now state)) × (sound (capacity (now state)) (viewRows n (now state)) ≡ true) × (viewRows n (now state) .seq + total (mainVisits time) (viewRows n (now state) .rows) < 18446744073709551616) ⌝ }
+    requires { ⌜ (headSize + n * rowSize ≤ length (now state)) × (sound (capacity (now state)) (viewRows n (now state)) ≡ true) × (viewRows n (now state) .seq + total (mainVisits time) (viewRows n (now state) .rows) < numberLimit) ⌝ }
     ensures { λ r. ⌜ (roomOf r (viewRows (r .rows) (now (state .exit))) ≡ makeRoom time w (viewRows n (now (state .entry)))) × (r .rows ≤ n) × Leaves (r .victim) (r .stored) (viewRows n (now (state .entry)) .rows) (viewRows (r .rows) (now (state .exit)) .rows) × (r .made ≡ false → r .victim ≡ Nothing) ⌝ }
 {
     let max = memory::head::max_entries(state);

@@ -71,27 +71,7 @@ pub(crate) fn write_row(s: &mut [u8], at: usize, r: NewRow)
 {
     values::store_addr(s, at, r.key);
     values::store_path(s, at + layout::ENTRY, r.path);
-    write_times(
-        s,
-        at,
-        r.created_at,
-        r.last_used,
-        r.expires_at,
-    );
-    write_marks(
-        s,
-        at,
-        r.mtu_mark,
-        r.mtu,
-        r.source,
-        r.verified_until,
-    );
-    write_stamp(
-        s,
-        at,
-        r.place,
-        r.stamp_first,
-        r.stamp_seq,
-        r.weight,
-    );
+    write_times(s, at, r.created_at, r.last_used, r.expires_at);
+    write_marks(s, at, r.mtu_mark, r.mtu, r.source, r.verified_until);
+    write_stamp(s, at, r.place, r.stamp_first, r.stamp_seq, r.weight);
 }

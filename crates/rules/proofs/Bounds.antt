@@ -15,7 +15,7 @@ use Rattle.rules.specs.Sound.{sound}
 use Rattle.rules.specs.Room.{makeProbationRoom, makeRoom, roomCanBeMade}
 use Rattle.rules.specs.Placement.{withoutKey}
 use Rattle.rules.specs.Calls.{Call, Refused, VerifiedWrite, examinedOf, verifiedWrite}
-use Rattle.rules.specs.Refusals.{Step, gives, keyInMain, noPlaceFor, step}
+use Rattle.rules.specs.Refusals.{Step, gives, keyInMain, noPlaceFor, stampsOfCall, step}
 use Rattle.rules.proofs.Addresses.{contradiction}
 use Rattle.rules.proofs.SoundTest.{is-sound, sound-is}
 use Rattle.rules.proofs.Walks.{room-roomed}
@@ -62,7 +62,7 @@ step-examined R s q = by-step R s q (λ (t : Step). examinedOf (t .answer) ≤ 2
     (λ l. let h = sound-is R s (l .sound) in omega (arith, perform-keeps R s q l .seen, both-segments (s .seq) (s .rows) (h .each)))
 
 -- A CALL RAISES seq BY LESS THAN 4,096
-pub step-stamps : (R : ℕ) (s : State) (q : Call) → step R s q .state .seq < s .seq + 4096
+pub step-stamps : (R : ℕ) (s : State) (q : Call) → step R s q .state .seq < s .seq + stampsOfCall
 unfolding gives
-step-stamps R s q = by-step R s q (λ (t : Step). t .state .seq < s .seq + 4096) (λ n. omega arith)
+step-stamps R s q = by-step R s q (λ (t : Step). t .state .seq < s .seq + stampsOfCall) (λ n. omega arith)
     (λ l. let h = sound-is R s (l .sound) in let g = perform-keeps R s q l in omega (arith, g .stamps, g .seen, h .small, h .space, h .mains, h .probations))

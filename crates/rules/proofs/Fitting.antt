@@ -23,7 +23,7 @@ use Rattle.rules.specs.Room.{Room, fileNew, makeProbationRoom, makeRoom,
 use Rattle.rules.specs.Placement.{PlaceResult, grow, insertVerified, newInProbation, newWithoutRoom, placeHeld, placeHint, placeMain, placeNew, placeProbation, placeResult, promote, rejected, staysVerified, verifiedEntry, withoutKey}
 use Rattle.rules.specs.Lookups.{clearPathMtu, demoted, rewrite, sweep, touched, withEntry}
 use Rattle.rules.specs.Calls.{Call, Clear, ClearPathMtu, Demote, Get, GetAndTouch, Insert, InsertFunded, InsertStated, InsertVerified, InsertVerifiedWithPathMtu, InsertWithTtl, InvalidateOtherRoots, InvalidateViaNode, NextExpiry, PurgeExpired, Remove, Stats, drawsStamps, pathGiven}
-use Rattle.rules.specs.Refusals.{Step, badPath, fresh, gives, hinted, perform, seqSpent, step, sweeps, verifies}
+use Rattle.rules.specs.Refusals.{Step, badPath, fresh, gives, hinted, lastSeq, perform, seqSpent, step, sweeps, verifies}
 use Rattle.rules.specs.Lent.{AddrFits, Bytes, PathFits, Small, Typed, WriteFits}
 use Rattle.rules.proofs.Addresses.{contradiction}
 use Rattle.rules.proofs.RowLists.{by-cond, by-maybe, every-at, find-at}
@@ -36,22 +36,22 @@ use Rattle.rules.proofs.Refused.{Allowed, by-step}
 use Rattle.rules.proofs.CallsKeep.{path-ok}
 use Rattle.rules.proofs.SoundKept.{perform-keeps}
 use Rattle.rules.proofs.Sizes.{Lasting, Sized, change-sized, file-sized, fits-sized, keep-sized, only-sized, probation-sized, refile-sized, room-sized, sized-fits, small8, small8-less, sum-small, takeOut-sized, zero-bytes, zero-length}
-use Rattle.rules.specs.Layout.{headSize, rowSize}
+use Rattle.rules.specs.Layout.{headSize, mtuSize, numberLimit, numberSize, rowSize}
 
 -- ---- entries as calls make and change them
 
-zero8 : Small 8 0
+zero8 : Small numberSize 0
 zero8 = small8 0 (omega arith)
 
-update-fits : (p : Path) (now ttl : ℕ) (e : Entry) → PathOk p → PathFits p → Small 8 now → EntryFits e → EntryFits (update p now ttl e)
+update-fits : (p : Path) (now ttl : ℕ) (e : Entry) → PathOk p → PathFits p → Small numberSize now → EntryFits e → EntryFits (update p now ttl e)
 unfolding update
 update-fits p now ttl e o f n h = source-fits hintSource 0 _ (omega arith) zero8 (times-fit now (addTimes now ttl) _ n (sum-small now ttl) (path-fits p e f (o .short) h))
 
-new-fits : (p : Path) (now ttl : ℕ) → PathOk p → PathFits p → Small 8 now → EntryFits (newEntry p now ttl)
+new-fits : (p : Path) (now ttl : ℕ) → PathOk p → PathFits p → Small numberSize now → EntryFits (newEntry p now ttl)
 unfolding newEntry
 new-fits p now ttl o f n = update-fits p now ttl (emptyEntry now) o f n (empty-fits now n)
 
-refresh-fits : (now ttl : ℕ) (e : Entry) → Small 8 now → EntryFits e → EntryFits (refresh now ttl e)
+refresh-fits : (now ttl : ℕ) (e : Entry) → Small numberSize now → EntryFits e → EntryFits (refresh now ttl e)
 unfolding refresh
 refresh-fits now ttl e n h = times-fit now (addTimes now ttl) e n (sum-small now ttl) h
 
@@ -63,7 +63,7 @@ hint-fits : (e : Entry) → EntryFits e → EntryFits (markHint e)
 unfolding markHint
 hint-fits e h = source-fits hintSource 0 e (omega arith) zero8 h
 
-setMtu-fits : (m : ℕ) (e : Entry) → Small 2 m → EntryFits e → EntryFits (setMtu m e)
+setMtu-fits : (m : ℕ) (e : Entry) → Small mtuSize m → EntryFits e → EntryFits (setMtu m e)
 unfolding setMtu
 setMtu-fits m e s h = mtu-fits someMtu m e (omega arith) s h
 
@@ -93,7 +93,7 @@ module _ (R B : ℕ) (l : R * rowSize ≤ B) (k : NodeAddr) (kf : AddrFits k) wh
   without-keeps Uncharged e w m f h g = h
   without-keeps (Upto n) e w m f h g = probation-keeps (m .state) e w false (m .examined) f h g
 
-  module _ (p : Path) (now ttl : ℕ) (fu : Funding) (po : PathOk p) (pf : PathFits p) (ns : Small 8 now) where
+  module _ (p : Path) (now ttl : ℕ) (fu : Funding) (po : PathOk p) (pf : PathFits p) (ns : Small numberSize now) where
     placeNew-keeps : (s : State) → Sized B s → KeepsSize (placeNew k p now ttl fu s)
     unfolding placeNew placeResult
     placeNew-keeps s h =
@@ -145,14 +145,14 @@ module _ (R B : ℕ) (l : R * rowSize ≤ B) (k : NodeAddr) (kf : AddrFits k) wh
   unfolding withoutKey
   withoutKey-sized s h = by-maybe (Sized B) (find k (s .rows)) (λ e. h) (λ i e. takeOut-sized B i s h)
 
-  entry-fits : (p : Path) (now : ℕ) (mtu : Option ℕ) (s : State) → PathOk p → PathFits p → Small 8 now → ((m : ℕ) → mtu ≡ some m → Small 2 m) → Sized B s → EntryFits (verifiedEntry k p now mtu s)
+  entry-fits : (p : Path) (now : ℕ) (mtu : Option ℕ) (s : State) → PathOk p → PathFits p → Small numberSize now → ((m : ℕ) → mtu ≡ some m → Small mtuSize m) → Sized B s → EntryFits (verifiedEntry k p now mtu s)
   unfolding verifiedEntry
   entry-fits p now mtu s po pf ns ms h =
       let base : EntryFits (maybe (find k (s .rows)) (newEntry p now (s .defaultTtl)) (λ i. update p now (s .defaultTtl) (rowAt i (s .rows) .entry))) = by-maybe EntryFits (find k (s .rows)) (λ e. new-fits p now (s .defaultTtl) po pf ns) (λ i e. update-fits p now (s .defaultTtl) (rowAt i (s .rows) .entry) po pf ns (held-fits B i s h (find-at k (s .rows) i e .inside))) in
       let v = verified-fits now _ base in
       by-maybe EntryFits mtu (λ e. v) (λ m e. setMtu-fits m _ (ms m e) v)
 
-  insertVerified-sized : (p : Path) (now : ℕ) (mtu : Option ℕ) (s : State) → PathOk p → PathFits p → Small 8 now → ((m : ℕ) → mtu ≡ some m → Small 2 m) → Sized B s → Sound R (insertVerified k p now mtu s .state) → Sized B (insertVerified k p now mtu s .state)
+  insertVerified-sized : (p : Path) (now : ℕ) (mtu : Option ℕ) (s : State) → PathOk p → PathFits p → Small numberSize now → ((m : ℕ) → mtu ≡ some m → Small mtuSize m) → Sized B s → Sound R (insertVerified k p now mtu s .state) → Sized B (insertVerified k p now mtu s .state)
   unfolding insertVerified
   insertVerified-sized p now mtu s po pf ns ms h g = filed (makeRoom now (pathWeight p) (withoutKey k s) .state) (verifiedEntry k p now mtu s) (pathWeight p) byUse (entry-fits p now mtu s po pf ns ms h) (room-sized B now (pathWeight p) (withoutKey k s) (withoutKey-sized s h)) g
 
@@ -160,7 +160,7 @@ module _ (R B : ℕ) (l : R * rowSize ≤ B) (k : NodeAddr) (kf : AddrFits k) wh
   unfolding rewrite withRows withEntry
   rewrite-sized f i s g h = change-sized B s (rewrite f i s) (λ r. withEntry (f (r .entry)) r) i (λ o. record { key = o .key; entry = g _ (o .entry); stampFirst = o .stampFirst }) refl refl h
 
-  touched-sized : (now : ℕ) (s : State) → Small 8 now → Sized B s → Sized B (touched k now s)
+  touched-sized : (now : ℕ) (s : State) → Small numberSize now → Sized B s → Sized B (touched k now s)
   unfolding touched
   touched-sized now s n h = by-maybe (Sized B) (find k (s .rows)) (λ e. h) (λ i e. by-cond (Sized B) (expired now (rowAt i (s .rows) .entry)) (λ x. takeOut-sized B i s h) (λ x. rewrite-sized (refresh now (s .defaultTtl)) i s (λ e. refresh-fits now (s .defaultTtl) e n) h))
 
@@ -182,7 +182,7 @@ module _ (R B : ℕ) (l : R * rowSize ≤ B) (s : State) (h : Sized B s) where
   unfolding hinted gives
   hint-sized k p t ttl f st w e = placeHint-keeps R B l k (w .key) p t ttl f (path-ok p e) (w .path) (w .time) s st h
 
-  verify-sized : (k : NodeAddr) (p : Path) (t : ℕ) (mtu : Option ℕ) → WriteFits k p t → badPath p ≡ false → ((m : ℕ) → mtu ≡ some m → Small 2 m) → StepKeepsSize (verifies k p t mtu s)
+  verify-sized : (k : NodeAddr) (p : Path) (t : ℕ) (mtu : Option ℕ) → WriteFits k p t → badPath p ≡ false → ((m : ℕ) → mtu ≡ some m → Small mtuSize m) → StepKeepsSize (verifies k p t mtu s)
   unfolding verifies gives
   verify-sized k p t mtu w e ms = insertVerified-sized R B l k (w .key) p t mtu s (path-ok p e) (w .path) (w .time) ms h
 
@@ -197,7 +197,7 @@ module _ (R B : ℕ) (l : R * rowSize ≤ B) (s : State) (h : Sized B s) where
   perform-sized (InsertFunded k p t f) w e = hint-sized k p t (s .defaultTtl) f false w e
   perform-sized (InsertStated k p t f) w e = hint-sized k p t (s .defaultTtl) f (startsAt k p) w e
   perform-sized (InsertVerified k p t) w e = verify-sized k p t none w e (λ m e. contradiction {b = true} refl (cc))
-  perform-sized (InsertVerifiedWithPathMtu k p t m) w e = verify-sized k p t (some m) (w .0) e (λ n e. let z : m ≡ n = cc in subst (Small 2) z (w .1))
+  perform-sized (InsertVerifiedWithPathMtu k p t m) w e = verify-sized k p t (some m) (w .0) e (λ n e. let z : m ≡ n = cc in subst (Small mtuSize) z (w .1))
   perform-sized (Get k t) w e = λ g. h
   perform-sized (GetAndTouch k t) w e = λ g. touched-sized R B l k (w .0) t s (w .1) h
   perform-sized (Remove k) w e = λ g. withoutKey-sized R B l k w s h
@@ -245,30 +245,30 @@ no-stamps s (InvalidateOtherRoots a) h = refl
 no-stamps s (Stats t) h = refl
 no-stamps s NextExpiry h = refl
 
-not-spent : (s : State) → seqSpent s ≡ false → s .seq ≤ 18446744073709547519
+not-spent : (s : State) → seqSpent s ≡ false → s .seq ≤ lastSeq
 unfolding seqSpent
-not-spent s h = omega (arith, ltb-false 18446744073709547519 (s .seq) h)
+not-spent s h = omega (arith, ltb-false lastSeq (s .seq) h)
 
 -- NO STAMP PASSES 2^64 − 1
-pub seq-bounded : (R : ℕ) (s : State) (q : Call) → s .seq < 18446744073709551616 → step R s q .state .seq < 18446744073709551616
+pub seq-bounded : (R : ℕ) (s : State) (q : Call) → s .seq < numberLimit → step R s q .state .seq < numberLimit
 unfolding gives
-seq-bounded R s q l = by-step R s q (λ (t : Step). t .state .seq < 18446744073709551616) (λ n. l) (λ a. go a (drawsStamps q) refl (seqSpent s) refl (a .stamps))
+seq-bounded R s q l = by-step R s q (λ (t : Step). t .state .seq < numberLimit) (λ n. l) (λ a. go a (drawsStamps q) refl (seqSpent s) refl (a .stamps))
   where
-    go : Allowed R s q → (d : Bool) → drawsStamps q ≡ d → (w : Bool) → seqSpent s ≡ w → d && w ≡ false → perform s q .state .seq < 18446744073709551616
+    go : Allowed R s q → (d : Bool) → drawsStamps q ≡ d → (w : Bool) → seqSpent s ≡ w → d && w ≡ false → perform s q .state .seq < numberLimit
     go a true e true f g = contradiction {b = true} refl g
     go a true e false f g = let h = sound-is R s (a .sound) in let k = perform-keeps R s q a in omega (arith, k .stamps, k .seen, h .small, h .space, h .mains, h .probations, not-spent s f)
     go a false e w f g = omega (arith, no-stamps s q e)
 
 -- ---- every call keeps what fits
 
-perform-fits : (R L : ℕ) (s : State) (q : Call) → headSize ≤ L → R * rowSize ≤ L - headSize → Typed q → Fits L s → Allowed R s q → perform s q .state .seq < 18446744073709551616 → Fits L (perform s q .state)
+perform-fits : (R L : ℕ) (s : State) (q : Call) → headSize ≤ L → R * rowSize ≤ L - headSize → Typed q → Fits L s → Allowed R s q → perform s q .state .seq < numberLimit → Fits L (perform s q .state)
 perform-fits R L s q a l g h o b = let k = perform-keeps R s q o in sized-fits R L (perform s q .state) a (k .sound) (perform-sized R (L - headSize) l s (fits-sized L s h) q g (o .path) (k .sound)) (rw (k .demand .defaultTtl) (h .defaultTtl)) b
 
 pub step-fits : (R L : ℕ) (s : State) (q : Call) → headSize ≤ L → R * rowSize ≤ L - headSize → Typed q → Fits L s → Fits L (step R s q .state)
 unfolding gives
-step-fits R L s q a l g h = by-step R s q (λ (t : Step). (t .state .seq < 18446744073709551616) → Fits L (t .state)) (λ n b. h) (λ o b. perform-fits R L s q a l g h o b) (seq-bounded R s q (small8-less (s .seq) (h .seq)))
+step-fits R L s q a l g h = by-step R s q (λ (t : Step). (t .state .seq < numberLimit) → Fits L (t .state)) (λ n b. h) (λ o b. perform-fits R L s q a l g h o b) (seq-bounded R s q (small8-less (s .seq) (h .seq)))
 
 -- a fresh state fits
-pub fresh-fits : (R m ttl : ℕ) (tail : List ℕ) → Small 8 m → Small 8 ttl → Bytes tail → Fits (headSize + R * rowSize + length tail) (fresh R m ttl tail)
+pub fresh-fits : (R m ttl : ℕ) (tail : List ℕ) → Small numberSize m → Small numberSize ttl → Bytes tail → Fits (headSize + R * rowSize + length tail) (fresh R m ttl tail)
 unfolding fresh
 fresh-fits R m ttl tail a b c = record { maxEntries = a; defaultTtl = b; seq = zero8; storedWeight = zero8; rowCount = zero8; counted = refl; rows = tt; rest = bytes-append (zeroRows R) tail (zero-bytes R) c; size = rw (length-append (zeroRows R) tail, zero-length R) (omega arith) }

@@ -33,7 +33,7 @@ use Rattle.rules.proofs.SoundKept.{step-sound}
 use Rattle.rules.proofs.Sizes.{small8-less}
 use Rattle.rules.proofs.Foreign.{row-of-rows, rows-of-length}
 use Rattle.rules.proofs.LentMemory.{answer-is, capacity-same, head-fits, lent-request}
-use Rattle.rules.specs.Layout.{coordEntrySize, entryOffset, entrySize, headSize, placesInRow, rowSize}
+use Rattle.rules.specs.Layout.{coordEntrySize, entryOffset, entrySize, headSize, placesInRow, placesOffset, rowSize}
 
 -- the bytes of the first n of m elements
 entries-front : (n m : ℕ) (l : List ℕ) → n ≤ m → m * coordEntrySize ≤ length l → Bytes l → coordEntriesBytes (take n (coordEntriesOf m l)) ≡ take (n * coordEntrySize) l
@@ -57,10 +57,10 @@ unfolding rowOf entryOf pathOf
 path-in-row n c h g b =
     let e = cut entryOffset entrySize c in
     let k : length e ≡ entrySize = length-cut entryOffset entrySize c (omega arith) in
-    let d : pathPlaces * coordEntrySize ≤ length (drop 1 e) = rw length-drop (omega arith) in
-    entries-front n pathPlaces (drop 1 e) h d (bytes-drop 1 e (bytes-cut entryOffset entrySize c b))
-    ∙ cut-front 1 (n * coordEntrySize) entrySize (drop 16 c) (omega arith)
-    ∙ ap (take (n * coordEntrySize)) (drop-drop 1 16 c)
+    let d : pathPlaces * coordEntrySize ≤ length (drop placesOffset e) = rw length-drop (omega arith) in
+    entries-front n pathPlaces (drop placesOffset e) h d (bytes-drop placesOffset e (bytes-cut entryOffset entrySize c b))
+    ∙ cut-front placesOffset (n * coordEntrySize) entrySize (drop entryOffset c) (omega arith)
+    ∙ ap (take (n * coordEntrySize)) (drop-drop placesOffset entryOffset c)
 
 -- row i's path, in the memory
 path-in-memory : (i n : ℕ) (l : List ℕ) → headSize ≤ length l → Bytes l → i < length (view l .rows) → n ≤ pathPlaces → coordEntriesBytes (take n (rowAt i (view l .rows) .entry .path .entries)) ≡ pathPart i n l

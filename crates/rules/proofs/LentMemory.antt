@@ -26,7 +26,7 @@ use Rattle.rules.proofs.SoundKept.{fresh-sound, step-sound}
 use Rattle.rules.proofs.ThirdDemand.{third-demand}
 use Rattle.rules.proofs.Fitting.{fresh-fits, step-fits}
 use Rattle.rules.proofs.Foreign.{memory-bytes, rows-of-length, view-fits}
-use Rattle.rules.specs.Layout.{headSize, rowSize}
+use Rattle.rules.specs.Layout.{headSize, numberSize, rowSize}
 
 -- ---- one request
 
@@ -75,7 +75,7 @@ size-allowed R m h = go (ltb maxRows R) (ltb R (m + probationBound m)) refl h
     go false true e g = contradiction {b = true} refl g
     go false false e g = omega (arith, ltb-false R (m + probationBound m) e)
 
-fresh-leaves : (l : List ℕ) (m ttl : ℕ) → Bytes l → Small 8 m → Small 8 ttl → Leaves l (serve (capacity l) (view l) (Fresh m ttl))
+fresh-leaves : (l : List ℕ) (m ttl : ℕ) → Bytes l → Small numberSize m → Small numberSize ttl → Leaves l (serve (capacity l) (view l) (Fresh m ttl))
 unfolding gives wasRefused performRequest
 fresh-leaves l m ttl b hm ht = by-serve (capacity l) (view l) (Fresh m ttl) (Leaves l) (λ n e. (b, refl, refl))
     (λ e. let h = head-fits l (omega (arith, size-allowed (capacity l) m (fresh-allowed (capacity l) m ttl (view l) e))) in
@@ -186,7 +186,7 @@ pub record Freshened (l : List ℕ) (m ttl : ℕ) : Type 0 where
   pub sound : sound (capacity l) (fresh (capacity l) m ttl (tailOf l)) ≡ true
   pub state : view (lent l (Fresh m ttl) .memory) ≡ fresh (capacity l) m ttl (tailOf l)
 
-pub freshened : (l : List ℕ) (m ttl : ℕ) → Bytes l → Small 8 m → Small 8 ttl → wasRefused (lent l (Fresh m ttl) .answer) ≡ false → Freshened l m ttl
+pub freshened : (l : List ℕ) (m ttl : ℕ) → Bytes l → Small numberSize m → Small numberSize ttl → wasRefused (lent l (Fresh m ttl) .answer) ≡ false → Freshened l m ttl
 freshened l m ttl b hm ht h =
     let c = lent-request l (Fresh m ttl) b (hm, ht) in
     let f = fresh-done l m ttl h in
@@ -198,14 +198,14 @@ never-one R s [] h = tt
 never-one R s (q ∷ qs) h = (λ e. let z = given-exactly R s q .one .0 e in contradiction h z, never-one R (step R s q .state) qs (step-sound R s q h))
 
 -- AFTER A DONE FRESH NO CALL IS REFUSED BY 1
-pub fresh-never-one : (l : List ℕ) (m ttl : ℕ) (qs : List Call) → Bytes l → Small 8 m → Small 8 ttl → Every Typed qs → wasRefused (lent l (Fresh m ttl) .answer) ≡ false → Every (λ e. e .answer ≡ Refused 1 → ⊥) (calls (lent l (Fresh m ttl) .memory) qs .events)
+pub fresh-never-one : (l : List ℕ) (m ttl : ℕ) (qs : List Call) → Bytes l → Small numberSize m → Small numberSize ttl → Every Typed qs → wasRefused (lent l (Fresh m ttl) .answer) ≡ false → Every (λ e. e .answer ≡ Refused 1 → ⊥) (calls (lent l (Fresh m ttl) .memory) qs .events)
 fresh-never-one l m ttl qs b hm ht g h =
     let f = freshened l m ttl b hm ht h in
     let k = calls-run (lent l (Fresh m ttl) .memory) qs (lent-request l (Fresh m ttl) b (hm, ht) .bytes) g in
     rw (k .events, f .size, f .state) (never-one (capacity l) (fresh (capacity l) m ttl (tailOf l)) qs (f .sound))
 
 -- THE THIRD DEMAND OF THE BYTES: for every list of calls, from any memory of bytes on which fresh was done
-pub third-demand-of-bytes : (l : List ℕ) (m ttl : ℕ) (qs : List Call) → Bytes l → Small 8 m → Small 8 ttl → Every Typed qs → wasRefused (lent l (Fresh m ttl) .answer) ≡ false
+pub third-demand-of-bytes : (l : List ℕ) (m ttl : ℕ) (qs : List Call) → Bytes l → Small numberSize m → Small numberSize ttl → Every Typed qs → wasRefused (lent l (Fresh m ttl) .answer) ≡ false
     → let r = calls (lent l (Fresh m ttl) .memory) qs in ThirdDemand ttl (r .events) (view (r .memory) .storedWeight) (view (r .memory) .rows)
 third-demand-of-bytes l m ttl qs b hm ht g h =
     let f = freshened l m ttl b hm ht h in

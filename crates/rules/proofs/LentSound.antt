@@ -17,6 +17,7 @@ use Rattle.rules.proofs.Refused.{by-serve, fresh-refusal}
 use Rattle.rules.proofs.SoundKept.{step-sound}
 use Rattle.rules.proofs.LentMemory.{lent-request, refused-leaves, capacity-same, freshened}
 use Rattle.rules.proofs.Public.{fresh-refused, unsound-one}
+use Rattle.rules.specs.Layout.{numberSize}
 
 -- ---- calls that return nothing: their number is all they say
 
@@ -32,7 +33,7 @@ number-reply l x d = by-serve (capacity l) (view l) x (λ (t : Step). reply (t .
 call-sound : (l : List ℕ) (q : Call) → Bytes l → Typed q → sound (capacity l) (view l) ≡ true → sound (capacity (call l q .memory)) (view (call l q .memory)) ≡ true
 call-sound l q b g h = let o = lent-request l (Asked q) b g in rw (capacity-same l (call l q .memory) (o .size), o .state) (step-sound (capacity l) (view l) q h)
 
-done-fresh-sound : (l : List ℕ) (m ttl : ℕ) → Bytes l → Small 8 m → Small 8 ttl → wasRefused (lent l (Fresh m ttl) .answer) ≡ false → sound (capacity (lent l (Fresh m ttl) .memory)) (view (lent l (Fresh m ttl) .memory)) ≡ true
+done-fresh-sound : (l : List ℕ) (m ttl : ℕ) → Bytes l → Small numberSize m → Small numberSize ttl → wasRefused (lent l (Fresh m ttl) .answer) ≡ false → sound (capacity (lent l (Fresh m ttl) .memory)) (view (lent l (Fresh m ttl) .memory)) ≡ true
 done-fresh-sound l m ttl b hm ht h = let f = freshened l m ttl b hm ht h in rw (f .size, f .state) (f .sound)
 
 pub lent-sound : (l : List ℕ) (x : Request) → Bytes l → TypedRequest x → sound (capacity l) (view l) ≡ true → sound (capacity (lent l x .memory)) (view (lent l x .memory)) ≡ true
@@ -51,7 +52,7 @@ fresh-answer : (l : List ℕ) (m ttl : ℕ) → badSize (capacity l) m ≡ false
 unfolding lent serve performRequest gives
 fresh-answer l m ttl h = let e : refusal (capacity l) (view l) (Fresh m ttl) ≡ none = fresh-refusal (capacity l) m ttl (view l) ∙ rw h in rw e
 
-pub fresh-sound : (l : List ℕ) (m ttl : ℕ) → Bytes l → Small 8 m → Small 8 ttl → (f : Bool) → f ≡ sound (capacity l) (view l) → (n : ℕ) → n ≡ refusalOf (lent l (Fresh m ttl) .answer)
+pub fresh-sound : (l : List ℕ) (m ttl : ℕ) → Bytes l → Small numberSize m → Small numberSize ttl → (f : Bool) → f ≡ sound (capacity l) (view l) → (n : ℕ) → n ≡ refusalOf (lent l (Fresh m ttl) .answer)
     → f || eqb n 0 ≡ sound (capacity (lent l (Fresh m ttl) .memory)) (view (lent l (Fresh m ttl) .memory))
 unfolding refusalOf wasRefused
 fresh-sound l m ttl b hm ht f h n e = go (badSize (capacity l) m) refl

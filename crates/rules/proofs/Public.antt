@@ -22,9 +22,9 @@ use Rattle.rules.proofs.SoundKept.{fresh-sound, perform-keeps}
 use Rattle.rules.proofs.Sizes.{few-rows}
 use Rattle.rules.proofs.Foreign.{rows-of-length, view-length}
 use Rattle.rules.proofs.LentMemory.{capacity-same, head-fits, tailOf}
-use Rattle.rules.specs.Layout.{headSize, rowCountOffset, rowSize}
+use Rattle.rules.specs.Layout.{headSize, numberSize, rowCountOffset, rowSize}
 
-count-shown : (n : ℕ) (m : List ℕ) → leNumber (cut rowCountOffset 8 m) ≡ viewRows n m .rowCount
+count-shown : (n : ℕ) (m : List ℕ) → leNumber (cut rowCountOffset numberSize m) ≡ viewRows n m .rowCount
 unfolding viewRows
 count-shown n m = refl
 
@@ -32,8 +32,8 @@ view-shown : (R : ℕ) (m : List ℕ) (s : State) → capacity m ≡ R → Sound
 unfolding view heldRows
 view-shown R m s c h k v =
     let n = length (s .rows) in
-    let q : leNumber (cut rowCountOffset 8 m) ≡ n = count-shown n m ∙ ap (λ (x : State). x .rowCount) v ∙ h .counted in
-    let e : min (leNumber (cut rowCountOffset 8 m)) (capacity m) ≡ n = rw (q, c) (omega arith) in
+    let q : leNumber (cut rowCountOffset numberSize m) ≡ n = count-shown n m ∙ ap (λ (x : State). x .rowCount) v ∙ h .counted in
+    let e : min (leNumber (cut rowCountOffset numberSize m)) (capacity m) ≡ n = rw (q, c) (omega arith) in
     ap (λ (x : ℕ). viewRows x m) e ∙ v
 
 -- a memory that shows a sound state is its memory
@@ -81,7 +81,7 @@ call-done l q m b z e v =
 tail-is : (l : List ℕ) → tailOf l ≡ drop (headSize + capacity l * rowSize) l
 unfolding view viewRows heldRows
 tail-is l =
-    let n = min (leNumber (cut rowCountOffset 8 l)) (capacity l) in
+    let n = min (leNumber (cut rowCountOffset numberSize l)) (capacity l) in
     let e : headSize + n * rowSize + (capacity l - n) * rowSize ≡ headSize + capacity l * rowSize = omega arith in
     ap (λ (k : ℕ). drop ((capacity l - k) * rowSize) (drop (headSize + n * rowSize) l)) (rows-of-length n (drop headSize l)) ∙ drop-drop ((capacity l - n) * rowSize) (headSize + n * rowSize) l ∙ ap (λ (k : ℕ). drop k l) e
 

@@ -8,6 +8,7 @@ use lib.Dec.{ltb}
 use lib.ListN.{length, replicate, length-append, length-drop, length-map, length-replicate}
 use Rattle.types.specs.declared.node_addr.NodeAddr.{NodeAddr}
 use Rattle.types.specs.Addresses.{addrBefore}
+use Rattle.types.specs.Values.{largestNumber}
 use Rattle.rules.specs.Cases.{Every}
 use Rattle.rules.specs.Records.{Entry, Row, State, aside, byUse, parked, probation, probationLimit, weightLimit}
 use Rattle.rules.specs.Rows.{atPlace, changeRow, inMain, insertInOrder, keepRows, lowestStamp, probationCount, rowAt, total, weighRows, withOnlyRows, withRows, withoutRow, zeroRows}
@@ -20,7 +21,7 @@ use Rattle.rules.proofs.MemoryLaws.{bytes-append, bytes-drop}
 use Rattle.rules.proofs.EntryLaws.{EntryFits}
 use Rattle.rules.proofs.ViewLaws.{Fits, RowFits}
 use Rattle.rules.proofs.SoundKept.{both-segments}
-use Rattle.rules.specs.Layout.{headSize, rowSize}
+use Rattle.rules.specs.Layout.{byteSize, headSize, numberLimit, numberSize, rowSize}
 
 -- ---- bounds
 
@@ -33,25 +34,25 @@ small-less : (n v : ℕ) → Small n v → v < 256 ^ n
 small-less zero v h = omega arith
 small-less (suc n) v h = let l = small-less n (v / 256) h in omega arith
 
-pub small1 : (v : ℕ) → v < 256 → Small 1 v
+pub small1 : (v : ℕ) → v < 256 → Small byteSize v
 small1 v h = small 1 v h
 
-pub small8 : (v : ℕ) → v < 18446744073709551616 → Small 8 v
+pub small8 : (v : ℕ) → v < numberLimit → Small numberSize v
 small8 v h = small 8 v h
 
-pub small8-less : (v : ℕ) → Small 8 v → v < 18446744073709551616
+pub small8-less : (v : ℕ) → Small numberSize v → v < numberLimit
 small8-less v h = small-less 8 v h
 
-pub sum-small : (a b : ℕ) → Small 8 (addTimes a b)
+pub sum-small : (a b : ℕ) → Small numberSize (addTimes a b)
 unfolding addTimes
-sum-small a b = small8 (min (a + b) 18446744073709551615) (omega arith)
+sum-small a b = small8 (min (a + b) largestNumber) (omega arith)
 
 -- ---- what lasts of a row, whatever its place and stamp
 
 pub record Lasting (r : Row) : Type 0 where
   pub key : AddrFits (r .key)
   pub entry : EntryFits (r .entry)
-  pub stampFirst : Small 8 (r .stampFirst)
+  pub stampFirst : Small numberSize (r .stampFirst)
 
 refiled-lasts : (q : ℕ) (e : Entry) (w : ℕ) (r : Row) → EntryFits e → Lasting r → Lasting (refiled q e w r)
 unfolding refiled
@@ -209,7 +210,7 @@ light q (r ∷ rs) h = omega (arith, one (inMain r), light q rs (h .1))
 pub fits-sized : (L : ℕ) (s : State) → Fits L s → Sized (L - headSize) s
 fits-sized L s h = record { lasting = every-map {P = RowFits} (λ r f. record { key = f .key; entry = f .entry; stampFirst = f .stampFirst }) (s .rows) (h .rows); rest = h .rest; bulk = omega (arith, h .size) }
 
-pub sized-fits : (R L : ℕ) (s : State) → headSize ≤ L → Sound R s → Sized (L - headSize) s → Small 8 (s .defaultTtl) → s .seq < 18446744073709551616 → Fits L s
+pub sized-fits : (R L : ℕ) (s : State) → headSize ≤ L → Sound R s → Sized (L - headSize) s → Small numberSize (s .defaultTtl) → s .seq < numberLimit → Fits L s
 sized-fits R L s l h z t q = record {
   maxEntries = small8 (s .maxEntries) (omega (arith, h .space, h .small));
   defaultTtl = t;

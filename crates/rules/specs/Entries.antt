@@ -3,12 +3,13 @@ use Prim.Native.Nat.{ℕ, _+_, min}
 use mathlib.Core.Bool.{Bool, _&&_}
 use lib.Dec.{ltb, leb}
 use Rattle.types.specs.declared.coord.Path.{Path}
+use Rattle.types.specs.Values.{largestNumber}
 use Rattle.rules.specs.Records.{Entry, emptyEntry, hintSource, noMtu, someMtu, verifiedSource, withMtu, withPath, withSource, withTimes}
 use Rattle.rules.specs.Sound.{fromVerified}
 
--- 2^64 − 1
+-- where sums of times stop, 2^64 − 1
 abbrev pub lastTime : ℕ
-lastTime = 18446744073709551615
+lastTime = largestNumber
 
 -- how long a verified entry outranks a hint, in milliseconds (VERIFIED_TTL_MS)
 abbrev pub verifiedTtl : ℕ

@@ -1,5 +1,6 @@
 -- The layout of the lent memory: a head, then rows. Every size and offset stands here once, as a sum of widths and places.
-use Prim.Native.Nat.{ℕ, _+_, _*_}
+use Prim.Native.Nat.{ℕ, _+_, _*_, _^_}
+use Rattle.types.specs.Addresses.{addressBytes}
 use Rattle.types.specs.Paths.{pathPlaces}
 
 -- ---- widths
@@ -17,7 +18,11 @@ abbrev pub numberSize : ℕ
 numberSize = 8
 
 abbrev pub addressSize : ℕ
-addressSize = 16
+addressSize = addressBytes
+
+-- numbers of 64 bits are below this
+abbrev pub numberLimit : ℕ
+numberLimit = 256 ^ numberSize
 
 -- ---- the head
 

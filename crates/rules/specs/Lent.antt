@@ -17,7 +17,7 @@ use Rattle.rules.specs.Lookups.{unexpiredRow}
 use Rattle.rules.specs.Calls.{Call, Insert, InsertWithTtl, InsertFunded, InsertStated, InsertVerified, InsertVerifiedWithPathMtu, Get, GetAndTouch, Remove, Demote, ClearPathMtu, PurgeExpired, Clear, InvalidateViaNode, InvalidateOtherRoots, Stats, NextExpiry, Answer, wasRefused}
 use Rattle.rules.specs.Refusals.{Request, Fresh, Asked, refusal, Step, serve}
 use Rattle.rules.specs.Lists.{Event, Served}
-use Rattle.rules.specs.Layout.{addressSize, coordEntrySize, entryOffset, headSize, placesOffset, rowSize}
+use Rattle.rules.specs.Layout.{addressSize, coordEntrySize, entryOffset, headSize, mtuSize, numberSize, placesOffset, rowSize}
 
 pub record Lent : Type 0 where
   pub answer : Answer
@@ -85,8 +85,8 @@ pub record AddrFits (a : NodeAddr) : Type 0 where
 
 pub record CoordEntryFits (x : CoordEntry) : Type 0 where
   pub address : AddrFits (x .«node_addr»)
-  pub sequence : Small 8 (x .sequence)
-  pub timestamp : Small 8 (x .timestamp)
+  pub sequence : Small numberSize (x .sequence)
+  pub timestamp : Small numberSize (x .timestamp)
 
 pub record PathFits (p : Path) : Type 0 where
   pub places : length (p .entries) ≡ pathPlaces
@@ -95,7 +95,7 @@ pub record PathFits (p : Path) : Type 0 where
 pub record WriteFits (k : NodeAddr) (p : Path) (t : ℕ) : Type 0 where
   pub key : AddrFits k
   pub path : PathFits p
-  pub time : Small 8 t
+  pub time : Small numberSize t
 
 -- a call's arguments are values of their types: an address of 16 bytes, 32 places, numbers of 64 bits, an MTU of 16
 abbrev pub Typed : Call → Type 0
@@ -104,9 +104,9 @@ Typed (InsertWithTtl k p t l) = WriteFits k p t
 Typed (InsertFunded k p t f) = WriteFits k p t
 Typed (InsertStated k p t f) = WriteFits k p t
 Typed (InsertVerified k p t) = WriteFits k p t
-Typed (InsertVerifiedWithPathMtu k p t m) = WriteFits k p t × Small 2 m
+Typed (InsertVerifiedWithPathMtu k p t m) = WriteFits k p t × Small mtuSize m
 Typed (Get k t) = Unit {0}
-Typed (GetAndTouch k t) = AddrFits k × Small 8 t
+Typed (GetAndTouch k t) = AddrFits k × Small numberSize t
 Typed (Remove k) = AddrFits k
 Typed (Demote k) = AddrFits k
 Typed (ClearPathMtu k) = AddrFits k
@@ -118,5 +118,5 @@ Typed (Stats t) = Unit {0}
 Typed NextExpiry = Unit {0}
 
 abbrev pub TypedRequest : Request → Type 0
-TypedRequest (Fresh m ttl) = Small 8 m × Small 8 ttl
+TypedRequest (Fresh m ttl) = Small numberSize m × Small numberSize ttl
 TypedRequest (Asked q) = Typed q

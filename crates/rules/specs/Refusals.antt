@@ -10,6 +10,7 @@ use Rattle.types.specs.declared.coord.Path.{Path}
 use Rattle.types.specs.Addresses.{sameAddr}
 use Rattle.types.specs.Paths.{pathPlaces, contains, rootOf, startsAt, pathWeight}
 use Rattle.types.specs.declared.placed.Funding.the-variants.{Uncharged}
+use Rattle.types.specs.Values.{largestNumber}
 use Rattle.rules.specs.Cases.{maybe}
 use Rattle.rules.specs.Records.{Entry, Row, State, maxRows, probationBound, mainLimit}
 use Rattle.rules.specs.Rows.{rowAt, inMain, find, mainCount, zeroRows, withOnlyRows}
@@ -29,9 +30,13 @@ pub data Request : Type 0 where
 
 -- ---- the table
 
--- the largest seq at which stamps are drawn
+-- every call draws fewer stamps (Bounds.step-stamps)
+abbrev pub stampsOfCall : ℕ
+stampsOfCall = 4096
+
+-- the largest seq at which stamps are drawn: so many numbers are left
 abbrev pub lastSeq : ℕ
-lastSeq = 18446744073709547519
+lastSeq = largestNumber - stampsOfCall
 
 -- 5: R > 1,024 or R < max + Q
 unfoldable pub badSize : ℕ → ℕ → Bool

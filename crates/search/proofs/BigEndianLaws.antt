@@ -12,6 +12,7 @@ use Rattle.types.specs.Addresses.{bytesBefore}
 use Rattle.rules.specs.Lent.{Bytes}
 use Rattle.rules.specs.Memory.{cut}
 use Rattle.rules.proofs.Addresses.{contradiction}
+use Rattle.rules.specs.Layout.{addressSize}
 use Rattle.raw.proofs.NumberLaws.{eight-bytes}
 use Rattle.search.specs.BigEndian.{goesOn, NumberOf}
 
@@ -124,7 +125,7 @@ eight-number l at h b =
 
 -- ---- sixteen bytes are twice eight
 
-pub held-halves : (at : ℕ) (l : List ℕ) → at + 16 ≤ length l → TwiceEight (cut at 16 l) (cut at 8 l) (cut (at + 8) 8 l)
+pub held-halves : (at : ℕ) (l : List ℕ) → at + addressSize ≤ length l → TwiceEight (cut at addressSize l) (cut at 8 l) (cut (at + 8) 8 l)
 held-halves at l h =
     record {
       whole = take-add 8 8 (drop at l) ∙ ap (λ (z : List ℕ). cut at 8 l ++ take 8 z) (drop-drop 8 at l);
@@ -132,7 +133,7 @@ held-halves at l h =
       second = length-take-le 8 (drop (at + 8) l) (rw length-drop (omega arith));
     }
 
-pub given-halves : (l : List ℕ) → length l ≡ 16 → TwiceEight l (cut 0 8 l) (cut 8 8 l)
+pub given-halves : (l : List ℕ) → length l ≡ addressSize → TwiceEight l (cut 0 8 l) (cut 8 8 l)
 given-halves l h =
     let z : length (drop 8 l) ≤ 8 = rw length-drop (omega arith) in
     record {

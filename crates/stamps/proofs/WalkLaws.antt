@@ -13,7 +13,7 @@ use Rattle.rules.specs.Rows.{rowAt, atPlace, lowestStamp, total, withRows}
 use Rattle.rules.specs.Entries.{verified}
 use Rattle.rules.specs.Room.{Walk, mainVisits, visitsLeft, takeUp, restamp, park, stamp, raised, untouched, stale, returnLapsed, sought, nextVictim}
 use Rattle.rules.specs.Memory.{viewRows}
-use Rattle.rules.specs.Layout.{headSize, rowSize}
+use Rattle.rules.specs.Layout.{headSize, numberLimit, rowSize}
 use Rattle.rules.proofs.RowLists.{by-cond, by-maybe, lowest-at, total-some}
 use Rattle.rules.proofs.Walks.{turns-last, turns-stale}
 use Rattle.rules.proofs.Loops.{waking, lapsed-lapsed, lapsed-none, lapsed-calm, seeking, seek-none, seek-stale, seek-verified, seek-yields}
@@ -39,8 +39,8 @@ pub record Going {A : Type 0} (goal : ℕ → Walk → A) (now n e₀ e : ℕ) (
   pub size : headSize + n * rowSize ≤ length m
   -- what is left to do is what was to do; the keys that are left can be counted, and stamps drawn for them
   pub same : goal now (walkFrom (viewRows n l) e₀) ≡ goal now (walkFrom (viewRows n m) e)
-  pub keys : e + total (mainVisits now) (viewRows n m .rows) < 18446744073709551616
-  pub stamps : viewRows n m .seq + total (mainVisits now) (viewRows n m .rows) < 18446744073709551616
+  pub keys : e + total (mainVisits now) (viewRows n m .rows) < numberLimit
+  pub stamps : viewRows n m .seq + total (mainVisits now) (viewRows n m .rows) < numberLimit
 
 -- row i, the lowest of a place, is taken up next
 pub record Found {A : Type 0} (goal : ℕ → Walk → A) (place now n e₀ e i : ℕ) (l m : List ℕ) : Type 0 where
@@ -123,7 +123,7 @@ lapsed-paced now (suc n) w = by-maybe (Paced now w) (lowestStamp parked (w .stat
 -- ---- the walk over ByUse, from the rows as they stand once the parked ones returned; the call began with those of z
 
 pub seek-start : {now n e : ℕ} (z : List ℕ) {l : List ℕ} → walkFrom (viewRows n l) e ≡ waking now (walkFrom (viewRows n z) 0) → headSize + n * rowSize ≤ length l →
-    viewRows n z .seq + total (mainVisits now) (viewRows n z .rows) < 18446744073709551616 → Going seeking now n e e l l
+    viewRows n z .seq + total (mainVisits now) (viewRows n z .rows) < numberLimit → Going seeking now n e e l l
 seek-start {now} {n} {e} z {l} q h b =
     let w = walkFrom (viewRows n z) 0 in
     let k : Paced now w (walkFrom (viewRows n l) e) = subst (Paced now w) (sym q) (lapsed-paced now (visitsLeft now w) w) in

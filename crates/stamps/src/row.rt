@@ -13,6 +13,7 @@ ghost use Rattle.rules.specs.Room.{stale, stamp, restamp, park};
 ghost use Rattle.rules.specs.Memory.{viewRows};
 ghost use Rattle.rules.specs.Layout.{headSize, rowSize};
 ghost use Rattle.memory.specs.Edits.{stampedAs};
+ghost use Rattle.types.specs.Values.{largestNumber};
 
 // first ≠ last_used
 pub fn is_stale(state: &[u8], n: usize, i: usize) -> bool
@@ -24,7 +25,7 @@ pub fn is_stale(state: &[u8], n: usize, i: usize) -> bool
 
 // Row i gets a place and a new stamp.
 pub fn draw_stamp(state: &mut [u8], n: usize, i: usize, place: u8, first: u64)
-    requires { ⌜ (i < n) × (headSize + n * rowSize ≤ length (now state)) × (viewRows n (now state) .seq < 18446744073709551615) ⌝ }
+    requires { ⌜ (i < n) × (headSize + n * rowSize ≤ length (now state)) × (viewRows n (now state) .seq < largestNumber) ⌝ }
     ensures { λ _. ⌜ viewRows n (now (state .exit)) ≡ stamp (stampedAs place first) i (viewRows n (now (state .entry))) ⌝ }
 {
     let seq = memory::head::next_key(state, n);
@@ -40,7 +41,7 @@ fn filed_place(place: u8) -> u8
 
 // Row i is stamped with last_used.
 pub fn restamp(state: &mut [u8], n: usize, i: usize)
-    requires { ⌜ (i < n) × (headSize + n * rowSize ≤ length (now state)) × (viewRows n (now state) .seq < 18446744073709551615) ⌝ }
+    requires { ⌜ (i < n) × (headSize + n * rowSize ≤ length (now state)) × (viewRows n (now state) .seq < largestNumber) ⌝ }
     ensures { λ _. ⌜ viewRows n (now (state .exit)) ≡ restamp i (viewRows n (now (state .entry))) ⌝ }
 {
     let place = filed_place(memory::row::place(state, n, i));
@@ -50,7 +51,7 @@ pub fn restamp(state: &mut [u8], n: usize, i: usize)
 
 // Row i is parked, stamped with verified_until.
 pub(crate) fn park(state: &mut [u8], n: usize, i: usize)
-    requires { ⌜ (i < n) × (headSize + n * rowSize ≤ length (now state)) × (viewRows n (now state) .seq < 18446744073709551615) ⌝ }
+    requires { ⌜ (i < n) × (headSize + n * rowSize ≤ length (now state)) × (viewRows n (now state) .seq < largestNumber) ⌝ }
     ensures { λ _. ⌜ viewRows n (now (state .exit)) ≡ park i (viewRows n (now (state .entry))) ⌝ }
 {
     let until = memory::row::verified_until(state, n, i);

@@ -15,7 +15,7 @@ ghost use Rattle.rules.specs.Records.{byUse};
 ghost use Rattle.rules.specs.Rows.{lowestStamp};
 ghost use Rattle.rules.specs.Room.{visitsLeft, returnLapsed, nextVictim};
 ghost use Rattle.rules.specs.Memory.{viewRows};
-ghost use Rattle.rules.specs.Layout.{headSize, rowSize};
+ghost use Rattle.rules.specs.Layout.{headSize, numberLimit, rowSize};
 ghost use Rattle.stamps.specs.Walked.{lowestOf, walkFrom, soughtOf, MainIs};
 
 // How many parked rows returned, and the row that the walk takes up next, if any.
@@ -33,7 +33,7 @@ pub struct Victim {
 // Parked rows with until < now return to ByUse, lowest stamp first. `lowest` is of the rows as they are; the pass that finds none lapsed
 // has also found the lowest ByUse stamp.
 fn return_lapsed(state: &mut [u8], n: usize, time: u64, lowest: LowestOfMain) -> Returned
-    requires { ⌜ (headSize + n * rowSize ≤ length (now state)) × (viewRows n (now state) .seq + visitsLeft time (walkFrom (viewRows n (now state)) 0) < 18446744073709551616) × MainIs lowest (viewRows n (now state) .rows) ⌝ }
+    requires { ⌜ (headSize + n * rowSize ≤ length (now state)) × (viewRows n (now state) .seq + visitsLeft time (walkFrom (viewRows n (now state)) 0) < numberLimit) × MainIs lowest (viewRows n (now state) .rows) ⌝ }
     ensures { λ r. ⌜ (walkFrom (viewRows n (now (state .exit))) (r .rows) ≡ returnLapsed (visitsLeft time (walkFrom (viewRows n (now (state .entry))) 0)) time (walkFrom (viewRows n (now (state .entry))) 0)) × (lowestOf (r .next) ≡ lowestStamp byUse (viewRows n (now (state .exit)) .rows)) ⌝ }
 {
     let mut rows: u64 = 0;
@@ -59,7 +59,7 @@ fn return_lapsed(state: &mut [u8], n: usize, time: u64, lowest: LowestOfMain) ->
 // The walk over ByUse ends at the first entry that is neither restamped nor parked, and yields it. `lowest` is of the rows as they are;
 // each row that is taken up but not yielded costs a pass over the rows.
 pub fn next_victim(state: &mut [u8], n: usize, time: u64, lowest: LowestOfMain) -> Victim
-    requires { ⌜ (headSize + n * rowSize ≤ length (now state)) × (viewRows n (now state) .seq + visitsLeft time (walkFrom (viewRows n (now state)) 0) < 18446744073709551616) × MainIs lowest (viewRows n (now state) .rows) ⌝ }
+    requires { ⌜ (headSize + n * rowSize ≤ length (now state)) × (viewRows n (now state) .seq + visitsLeft time (walkFrom (viewRows n (now state)) 0) < numberLimit) × MainIs lowest (viewRows n (now state) .rows) ⌝ }
     ensures { λ r. ⌜ soughtOf r (viewRows n (now (state .exit))) ≡ nextVictim time (walkFrom (viewRows n (now (state .entry))) 0) ⌝ }
 {
     let returned = return_lapsed(state, n, time, lowest);

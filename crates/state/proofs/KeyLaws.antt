@@ -12,23 +12,23 @@ use Rattle.rules.specs.Rows.{rowAt, blankRow}
 use Rattle.rules.specs.Sound.{leads}
 use Rattle.rules.specs.Memory.{cut, viewRows}
 use Rattle.rules.proofs.MemoryLaws.{length-cut}
-use Rattle.rules.specs.Layout.{headSize, rowSize}
+use Rattle.rules.specs.Layout.{addressSize, headSize, rowSize}
 use Rattle.raw.proofs.CopyLaws.{cut-byte}
 use Rattle.memory.proofs.Fields.{row-key}
 
 -- a turn of the loop over the bytes of the addresses at a and b
-module _ (l : List ℕ) (a b i : ℕ) (ha : a + 16 ≤ length l) (hb : b + 16 ≤ length l) (h : i < 16) where
-  pub bytes-differ : (getD l (a + i) 0 ≡ getD l (b + i) 0 → ⊥) → bytesBefore (drop i (cut a 16 l)) (drop i (cut b 16 l)) ≡ ltb (getD l (a + i) 0) (getD l (b + i) 0)
+module _ (l : List ℕ) (a b i : ℕ) (ha : a + addressSize ≤ length l) (hb : b + addressSize ≤ length l) (h : i < addressSize) where
+  pub bytes-differ : (getD l (a + i) 0 ≡ getD l (b + i) 0 → ⊥) → bytesBefore (drop i (cut a addressSize l)) (drop i (cut b addressSize l)) ≡ ltb (getD l (a + i) 0) (getD l (b + i) 0)
   bytes-differ n =
-      let x = sym (cut-byte a 16 i l h) in
-      let y = sym (cut-byte b 16 i l h) in
-      before-stop (cut a 16 l) (cut b 16 l) i (rw (length-cut a 16 l ha) h) (rw (length-cut b 16 l hb) h) (λ e. n (sym x ∙ e ∙ y)) ∙ rw (x, y)
+      let x = sym (cut-byte a addressSize i l h) in
+      let y = sym (cut-byte b addressSize i l h) in
+      before-stop (cut a addressSize l) (cut b addressSize l) i (rw (length-cut a addressSize l ha) h) (rw (length-cut b addressSize l hb) h) (λ e. n (sym x ∙ e ∙ y)) ∙ rw (x, y)
 
-  pub bytes-agree : getD l (a + i) 0 ≡ getD l (b + i) 0 → bytesBefore (drop i (cut a 16 l)) (drop i (cut b 16 l)) ≡ bytesBefore (drop (i + 1) (cut a 16 l)) (drop (i + 1) (cut b 16 l))
-  bytes-agree e = before-go (cut a 16 l) (cut b 16 l) i (rw (length-cut a 16 l ha) h) (rw (length-cut b 16 l hb) h) (sym (cut-byte a 16 i l h) ∙ e ∙ cut-byte b 16 i l h)
+  pub bytes-agree : getD l (a + i) 0 ≡ getD l (b + i) 0 → bytesBefore (drop i (cut a addressSize l)) (drop i (cut b addressSize l)) ≡ bytesBefore (drop (i + 1) (cut a addressSize l)) (drop (i + 1) (cut b addressSize l))
+  bytes-agree e = before-go (cut a addressSize l) (cut b addressSize l) i (rw (length-cut a addressSize l ha) h) (rw (length-cut b addressSize l hb) h) (sym (cut-byte a addressSize i l h) ∙ e ∙ cut-byte b addressSize i l h)
 
 pub keys-before : (l : List ℕ) (n i j : ℕ) → i < n → j < n
-    → bytesBefore (cut (headSize + i * rowSize) 16 l) (cut (headSize + j * rowSize) 16 l) ≡ addrBefore (rowAt i (viewRows n l .rows) .key) (rowAt j (viewRows n l .rows) .key)
+    → bytesBefore (cut (headSize + i * rowSize) addressSize l) (cut (headSize + j * rowSize) addressSize l) ≡ addrBefore (rowAt i (viewRows n l .rows) .key) (rowAt j (viewRows n l .rows) .key)
 unfolding addrBefore
 keys-before l n i j hi hj = rw (row-key n i l hi, row-key n j l hj)
 

@@ -1,4 +1,5 @@
 // The order of the rows' keys.
+use raw::layout::ADDRESS;
 use raw::layout::HEAD;
 use raw::layout::ROW;
 ghost use mathlib.Core.Path.{_≡_};
@@ -16,7 +17,7 @@ fn address_before(s: &[u8], a: usize, b: usize) -> bool
     ensures { λ r. ⌜ r ≡ bytesBefore (cut a addressSize (now (s .entry))) (cut b addressSize (now (s .entry))) ⌝ }
 {
     let mut at = 0;
-    while at < 16 {
+    while at < ADDRESS {
         let x = s[a + at];
         let y = s[b + at];
         if x != y {

@@ -13,22 +13,20 @@ use Rattle.rules.specs.Memory.{rowsOf, viewRows}
 use Rattle.rules.specs.Cases.{maybe}
 use Rattle.rules.specs.Statistics.{totalAge, mean, nextExpiry}
 use Rattle.rules.proofs.Foreign.{view-length}
+use Rattle.rules.specs.Layout.{numberLimit}
 use mathlib.Core.Option.{Option, none, some}
 use Rattle.memory.proofs.RowSums.{total-next, total-end}
+use Rattle.types.specs.Values.{largestNumber}
 
 -- ---- the exact mean: high and low halves, summed apart
-
--- the largest number of 64 bits
-abbrev largest : ℕ
-largest = 18446744073709551615
 
 -- 2^32
 abbrev half : ℕ
 half = 4294967296
 
--- at most i times the largest; kept shut, since the product's numbers are too long for a search
+-- at most i times the largest number; kept shut, since the product's numbers are too long for a search
 unfoldable pub AtMost : ℕ → ℕ → Type 0
-AtMost x i = x ≤ i * largest
+AtMost x i = x ≤ i * largestNumber
 
 -- i of n ages were summed, q halves and r; t is the sum of those left, of T in all
 pub record Mean (n i q r t T : ℕ) : Type 0 where
@@ -52,14 +50,14 @@ over n q r =
     omega (arith, d, s)
 
 -- no sum passes 64 bits
-high-of : (a : ℕ) → a ≤ largest → a / half ≤ 4294967295
+high-of : (a : ℕ) → a ≤ largestNumber → a / half ≤ 4294967295
 high-of a h = omega arith
 
-plus-fits : (i q x : ℕ) → i ≤ maxRows → q ≤ i * 4294967295 → x ≤ 4294967295 → q + x < 18446744073709551616
+plus-fits : (i q x : ℕ) → i ≤ maxRows → q ≤ i * 4294967295 → x ≤ 4294967295 → q + x < numberLimit
 plus-fits i q x h g k = omega arith
 
 module _ {n i q r t T : ℕ} (m : Mean n i q r t T) where
-  mean-turn : (a u : ℕ) → n ≤ maxRows → i < n → a ≤ largest → t ≡ a + u → Mean n (i + 1) (q + a / half) (r + a % half) u T
+  mean-turn : (a u : ℕ) → n ≤ maxRows → i < n → a ≤ largestNumber → t ≡ a + u → Mean n (i + 1) (q + a / half) (r + a % half) u T
   unfolding AtMost
   mean-turn a u k h b e =
       record {
@@ -71,18 +69,18 @@ module _ {n i q r t T : ℕ} (m : Mean n i q r t T) where
         low = omega (arith, m .low);
       }
 
-  pub sum-fits : (a : ℕ) → n ≤ maxRows → a ≤ largest → q + a / half < 18446744073709551616
+  pub sum-fits : (a : ℕ) → n ≤ maxRows → a ≤ largestNumber → q + a / half < numberLimit
   sum-fits a h k = plus-fits i q (a / half) (omega (arith, m .within)) (m .high) (high-of a k)
 
   pub high-fits : i ≡ n → q / n ≤ 4294967295
   high-fits e = div-le-of-le-mul n (omega (arith, m .high, e, mul-comm n 4294967295))
 
-  pub mean-fits : i ≡ n → q / n * half + (q % n * half + r) / n ≤ largest
+  pub mean-fits : i ≡ n → q / n * half + (q % n * half + r) / n ≤ largestNumber
   unfolding AtMost
   mean-fits e =
-      let d : q * half + r ≤ n * largest = rw e at (m .bounded) in
+      let d : q * half + r ≤ n * largestNumber = rw e at (m .bounded) in
       let o = over n q r in
-      subst (λ (x : ℕ). x ≤ largest) (mul-add-div-right (m .some-rows) (q / n * half) (q % n * half + r)) (div-le-of-le-mul n (omega (arith, d, o)))
+      subst (λ (x : ℕ). x ≤ largestNumber) (mul-add-div-right (m .some-rows) (q / n * half) (q % n * half + r)) (div-le-of-le-mul n (omega (arith, d, o)))
 
 mean-end : (n q r T : ℕ) → Mean n n q r 0 T → q / n * half + (q % n * half + r) / n ≡ mean T n
 unfolding mean
@@ -101,7 +99,7 @@ abbrev pub Ages : List ℕ → ℕ → ℕ → ℕ → ℕ → ℕ → Type 0
 Ages l n time i q r = Mean n i q r (total (age time) (drop i (viewRows n l .rows))) (total (age time) (viewRows n l .rows))
 
 module _ (l : List ℕ) (n time i q r : ℕ) (m : Ages l n time i q r) where
-  pub age-turn : (a : ℕ) → n ≤ maxRows → i < n → time < 18446744073709551616 → a ≡ time - rowAt i (viewRows n l .rows) .entry .createdAt
+  pub age-turn : (a : ℕ) → n ≤ maxRows → i < n → time < numberLimit → a ≡ time - rowAt i (viewRows n l .rows) .entry .createdAt
       → Ages l n time (i + 1) (q + a / half) (r + a % half)
   age-turn a k h b e =
       let rs = viewRows n l .rows in

@@ -1,5 +1,6 @@
 // The calls that sweep: purge_expired, invalidate_via_node, invalidate_other_roots, clear.
 use types::answers::SweepAnswer;
+use types::node_addr::ADDRESS_BYTES;
 use types::node_addr::NodeAddr;
 ghost use mathlib.Core.Path.{_≡_};
 ghost use mathlib.Core.Bool.{true};
@@ -24,7 +25,7 @@ pub fn purge_expired_unchecked(state: &mut [u8], time: u64) -> SweepAnswer
     ensures { λ r. ⌜ (sweepSaid r ≡ call (now (state .entry)) (PurgeExpired time) .answer) × (now (state .exit) ≡ call (now (state .entry)) (PurgeExpired time) .memory) ⌝ }
 {
     let n = memory::head::row_count(state) as usize;
-    let none = NodeAddr([0u8; 16]);
+    let none = NodeAddr([0u8; ADDRESS_BYTES]);
     let kept = retention::rows::retain_entries(state, n, retention::rows::EXPIRED, time, none);
     SweepAnswer::Removed((n - kept) as u64)
 }

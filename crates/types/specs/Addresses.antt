@@ -5,6 +5,9 @@ use mathlib.Core.Bool.{Bool, true, false, _&&_, _||_}
 use lib.Dec.{ltb, eqb}
 use Rattle.types.specs.declared.node_addr.NodeAddr.{NodeAddr}
 
+abbrev pub addressBytes : ℕ
+addressBytes = 16
+
 unfoldable pub sameBytes : List ℕ → List ℕ → Bool
 sameBytes [] [] = true
 sameBytes [] (b ∷ bs) = false

@@ -8,7 +8,7 @@ use Rattle.types.specs.declared.node_addr.NodeAddr.{NodeAddr}
 use Rattle.types.specs.declared.coord.CoordEntry.{CoordEntry}
 use Rattle.types.specs.declared.coord.Path.{Path}
 use Rattle.types.specs.declared.coord.Appended.{Appended}
-use Rattle.types.specs.Addresses.{sameAddr}
+use Rattle.types.specs.Addresses.{addressBytes, sameAddr}
 
 -- a path holds 32 places
 abbrev pub pathPlaces : ℕ
@@ -20,7 +20,7 @@ addrsPerEntry = 16
 
 -- a place past the length of a written path
 unfoldable pub zeroEntry : CoordEntry
-zeroEntry = record { «node_addr» = record { 0 = replicate 16 0 }; sequence = 0; timestamp = 0 }
+zeroEntry = record { «node_addr» = record { 0 = replicate addressBytes 0 }; sequence = 0; timestamp = 0 }
 
 unfoldable pub emptyPath : Path
 emptyPath = record { entries = replicate pathPlaces zeroEntry; len = 0 }
@@ -61,7 +61,7 @@ lastAddr d (x ∷ xs) = lastAddr (x .«node_addr») xs
 
 -- the last address; an empty path, which no row holds, has the zero address
 unfoldable pub rootOf : Path → NodeAddr
-rootOf p = lastAddr (record { 0 = replicate 16 0 }) (elements p)
+rootOf p = lastAddr (record { 0 = replicate addressBytes 0 }) (elements p)
 
 unfoldable pub firstIs : NodeAddr → List CoordEntry → Bool
 firstIs k [] = false

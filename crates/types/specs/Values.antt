@@ -20,6 +20,16 @@ use Rattle.types.specs.declared.stats.CacheStats.{CacheStats}
 use Rattle.types.specs.declared.reply.Reply.{Reply}
 use Rattle.types.specs.declared.reply.Tally.{Tally}
 
+-- ---- numbers
+
+-- the largest number of 64 bits, 2^64 − 1: times and counts stop there
+abbrev pub largestNumber : ℕ
+largestNumber = 18446744073709551615
+
+-- the space that stands before each number of a line
+abbrev pub space : ℕ
+space = 32
+
 -- ---- an entry's codes, in the order in which 01 names the kinds
 
 -- Verified 0, Hint 1
@@ -102,5 +112,5 @@ sourceOf n = cond (eqb n 0) Verified Hint
 unfoldable pub tallied : Tally → ℕ → Tally
 tallied t refusal =
     cond (eqb refusal 0)
-    (record { done = min (t .done + 1) 18446744073709551615; refused = t .refused })
-    (record { done = t .done; refused = min (t .refused + 1) 18446744073709551615 })
+    (record { done = min (t .done + 1) largestNumber; refused = t .refused })
+    (record { done = t .done; refused = min (t .refused + 1) largestNumber })

@@ -1,4 +1,5 @@
 // Path elements and paths: a node's coordinates in the tree, from the node to the root.
+use crate::node_addr::ADDRESS_BYTES;
 use crate::node_addr::NodeAddr;
 ghost use mathlib.Core.Path.{_≡_};
 ghost use Prim.Native.Nat.{_≤_};
@@ -36,7 +37,7 @@ pub fn zero_entry() -> CoordEntry
     ensures { λ r. ⌜ r ≡ zeroEntry ⌝ }
 {
     CoordEntry {
-        node_addr: NodeAddr([0u8; 16]),
+        node_addr: NodeAddr([0u8; ADDRESS_BYTES]),
         sequence: 0,
         timestamp: 0,
     }

@@ -2,7 +2,9 @@
 ghost use mathlib.Core.Path.{_≡_};
 ghost use Rattle.types.specs.Addresses.{sameAddr};
 
-pub struct NodeAddr(pub [u8; 16]);
+pub const ADDRESS_BYTES: usize = 16;
+
+pub struct NodeAddr(pub [u8; ADDRESS_BYTES]);
 
 impl NodeAddr {
     // Byte by byte.
@@ -12,7 +14,7 @@ impl NodeAddr {
         let x = self.0;
         let y = other.0;
         let mut i = 0;
-        while i < 16 {
+        while i < ADDRESS_BYTES {
             if x[i] != y[i] {
                 return false;
             }

@@ -1,7 +1,10 @@
 // A command's reply: the number of its refusal, or 0, and five numbers.
 ghost use mathlib.Core.Path.{_≡_};
 ghost use Prim.Native.Nat.{_+_, min};
-ghost use Rattle.types.specs.Values.{says, refuses, tallied};
+ghost use Rattle.types.specs.Values.{largestNumber, says, refuses, tallied};
+
+// The largest number of 64 bits.
+pub const LARGEST_NUMBER: u64 = 18446744073709551615;
 
 pub struct Reply {
     pub refusal: u8,
@@ -35,9 +38,9 @@ pub struct Tally {
 }
 
 fn up_one(n: u64) -> u64
-    ensures { λ r. ⌜ r ≡ min (n + 1) 18446744073709551615 ⌝ }
+    ensures { λ r. ⌜ r ≡ min (n + 1) largestNumber ⌝ }
 {
-    if n < 18446744073709551615 { n + 1 } else { n }
+    if n < LARGEST_NUMBER { n + 1 } else { n }
 }
 
 impl Tally {

@@ -6,7 +6,7 @@ use raw::layout::HEAD;
 use raw::layout::ROW;
 
 // A row's key and path length stand in front of its places, and its other fields behind them.
-const FRONT: usize = layout::PLACES_AT;
+const FRONT: usize = layout::PATH_PLACES;
 
 const BACK: usize = layout::CREATED_AT;
 

@@ -17,7 +17,7 @@ use Rattle.rules.specs.Records.{State}
 use Rattle.rules.specs.Sound.{sound}
 use Rattle.rules.specs.Placement.{insertVerified}
 use Rattle.rules.specs.Calls.{Call, Refused, VerifiedDone, pathGiven, drawsStamps, verifiedWrite}
-use Rattle.rules.specs.Refusals.{Step, seqSpent, noPlaceFor, perform, verifies, gives}
+use Rattle.rules.specs.Refusals.{Step, seqSpent, noPlaceFor, perform, verifies, gives, lastSeq}
 use Rattle.rules.specs.Memory.{capacity, viewRows, view}
 use Rattle.rules.specs.Lent.{Bytes, call}
 use Rattle.rules.proofs.Refused.{refused-four, write-allowed}
@@ -74,13 +74,13 @@ module _ {k : NodeAddr} {p : Path} {t n : ℕ} {b : Bool} {l : List ℕ} (u : Un
       said l q 4 (refused-four (capacity l) (view l) q (u .sound) (rw (form k p t mtu .path) (u .passed .path)) (u .passed .stamps) (four-of mtu ∙ y))
 
   -- what filing asks
-  pub insert-asked : b ≡ false → (sound (capacity l) (viewRows n l) ≡ true) × Writable p × (viewRows n l .seq ≤ 18446744073709547519)
+  pub insert-asked : b ≡ false → (sound (capacity l) (viewRows n l) ≡ true) × Writable p × (viewRows n l .seq ≤ lastSeq)
       × (noPlaceFor (capacity l) (viewRows n l) (record { key = k; path = p; time = t }) ≡ false)
   unfolding seqSpent
   insert-asked y =
       let g = path-ok p (u .passed .path) in
       let s = sound-memory l n (u .sound) (u .counted) .same in
-      (rw s (u .sound), record { long = g .long; short = g .short }, rw s (ltb-false 18446744073709547519 (view l .seq) (u .passed .stamps)), sym (u .full) ∙ y)
+      (rw s (u .sound), record { long = g .long; short = g .short }, rw s (ltb-false lastSeq (view l .seq) (u .passed .stamps)), sym (u .full) ∙ y)
 
   -- the call is done
   pub insert-done : (mtu : PathMtu) (m : List ℕ) (v : VerifiedInsert) → b ≡ false → Bytes m → length m ≡ length l

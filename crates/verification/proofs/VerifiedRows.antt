@@ -18,11 +18,11 @@ use Rattle.rules.specs.Sound.{sound}
 use Rattle.rules.specs.Entries.{newEntry, update, markVerified, setMtu}
 use Rattle.rules.specs.Room.{takeOut, makeRoom, mainVisits, fileNew}
 use Rattle.rules.specs.Placement.{withoutKey, verifiedEntry, insertVerified}
-use Rattle.rules.specs.Refusals.{noPlaceFor}
+use Rattle.rules.specs.Refusals.{lastSeq, noPlaceFor}
 use Rattle.rules.specs.Memory.{capacity, viewRows}
 use Rattle.rules.proofs.CallsKeep.{Out, withoutKey-out, verified-free}
 use Rattle.rules.proofs.LentMemory.{capacity-same}
-use Rattle.rules.specs.Layout.{headSize, rowSize}
+use Rattle.rules.specs.Layout.{headSize, numberLimit, rowSize}
 use Rattle.search.specs.declared.outcome.Search.{Search}
 use Rattle.search.specs.declared.outcome.Search.the-variants.{At, Absent}
 use Rattle.search.specs.ByKey.{searched}
@@ -91,12 +91,12 @@ module _ {k : NodeAddr} {p : Path} {n r w : ℕ} {l m : List ℕ} (o : KeyOut k 
   without : Without k r m
   without = reached-without k l m r (withoutKey k (viewRows n l)) (o .reached) (out .sound) (out .gone)
 
-  seq-out : viewRows n l .seq ≤ 18446744073709547519 → viewRows r m .seq ≤ 18446744073709547519
+  seq-out : viewRows n l .seq ≤ lastSeq → viewRows r m .seq ≤ lastSeq
   seq-out q = omega (arith, ap (λ (x : State). x .seq) (o .reached .state), out .seq)
 
   -- what seeking room asks
-  pub room-asked : viewRows n l .seq ≤ 18446744073709547519 → (headSize + r * rowSize ≤ length m) × (sound (capacity m) (viewRows r m) ≡ true)
-      × (viewRows r m .seq + total (mainVisits t) (viewRows r m .rows) < 18446744073709551616)
+  pub room-asked : viewRows n l .seq ≤ lastSeq → (headSize + r * rowSize ≤ length m) × (sound (capacity m) (viewRows r m) ≡ true)
+      × (viewRows r m .seq + total (mainVisits t) (viewRows r m .rows) < numberLimit)
   room-asked q = room-asks t r m (without .sound) (seq-out q)
 
   main-free : noPlaceFor (capacity l) (viewRows n l) (record { key = k; path = p; time = t }) ≡ false
@@ -106,7 +106,7 @@ module _ {k : NodeAddr} {p : Path} {n r w : ℕ} {l m : List ℕ} (o : KeyOut k 
   -- a, and memory z, tell the room that was sought
   module _ {z : List ℕ} {a : RoomAnswer} (so : Sought m z r t w a) where
     -- what the row that is filed asks
-    pub row-asked : viewRows n l .seq ≤ 18446744073709547519 → noPlaceFor (capacity l) (viewRows n l) (record { key = k; path = p; time = t }) ≡ false
+    pub row-asked : viewRows n l .seq ≤ lastSeq → noPlaceFor (capacity l) (viewRows n l) (record { key = k; path = p; time = t }) ≡ false
         → Takes k (a .victim) (a .stored) (a .rows) z
     row-asked q f = takes k r m z t w a without so (free-main k r m z t w a without so (main-free f)) (seq-out q)
 

@@ -19,6 +19,7 @@ ghost use lib.Dec.{ltb};
 ghost use lib.ListN.{length};
 ghost use Rattle.types.specs.declared.node_addr.NodeAddr.{NodeAddr as Address};
 ghost use Rattle.types.specs.Paths.{pathPlaces};
+ghost use Rattle.types.specs.Values.{largestNumber};
 ghost use Rattle.rules.specs.Records.{byUse, weightBound};
 ghost use Rattle.rules.specs.Rows.{rowAt, inMain, withoutRow, weighRows, mainCount};
 ghost use Rattle.rules.specs.Sound.{sound};
@@ -98,7 +99,7 @@ pub fn verify_in_place(
     mtu: PathMtu,
     weight: u8,
 )
-    requires { ⌜ (sound (capacity (now state)) (viewRows n (now state)) ≡ true) × (i < n) × (inMain (rowAt i (viewRows n (now state) .rows)) ≡ true) × (viewRows n (now state) .seq < 18446744073709551615) × (path .len ≤ pathPlaces) ⌝ }
+    requires { ⌜ (sound (capacity (now state)) (viewRows n (now state)) ≡ true) × (i < n) × (inMain (rowAt i (viewRows n (now state) .rows)) ≡ true) × (viewRows n (now state) .seq < largestNumber) × (path .len ≤ pathPlaces) ⌝ }
     ensures { λ _. ⌜ ((k : Address) → searched k (viewRows n (now (state .entry)) .rows) ≡ At i → viewRows n (now (state .exit)) ≡ fileNew k (verifiedEntry k path time (mtuOf mtu) (viewRows n (now (state .entry)))) weight byUse (takeOut i (viewRows n (now (state .entry))))) ⌝ }
 {
     let ttl = head::default_ttl(state);

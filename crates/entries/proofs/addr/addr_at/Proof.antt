@@ -7,15 +7,16 @@ use lib.ListN.{length, drop}
 use borrow.Author.Needs.{needs}
 use Rattle.types.specs.Addresses.{sameBytes, sameAddr}
 use Rattle.rules.specs.Memory.{cut}
+use Rattle.rules.specs.Layout.{addressSize}
 use Rattle.entries.proofs.Bytes.{addr-turn, addr-end, addr-more, and-in}
 use Rattle.entries.proofs.addr.addr_at.Statement.{statement}
 use Rattle.entries.proofs.addr.addr_at.Tie as tie
 
 abbrev Inv-loop : tie.InvT-loop
-Inv-loop state at x same₀ i₀ same i = (i ≤ 16) × (length x ≡ 16) × (sameBytes x (cut at 16 state) ≡ (same && sameBytes (drop i x) (drop i (cut at 16 state))))
+Inv-loop state at x same₀ i₀ same i = (i ≤ addressSize) × (length x ≡ addressSize) × (sameBytes x (cut at addressSize state) ≡ (same && sameBytes (drop i x) (drop i (cut at addressSize state))))
 
 abbrev μ-loop : tie.MeasureT-loop
-μ-loop state at x same₀ i₀ same i = 16 - i
+μ-loop state at x same₀ i₀ same i = addressSize - i
 
 loop-again : tie.Need-loop-again Inv-loop μ-loop
 loop-again c =

@@ -2,7 +2,7 @@
 use mathlib.Core.Path.{refl}
 use mathlib.Core.List.{[], _∷_}
 use borrow.Author.Needs.{needs}
-use Rattle.rules.specs.Layout.{placeOffset, stampFirstOffset, stampSeqOffset}
+use Rattle.rules.specs.Layout.{byteSize, numberSize, placeOffset, stampFirstOffset, stampSeqOffset}
 use Rattle.memory.specs.Edits.{stampedAs}
 use Rattle.memory.proofs.Fields.{field-store, withNumber}
 use Rattle.memory.proofs.row.set_stamp.Statement.{statement}
@@ -17,7 +17,7 @@ returns c =
     let s = w1 .before .before .before in
     let a = s .args in
     rw (w3 .write-u642 .ensures, w2 .write-u64 .ensures, w1 .write-u8 .ensures)
-    (field-store ((placeOffset, 1, a .place) ∷ (stampFirstOffset, 8, a .first) ∷ (stampSeqOffset, 8, a .seq) ∷ [])
+    (field-store ((placeOffset, byteSize, a .place) ∷ (stampFirstOffset, numberSize, a .first) ∷ (stampSeqOffset, numberSize, a .seq) ∷ [])
     ((refl, s .fits .place .fits), ((refl, s .fits .first .fits), ((refl, s .fits .seq .fits), tt))) (a .state .now) (a .n) (a .i) (s .pre .0) (s .pre .1))
 
 pub set-stamp-spec : {M : Type 1} → statement M

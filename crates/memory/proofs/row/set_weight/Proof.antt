@@ -2,7 +2,7 @@
 use mathlib.Core.Path.{refl}
 use mathlib.Core.List.{[], _∷_}
 use borrow.Author.Needs.{needs}
-use Rattle.rules.specs.Layout.{weightOffset}
+use Rattle.rules.specs.Layout.{byteSize, weightOffset}
 use Rattle.memory.specs.Edits.{withWeight}
 use Rattle.memory.proofs.Fields.{field-store, withNumber}
 use Rattle.memory.proofs.row.set_weight.Statement.{statement}
@@ -15,7 +15,7 @@ returns c =
     let s = w1 .before .before .before in
     let a = s .args in
     rw (w1 .write-u8 .ensures)
-    (field-store ((weightOffset, 1, a .weight) ∷ []) ((refl, s .fits .weight .fits), tt) (a .state .now) (a .n) (a .i) (s .pre .0) (s .pre .1))
+    (field-store ((weightOffset, byteSize, a .weight) ∷ []) ((refl, s .fits .weight .fits), tt) (a .state .now) (a .n) (a .i) (s .pre .0) (s .pre .1))
 
 pub set-weight-spec : {M : Type 1} → statement M
 set-weight-spec =

@@ -7,12 +7,13 @@ use native.Mathlib.Omega.{arith}
 use borrow.Author.Needs.{needs}
 use Rattle.rows.proofs.values.store_addr.Statement.{statement}
 use Rattle.rows.proofs.values.store_addr.Tie as tie
+use Rattle.rules.specs.Layout.{addressSize}
 
 abbrev Inv-loop : tie.InvT-loop
-Inv-loop s₀ at x i₀ s i = Run s₀ x at 16 i s
+Inv-loop s₀ at x i₀ s i = Run s₀ x at addressSize i s
 
 abbrev μ-loop : tie.MeasureT-loop
-μ-loop s₀ at x i₀ s i = 16 - i
+μ-loop s₀ at x i₀ s i = addressSize - i
 
 loop-again : tie.Need-loop-again Inv-loop μ-loop
 loop-again c = run-turn (c .before .loop .inv) (omega arith) refl

@@ -3,6 +3,7 @@ use mathlib.Core.List.{append-nil}
 use native.Mathlib.Omega.{arith}
 use Rattle.rules.specs.Memory.{leBytes, coordEntriesBytes}
 use Rattle.rules.proofs.MemoryLaws.{length-le}
+use Rattle.rules.specs.Layout.{numberSize, sequenceOffset, timestampOffset}
 use Rattle.memory.proofs.OwnedValues.{owned-entry}
 use Rattle.memory.proofs.StoreRuns.{three}
 use borrow.Author.Needs.{needs}
@@ -19,7 +20,7 @@ returns c =
     let a = s .args in
     let f = owned-entry (a .e) _ (s .good .1 .1 .0) in
     let n = f .address .size in
-    (rw (w3 .write-u642 .ensures, w2 .write-u64 .ensures, w1 .store-addr .ensures .0, append-nil (leBytes 8 (a .e .timestamp))) (three (a .s .now) (a .e .«node_addr» .0) (leBytes 8 (a .e .sequence)) (leBytes 8 (a .e .timestamp)) (a .at) 16 24 n (omega (arith, length-le 8 (a .e .sequence)))), f)
+    (rw (w3 .write-u642 .ensures, w2 .write-u64 .ensures, w1 .store-addr .ensures .0, append-nil (leBytes numberSize (a .e .timestamp))) (three (a .s .now) (a .e .«node_addr» .0) (leBytes numberSize (a .e .sequence)) (leBytes numberSize (a .e .timestamp)) (a .at) sequenceOffset timestampOffset n (omega (arith, length-le numberSize (a .e .sequence)))), f)
 
 pub store-coord-entry-spec : {M : Type 1} → statement M
 store-coord-entry-spec =

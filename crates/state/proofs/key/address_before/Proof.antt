@@ -8,15 +8,16 @@ use Rattle.types.specs.Addresses.{bytesBefore}
 use Rattle.types.proofs.PathLaws.{before-end}
 use Rattle.rules.specs.Memory.{cut}
 use Rattle.rules.proofs.MemoryLaws.{length-cut}
+use Rattle.rules.specs.Layout.{addressSize}
 use Rattle.state.proofs.KeyLaws.{bytes-differ, bytes-agree}
 use Rattle.state.proofs.key.address_before.Statement.{statement}
 use Rattle.state.proofs.key.address_before.Tie as tie
 
 abbrev Inv-loop : tie.InvT-loop
-Inv-loop s a b at₀ at = (at ≤ 16) × (bytesBefore (cut a 16 s) (cut b 16 s) ≡ bytesBefore (drop at (cut a 16 s)) (drop at (cut b 16 s)))
+Inv-loop s a b at₀ at = (at ≤ addressSize) × (bytesBefore (cut a addressSize s) (cut b addressSize s) ≡ bytesBefore (drop at (cut a addressSize s)) (drop at (cut b addressSize s)))
 
 abbrev μ-loop : tie.MeasureT-loop
-μ-loop s a b at₀ at = 16 - at
+μ-loop s a b at₀ at = addressSize - at
 
 returns : tie.Need-returns Inv-loop μ-loop
 returns c =
@@ -34,9 +35,9 @@ returns-2 : tie.Need-returns-2 Inv-loop μ-loop
 returns-2 c =
     let l = c .before in
     let g = l .before .args in
-    let x = length-cut (g .a) 16 (g .s .now) (l .before .pre .0) in
-    let y = length-cut (g .b) 16 (g .s .now) (l .before .pre .1) in
-    sym (l .loop .inv .1 ∙ before-end (cut (g .a) 16 (g .s .now)) (cut (g .b) 16 (g .s .now)) (l .loop .at) (omega arith) (omega arith))
+    let x = length-cut (g .a) addressSize (g .s .now) (l .before .pre .0) in
+    let y = length-cut (g .b) addressSize (g .s .now) (l .before .pre .1) in
+    sym (l .loop .inv .1 ∙ before-end (cut (g .a) addressSize (g .s .now)) (cut (g .b) addressSize (g .s .now)) (l .loop .at) (omega arith) (omega arith))
 
 pub address-before-spec : {M : Type 1} → statement M
 address-before-spec =

@@ -4,16 +4,16 @@ use Prim.Native.Nat.{_-_, _≤_}
 use native.Mathlib.Omega.{arith}
 use lib.ListN.{length, drop}
 use borrow.Author.Needs.{needs}
-use Rattle.types.specs.Addresses.{sameBytes, sameAddr}
+use Rattle.types.specs.Addresses.{addressBytes, sameBytes, sameAddr}
 use Rattle.types.proofs.PathLaws.{same-stop, same-go, same-end}
 use Rattle.types.proofs.node_addr.NodeAddr.same_as.Statement.{statement}
 use Rattle.types.proofs.node_addr.NodeAddr.same_as.Tie as tie
 
 abbrev Inv-loop : tie.InvT-loop
-Inv-loop x y i₀ i = (i ≤ 16) × (length x ≡ 16) × (length y ≡ 16) × (sameBytes x y ≡ sameBytes (drop i x) (drop i y))
+Inv-loop x y i₀ i = (i ≤ addressBytes) × (length x ≡ addressBytes) × (length y ≡ addressBytes) × (sameBytes x y ≡ sameBytes (drop i x) (drop i y))
 
 abbrev μ-loop : tie.MeasureT-loop
-μ-loop x y i₀ i = 16 - i
+μ-loop x y i₀ i = addressBytes - i
 
 returns : tie.Need-returns Inv-loop μ-loop
 unfolding sameAddr

@@ -3,8 +3,8 @@ use mathlib.Core.Path.{_∙_}
 use borrow.Author.Needs.{needs}
 use Rattle.refusals.proofs.SoundCalls.{head-there, searchable}
 use Rattle.boundary.proofs.Operands.{Searched, row-inside, row-taken, row-left}
-use Rattle.boundary.proofs.keep_row.Statement.{statement}
-use Rattle.boundary.proofs.keep_row.Tie as tie
+use Rattle.boundary.proofs.take_row.Statement.{statement}
+use Rattle.boundary.proofs.take_row.Tie as tie
 
 abbrev start : tie.After-search → tie.Start
 start c = c .before .before .before
@@ -29,8 +29,8 @@ returns c =
 returns-2 : tie.Need-returns-2
 returns-2 c = row-left (searched (c .before .before)) _ _ (c .enum-told .given .1)
 
-pub keep-row-spec : {M : Type 1} → statement M
-keep-row-spec =
+pub take-row-spec : {M : Type 1} → statement M
+take-row-spec =
     tie.close
     (tie.spec
     row-count-requires
