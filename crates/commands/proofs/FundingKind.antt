@@ -7,38 +7,37 @@ use mathlib.Core.Option.{none, some}
 use mathlib.Core.Bool.{cond}
 use lib.Dec.{eqb}
 use borrow.Author.Tests.{ne-eqb}
-use Rattle.types.specs.declared.coord.Path.{Path}
+use Rattle.types.specs.declared.sender.Sender.{Sender}
 use Rattle.types.specs.declared.placed.Funding.{Funding}
 use Rattle.types.specs.declared.placed.Funding.the-variants.{Upto, Uncharged}
 use Rattle.rules.specs.Calls.{Call}
-use Rattle.rules.specs.Memory.{cut, leNumber}
-use Rattle.rules.specs.Commands.{WithPath, funded}
+use Rattle.rules.specs.Commands.{WithPath, funded, kindIn, amountIn}
 use Rattle.commands.specs.OnMemory.{fundingIn}
 
 -- a kind over 1
-pub funded-bad : (o : List ℕ) (f : Funding → Path → Call) → 1 < leNumber (cut 24 1 o) → funded o f ≡ none
+pub funded-bad : (o : List ℕ) (f : Funding → Sender → Call) → 1 < kindIn o → funded o f ≡ none
 unfolding funded
 funded-bad o f h =
-    let k = leNumber (cut 24 1 o) in
+    let k = kindIn o in
     rw (ne-eqb k 0 (λ e. let z : ⊥ = omega arith in z), ne-eqb k 1 (λ e. let z : ⊥ = omega arith in z))
 
 -- a legal one
-pub funded-legal : (o : List ℕ) (f : Funding → Path → Call) → leNumber (cut 24 1 o) ≤ 1 → funded o f ≡ some (WithPath (f (fundingIn o)))
+pub funded-legal : (o : List ℕ) (f : Funding → Sender → Call) → kindIn o ≤ 1 → funded o f ≡ some (WithPath (f (fundingIn o)))
 unfolding funded fundingIn
-funded-legal o f h = go (leNumber (cut 24 1 o)) h
+funded-legal o f h = go (kindIn o) h
   where
-    go : (k : ℕ) → k ≤ 1 → cond (eqb k 0) (some (WithPath (f Uncharged))) (cond (eqb k 1) (some (WithPath (f (Upto (leNumber (cut 25 8 o)))))) none)
-        ≡ some (WithPath (f (cond (eqb k 0) Uncharged (Upto (leNumber (cut 25 8 o))))))
+    go : (k : ℕ) → k ≤ 1 → cond (eqb k 0) (some (WithPath (f Uncharged))) (cond (eqb k 1) (some (WithPath (f (Upto (amountIn o))))) none)
+        ≡ some (WithPath (f (cond (eqb k 0) Uncharged (Upto (amountIn o)))))
     go zero h = refl
     go (suc zero) h = refl
     go (suc (suc k)) h = absurd (let z : ⊥ = omega arith in z)
 
 -- ---- the funding, as it is read
 
-pub uncharged : (o : List ℕ) → leNumber (cut 24 1 o) ≡ 0 → Uncharged ≡ fundingIn o
+pub uncharged : (o : List ℕ) → kindIn o ≡ 0 → Uncharged ≡ fundingIn o
 unfolding fundingIn
 uncharged o e = rw e
 
-pub upto : (o : List ℕ) (n : ℕ) → (leNumber (cut 24 1 o) ≡ 0 → ⊥) → n ≡ leNumber (cut 25 8 o) → Upto n ≡ fundingIn o
+pub upto : (o : List ℕ) (n : ℕ) → (kindIn o ≡ 0 → ⊥) → n ≡ amountIn o → Upto n ≡ fundingIn o
 unfolding fundingIn
-upto o n h e = rw (ne-eqb (leNumber (cut 24 1 o)) 0 h) (ap Upto e)
+upto o n h e = rw (ne-eqb (kindIn o) 0 h) (ap Upto e)

@@ -1,15 +1,16 @@
 -- A byte that is none of the codes: no code is found for it, it has no width, and it takes no path.
-use mathlib.Core.Path.{_≡_, refl}
+use mathlib.Core.Path.{_≡_, refl, sym}
 use Prim.Native.Nat.{ℕ, zero, suc, _≤_, _<_}
 use native.Mathlib.Omega.{arith}
 use mathlib.Core.List.{List, [], _∷_}
-use mathlib.Core.Option.{none}
+use mathlib.Core.Option.{none, some}
 use mathlib.Core.Bool.{Bool, true, false, not, _&&_}
 use lib.Dec.{ltb}
 use borrow.Author.Tests.{ne-eqb, ltb-true, ltb-false, not-true}
 use Rattle.rules.specs.Cases.{maybe}
 use Rattle.rules.specs.Commands.{Code, code, codes, codeOf, takesPath}
 use Rattle.rules.proofs.SoundTest.{and-case}
+use Rattle.commands.specs.Widths.{widthIn, widthOf}
 
 -- beside T, that b is no code of the list: what a match on b knows once it is past these codes
 abbrev pub NoneOf : ℕ → Type 0 → List Code → Type 0
@@ -23,9 +24,18 @@ none-of b T (c ∷ cs) n =
     let k = none-of b (T × (b ≡ c .byte → ⊥)) cs n in
     (k .0 .0, rw (ne-eqb b (c .byte) (k .0 .1)) (k .1))
 
--- past all nineteen
-pub unknown-code : (b : ℕ) → NoneOf b (Unit {0}) codes → codeOf b codes ≡ none
-unknown-code b n = none-of b (Unit {0}) codes n .1
+-- past all of a table
+pub unknown-code : (cs : List Code) (b : ℕ) → NoneOf b (Unit {0}) cs → codeOf b cs ≡ none
+unknown-code cs b n = none-of b (Unit {0}) cs n .1
+
+-- ---- the width that a match tells: of a code k, of none
+
+pub known-width : (b : ℕ) {k w : ℕ} → b ≡ k → widthOf k ≡ some w → some w ≡ widthOf b
+known-width b e h = rw e (sym h)
+
+pub no-width : (b : ℕ) → NoneOf b (Unit {0}) codes → none ≡ widthOf b
+unfolding widthIn
+no-width b n = rw (unknown-code codes b n)
 
 -- ---- every code from 10 to 15 is known, by a test of all bytes
 

@@ -2,10 +2,13 @@
 use crate::command::AfterCommand;
 use crate::command::refused_one;
 use crate::command::refused_six;
+use crate::width::KEY_TIME;
+use crate::width::TIME;
 use entries::addr::load_addr;
+use raw::layout::ADDRESS;
 use raw::numbers::read_u64;
-use types::coord::Path;
 use types::reply::refused;
+use types::sender::Sender;
 ghost use mathlib.Core.Path.{_≡_};
 ghost use Prim.Native.Nat.{_≤_};
 ghost use lib.ListN.{length, drop};
@@ -15,22 +18,22 @@ ghost use Rattle.commands.specs.OnMemory.{obeyByte, session};
 ghost use Rattle.commands.specs.After.{Answers};
 
 // 20: key, time.
-pub fn get(state: &[u8], is_sound: bool, pending: Path, input: &[u8], at: usize) -> AfterCommand
+pub fn get(state: &[u8], is_sound: bool, sender: Sender, input: &[u8], at: usize) -> AfterCommand
     requires { ⌜ («is_sound» ≡ sound (capacity (now state)) (view (now state))) × (at ≤ length (now input)) ⌝ }
-    ensures { λ r. ⌜ Answers (obeyByte (session (now (state .entry)) pending) 0x20 (drop at (now (input .entry)))) r (now (state .exit)) ⌝ }
+    ensures { λ r. ⌜ Answers (obeyByte (session (now (state .entry)) sender) 0x20 (drop at (now (input .entry)))) r (now (state .exit)) ⌝ }
 {
-    if input.len() - at < 24 {
-        return refused_six(is_sound, pending);
+    if input.len() - at < KEY_TIME {
+        return refused_six(is_sound, sender);
     }
     if !is_sound {
-        return refused_one(is_sound, pending);
+        return refused_one(is_sound, sender);
     }
     let key = load_addr(input, at);
-    let time = read_u64(input, at + 16);
+    let time = read_u64(input, at + TIME);
     let part = lookups::get::get_unchecked(state, key, time);
     AfterCommand {
         reply: replies::part::part_reply(part.len()),
-        pending: pending,
+        sender: sender,
         sound: is_sound,
     }
 }
@@ -39,25 +42,25 @@ pub fn get(state: &[u8], is_sound: bool, pending: Path, input: &[u8], at: usize)
 pub fn touch(
     state: &mut [u8],
     is_sound: bool,
-    pending: Path,
+    sender: Sender,
     input: &[u8],
     at: usize,
 ) -> AfterCommand
     requires { ⌜ («is_sound» ≡ sound (capacity (now state)) (view (now state))) × (at ≤ length (now input)) ⌝ }
-    ensures { λ r. ⌜ Answers (obeyByte (session (now (state .entry)) pending) 0x21 (drop at (now (input .entry)))) r (now (state .exit)) ⌝ }
+    ensures { λ r. ⌜ Answers (obeyByte (session (now (state .entry)) sender) 0x21 (drop at (now (input .entry)))) r (now (state .exit)) ⌝ }
 {
-    if input.len() - at < 24 {
-        return refused_six(is_sound, pending);
+    if input.len() - at < KEY_TIME {
+        return refused_six(is_sound, sender);
     }
     if !is_sound {
-        return refused_one(is_sound, pending);
+        return refused_one(is_sound, sender);
     }
     let key = load_addr(input, at);
-    let time = read_u64(input, at + 16);
+    let time = read_u64(input, at + TIME);
     let answer = lookups::touch::touch_unchecked(state, key, time);
     AfterCommand {
         reply: replies::answer::touch_reply(answer),
-        pending: pending,
+        sender: sender,
         sound: is_sound,
     }
 }
@@ -66,25 +69,25 @@ pub fn touch(
 pub fn remove(
     state: &mut [u8],
     is_sound: bool,
-    pending: Path,
+    sender: Sender,
     input: &[u8],
     at: usize,
 ) -> AfterCommand
     requires { ⌜ («is_sound» ≡ sound (capacity (now state)) (view (now state))) × (at ≤ length (now input)) ⌝ }
-    ensures { λ r. ⌜ Answers (obeyByte (session (now (state .entry)) pending) 0x22 (drop at (now (input .entry)))) r (now (state .exit)) ⌝ }
+    ensures { λ r. ⌜ Answers (obeyByte (session (now (state .entry)) sender) 0x22 (drop at (now (input .entry)))) r (now (state .exit)) ⌝ }
 {
-    if input.len() - at < 16 {
-        return refused_six(is_sound, pending);
+    if input.len() - at < ADDRESS {
+        return refused_six(is_sound, sender);
     }
     if !is_sound {
-        return refused_one(is_sound, pending);
+        return refused_one(is_sound, sender);
     }
     let key = load_addr(input, at);
     let answer = lookups::remove::remove_unchecked(state, key);
     let removal = answer.removal;
     AfterCommand {
         reply: replies::answer::remove_reply(removal),
-        pending: pending,
+        sender: sender,
         sound: is_sound,
     }
 }
@@ -93,23 +96,23 @@ pub fn remove(
 pub fn demote(
     state: &mut [u8],
     is_sound: bool,
-    pending: Path,
+    sender: Sender,
     input: &[u8],
     at: usize,
 ) -> AfterCommand
     requires { ⌜ («is_sound» ≡ sound (capacity (now state)) (view (now state))) × (at ≤ length (now input)) ⌝ }
-    ensures { λ r. ⌜ Answers (obeyByte (session (now (state .entry)) pending) 0x23 (drop at (now (input .entry)))) r (now (state .exit)) ⌝ }
+    ensures { λ r. ⌜ Answers (obeyByte (session (now (state .entry)) sender) 0x23 (drop at (now (input .entry)))) r (now (state .exit)) ⌝ }
 {
-    if input.len() - at < 16 {
-        return refused_six(is_sound, pending);
+    if input.len() - at < ADDRESS {
+        return refused_six(is_sound, sender);
     }
     if !is_sound {
-        return refused_one(is_sound, pending);
+        return refused_one(is_sound, sender);
     }
     let key = load_addr(input, at);
     AfterCommand {
         reply: replies::answer::demote_reply(lookups::demote::demote_unchecked(state, key)),
-        pending: pending,
+        sender: sender,
         sound: is_sound,
     }
 }
@@ -118,23 +121,23 @@ pub fn demote(
 pub fn clear_path_mtu(
     state: &mut [u8],
     is_sound: bool,
-    pending: Path,
+    sender: Sender,
     input: &[u8],
     at: usize,
 ) -> AfterCommand
     requires { ⌜ («is_sound» ≡ sound (capacity (now state)) (view (now state))) × (at ≤ length (now input)) ⌝ }
-    ensures { λ r. ⌜ Answers (obeyByte (session (now (state .entry)) pending) 0x24 (drop at (now (input .entry)))) r (now (state .exit)) ⌝ }
+    ensures { λ r. ⌜ Answers (obeyByte (session (now (state .entry)) sender) 0x24 (drop at (now (input .entry)))) r (now (state .exit)) ⌝ }
 {
-    if input.len() - at < 16 {
-        return refused_six(is_sound, pending);
+    if input.len() - at < ADDRESS {
+        return refused_six(is_sound, sender);
     }
     if !is_sound {
-        return refused_one(is_sound, pending);
+        return refused_one(is_sound, sender);
     }
     let key = load_addr(input, at);
     AfterCommand {
         reply: refused(lookups::path_mtu::clear_path_mtu_unchecked(state, key)),
-        pending: pending,
+        sender: sender,
         sound: is_sound,
     }
 }

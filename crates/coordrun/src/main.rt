@@ -8,8 +8,8 @@ use raw::layout::HEAD;
 use raw::layout::ROW;
 use stream::run::Ran;
 use stream::stop::Stop;
-use types::coord::Path;
 use types::reply::Tally;
+use types::sender::Sender;
 ghost use mathlib.Core.Path.{_≡_};
 ghost use lib.ListN.{length};
 ghost use Rattle.rules.specs.Commands.{coordrunRows};
@@ -29,7 +29,7 @@ fn memory_of_24_rows() -> [u8; MEMORY]
 struct Session {
     // Bytes at the start of the input that are still to run.
     filled: usize,
-    pending: Path,
+    sender: Sender,
     tally: Tally,
     // More input is wanted before the next run.
     wants_input: bool,
@@ -42,7 +42,7 @@ impl Session {
     fn new() -> Session {
         Session {
             filled: 0,
-            pending: Path::empty(),
+            sender: Sender::new(),
             tally: Tally {
                 done: 0,
                 refused: 0,
@@ -75,12 +75,12 @@ impl Session {
     fn after(self, ran: Ran, filled: usize) -> Session {
         let last = self.last;
         let stop = ran.stop;
-        let pending = ran.pending;
+        let sender = ran.sender;
         let tally = ran.tally;
         let wants_input = !is_full(stop);
         Session {
             filled: filled,
-            pending: pending,
+            sender: sender,
             tally: tally,
             wants_input: wants_input,
             last: last,
@@ -121,9 +121,9 @@ fn run_some(memory: &mut [u8], input: &mut [u8], output: &mut [u8], s: Session) 
     if filled > input.len() {
         return s.failed();
     }
-    let pending = s.pending;
+    let sender = s.sender;
     let tally = s.tally;
-    let ran = stream::run::run(memory, pending, tally, &input[0..filled], s.last, output);
+    let ran = stream::run::run(memory, sender, tally, &input[0..filled], s.last, output);
     let used = ran.used;
     let written = ran.written;
     let left = stream::run::keep_unused(input, used, filled);

@@ -8,8 +8,7 @@ use lib.ListN.{length, drop, getD, set, length-append, drop-of-length-le}
 use lib.Seq.{sets, set-comm, drop-cons}
 use Rattle.raw.proofs.StoreLaws.{sets-more}
 use Rattle.types.specs.declared.reply.Reply.{Reply}
-use Rattle.types.specs.Values.{space}
-use Rattle.rules.specs.Commands.{hexDigit, decimal, spaced, line, lineText}
+use Rattle.rules.specs.Commands.{hexDigit, decimal, space, spaced, line, lineText}
 use Rattle.replies.proofs.Digits.{lastDigits, length-last, at-most}
 
 -- text that goes on where other text ends

@@ -5,8 +5,7 @@ ghost use mathlib.Core.List.{_∷_};
 ghost use Prim.Native.Nat.{_+_, _≤_, _<_};
 ghost use lib.ListN.{length};
 ghost use lib.Seq.{sets};
-ghost use Rattle.rules.specs.Commands.{hexDigit, decimal, spaced, line, lineText};
-ghost use Rattle.types.specs.Values.{space};
+ghost use Rattle.rules.specs.Commands.{hexDigit, decimal, space, spaced, line, lineText};
 
 // Room for any line: two digits, six numbers of up to twenty digits after a space each, the line's end.
 pub const LINE: usize = 129;

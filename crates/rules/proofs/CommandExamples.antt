@@ -5,9 +5,9 @@ use mathlib.Core.List.{List, [], _∷_, _++_, map}
 use mathlib.Core.Option.{Option, none, some}
 use mathlib.Core.Bool.{true, false}
 use lib.ListN.{length, replicate}
-use Rattle.types.specs.declared.coord.Path.{Path}
+use Rattle.types.specs.declared.sender.Sender.{Sender}
 use Rattle.types.specs.declared.node_addr.NodeAddr.{NodeAddr}
-use Rattle.types.specs.Paths.{emptyPath}
+use Rattle.types.specs.Senders.{newSender}
 use Rattle.types.specs.declared.placed.Funding.the-variants.{Uncharged, Upto}
 use Rattle.types.specs.declared.placed.HintOutcome.the-variants.{Changed, Rejected, Unchanged}
 use Rattle.types.specs.declared.placed.Segment.the-variants.{Main, Probation}
@@ -21,13 +21,13 @@ use Rattle.rules.proofs.Compute.{done, elementsFrom, hint, insert, inse
 -- ---- operands of every code
 
 -- the request that a command makes with a path of one element pending
-requestIn : Path → Command → Option Request
-requestIn p (Element e) = none
-requestIn p (WithPath f) = some (Asked (f p))
-requestIn p (Plain x) = some x
+requestIn : Sender → Command → Option Request
+requestIn s (Element e) = none
+requestIn s (WithPath f) = some (Asked (f s))
+requestIn s (Plain x) = some x
 
 asks : ℕ → List ℕ → Option Request
-asks b bs = maybe (decode b bs) none (λ d. requestIn (path 1) (d .command))
+asks b bs = maybe (decode b bs) none (λ d. requestIn (record { pending = path 1 }) (d .command))
 
 -- the bytes 1, 2, 3 ..
 counted : ℕ → ℕ → List ℕ
@@ -204,7 +204,7 @@ pending-kept-and-emptied = refl
 -- the length of the pending path after a run
 pendingAfter : List ℕ → ℕ
 unfolding linesOf
-pendingAfter bs = runCommands (length bs) 24 (record { state = fresh 24 8 300000 []; pending = emptyPath }) bs .session .pending .len
+pendingAfter bs = runCommands (length bs) 24 (record { state = fresh 24 8 300000 []; sender = newSender }) bs .session .sender .pending .len
 
 -- number 6 empties it for 10 to 15 alone: cut at 10 and 15, kind 2 at 12; cut at 20, and unknown at 0f, 16 and ff
 six-and-the-pending-path : map (λ bs. pendingAfter (element 1 ++ bs)) ((0x10 ∷ []) ∷ (0x15 ∷ []) ∷ (0x12 ∷ (replicate 24 1 ++ (2 ∷ []) ++ replicate 8 0)) ∷ (0x20 ∷ []) ∷ (0x0f ∷ []) ∷ (0x16 ∷ []) ∷ (0xff ∷ []) ∷ []) ≡ 0 ∷ 0 ∷ 0 ∷ 1 ∷ 1 ∷ 1 ∷ 1 ∷ []

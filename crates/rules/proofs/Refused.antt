@@ -290,19 +290,3 @@ write-allowed R s q h p w v = refused-by-none R s q (record { sound = h; path = 
 pub refused-only-one : (R : ℕ) (s : State) (q : Call) → sound R s ≡ true → pathGiven q ≡ none → verifiedWrite q ≡ none → drawsStamps q && seqSpent s ≡ false → refusal R s (Asked q) ≡ none
 refused-only-one R s q h p v d = refused-by-none R s q (record { sound = h; path = rw p; stamps = d; place = rw v })
 
--- a request is refused by 1 to 5 alone
-one-to-five : (R : ℕ) (s : State) (x : Request) → Every (λ m. (1 ≤ m) × (m ≤ 5)) (numbers (reasons R s x))
-unfolding reasons reason
-one-to-five R s (Fresh m ttl) = ((omega arith, omega arith), tt)
-one-to-five R s (Asked q) = ((omega arith, omega arith), ((omega arith, omega arith), ((omega arith, omega arith), ((omega arith, omega arith), tt))))
-
-listed-bounded : (n : ℕ) (ms : List ℕ) → Every (λ m. (1 ≤ m) × (m ≤ 5)) ms → isOneOf n ms ≡ true → (1 ≤ n) × (n ≤ 5)
-listed-bounded n [] h f = contradiction {b = false} f refl
-listed-bounded n (m ∷ ms) h f = go (eqb m n) refl f (listed-bounded n ms (h .1))
-  where
-    go : (b : Bool) → eqb m n ≡ b → b || isOneOf n ms ≡ true → (isOneOf n ms ≡ true → (1 ≤ n) × (n ≤ 5)) → (1 ≤ n) × (n ≤ 5)
-    go true i g later = let z = eqb-true m n i in let w = h .0 in (omega arith, omega arith)
-    go false i g later = later g
-
-pub refused-one-to-five : (R : ℕ) (s : State) (x : Request) (n : ℕ) → refusal R s x ≡ some n → (1 ≤ n) × (n ≤ 5)
-refused-one-to-five R s x n e = listed-bounded n (numbers (reasons R s x)) (one-to-five R s x) (table-number R s x n e)

@@ -7,9 +7,10 @@ use lib.Dec.{ltb, leb, eqb}
 use lib.ListN.{length, take, drop}
 use Rattle.types.specs.declared.node_addr.NodeAddr.{NodeAddr}
 use Rattle.types.specs.declared.coord.CoordEntry.{CoordEntry}
-use Rattle.types.specs.declared.coord.Path.{Path}
+use Rattle.types.specs.declared.sender.Sender.{Sender}
 use Rattle.types.specs.declared.coord.Appended.{Appended}
-use Rattle.types.specs.Paths.{emptyPath, appended}
+use Rattle.types.specs.Paths.{appended}
+use Rattle.types.specs.Senders.{newSender, withPending, emptied}
 use Rattle.types.specs.declared.placed.Funding.{Funding}
 use Rattle.types.specs.declared.placed.Funding.the-variants.{Upto, Uncharged}
 use Rattle.types.specs.declared.reply.Reply.{Reply}
@@ -20,7 +21,7 @@ use Rattle.rules.specs.Records.{State}
 use Rattle.rules.specs.Memory.{cut, leNumber, coordEntryOf}
 use Rattle.rules.specs.Calls.{Call, Insert, InsertWithTtl, InsertFunded, InsertStated, InsertVerified, InsertVerifiedWithPathMtu, Get, GetAndTouch, Remove, Demote, ClearPathMtu, PurgeExpired, Clear, InvalidateViaNode, InvalidateOtherRoots, Stats, NextExpiry, Answer, Refused, Hinted, VerifiedDone, PathFound, EntryRemoved, KeyHeld, Done, RowsRemoved, StatsGiven, ExpiryGiven}
 use Rattle.rules.specs.Refusals.{Request, Fresh, Asked, Step, serve, fresh}
-use Rattle.rules.specs.Layout.{coordEntrySize}
+use Rattle.rules.specs.Layout.{byteSize, mtuSize, numberSize, addressSize, coordEntrySize}
 
 -- ---- replies
 
@@ -37,56 +38,126 @@ reply (RowsRemoved n) = says n 0 0 0 0
 reply (StatsGiven c) = statsReply c
 reply (ExpiryGiven o) = maybe o (says 0 0 0 0 0) (λ t. says 1 t 0 0 0)
 
+-- ---- operands: widths, and where each stands
+
+-- a key alone, or an address, has addressSize bytes, and a time alone numberSize
+
+-- 00: max, ttl
+abbrev pub maxSize : ℕ
+maxSize = 2
+
+abbrev pub freshTtlAt : ℕ
+freshTtlAt = maxSize
+
+abbrev pub freshSize : ℕ
+freshSize = freshTtlAt + numberSize
+
+-- key, time
+abbrev pub timeAt : ℕ
+timeAt = addressSize
+
+abbrev pub keyTimeSize : ℕ
+keyTimeSize = timeAt + numberSize
+
+-- behind them a ttl
+abbrev pub ttlAt : ℕ
+ttlAt = keyTimeSize
+
+abbrev pub withTtlSize : ℕ
+withTtlSize = ttlAt + numberSize
+
+-- a funding: kind, amount
+abbrev pub kindAt : ℕ
+kindAt = keyTimeSize
+
+abbrev pub amountAt : ℕ
+amountAt = kindAt + byteSize
+
+abbrev pub withFundingSize : ℕ
+withFundingSize = amountAt + numberSize
+
+-- an MTU
+abbrev pub mtuAt : ℕ
+mtuAt = keyTimeSize
+
+abbrev pub withMtuSize : ℕ
+withMtuSize = mtuAt + mtuSize
+
 -- ---- commands from bytes
 
--- an element onto the pending path; a call that takes the pending path (codes 10 to 15); any other request
+-- an element onto the pending path; a call that takes what the sender has (codes 10 to 15); any other request
 pub data Command : Type 0 where
   Element : CoordEntry → Command
-  WithPath : (Path → Call) → Command
+  WithPath : (Sender → Call) → Command
   Plain : Request → Command
 
--- a command byte, the width of its operands, and what they say (none for a funding kind over 1)
+-- what operands say: an element; a call that takes what the sender has; such a call with a funding; any other request
+pub data Operands : Type 0 where
+  Elements : (List ℕ → CoordEntry) → Operands
+  Writes : (List ℕ → Sender → Call) → Operands
+  Funds : (List ℕ → Funding → Sender → Call) → Operands
+  Requests : (List ℕ → Request) → Operands
+
+abbrev pub asks : (List ℕ → Call) → Operands
+asks f = Requests (λ o. Asked (f o))
+
+-- a command byte, the width of its operands, and what they say
 pub record Code : Type 0 where
   pub byte : ℕ
   pub width : ℕ
-  pub reads : List ℕ → Option Command
+  pub says : Operands
 
-unfoldable pub code : ℕ → ℕ → (List ℕ → Option Command) → Code
-code b w f = record { byte = b; width = w; reads = f }
+unfoldable pub code : ℕ → ℕ → Operands → Code
+code b w x = record { byte = b; width = w; says = x }
 
 abbrev pub keyIn : List ℕ → NodeAddr
-keyIn o = record { 0 = cut 0 16 o }
+keyIn o = record { 0 = cut 0 addressSize o }
 
 abbrev pub timeIn : List ℕ → ℕ
-timeIn o = leNumber (cut 16 8 o)
+timeIn o = leNumber (cut timeAt numberSize o)
+
+abbrev pub kindIn : List ℕ → ℕ
+kindIn o = leNumber (cut kindAt byteSize o)
+
+abbrev pub amountIn : List ℕ → ℕ
+amountIn o = leNumber (cut amountAt numberSize o)
 
 -- kind 0 Uncharged, 1 Upto
-unfoldable pub funded : List ℕ → (Funding → Path → Call) → Option Command
-funded o f =
-    let kind = leNumber (cut 24 1 o) in
-    cond (eqb kind 0) (some (WithPath (f Uncharged))) (cond (eqb kind 1) (some (WithPath (f (Upto (leNumber (cut 25 8 o)))))) none)
+unfoldable pub funded : List ℕ → (Funding → Sender → Call) → Option Command
+funded o f = cond (eqb (kindIn o) 0) (some (WithPath (f Uncharged))) (cond (eqb (kindIn o) 1) (some (WithPath (f (Upto (amountIn o))))) none)
 
+-- none for a funding kind over 1
+unfoldable pub readAs : Operands → List ℕ → Option Command
+readAs (Elements f) o = some (Element (f o))
+readAs (Writes f) o = some (WithPath (f o))
+readAs (Funds f) o = funded o (f o)
+readAs (Requests f) o = some (Plain (f o))
+
+abbrev pub reads : Code → List ℕ → Option Command
+reads c o = readAs (c .says) o
+
+-- the table of codes
 unfoldable pub codes : List Code
 codes =
-    code 0x00 10 (λ o. some (Plain (Fresh (leNumber (cut 0 2 o)) (leNumber (cut 2 8 o)))))
-    ∷ code 0x01 coordEntrySize (λ o. some (Element (coordEntryOf o)))
-    ∷ code 0x10 24 (λ o. some (WithPath (λ p. Insert (keyIn o) p (timeIn o))))
-    ∷ code 0x11 32 (λ o. some (WithPath (λ p. InsertWithTtl (keyIn o) p (timeIn o) (leNumber (cut 24 8 o)))))
-    ∷ code 0x12 33 (λ o. funded o (λ f p. InsertFunded (keyIn o) p (timeIn o) f))
-    ∷ code 0x13 33 (λ o. funded o (λ f p. InsertStated (keyIn o) p (timeIn o) f))
-    ∷ code 0x14 24 (λ o. some (WithPath (λ p. InsertVerified (keyIn o) p (timeIn o))))
-    ∷ code 0x15 26 (λ o. some (WithPath (λ p. InsertVerifiedWithPathMtu (keyIn o) p (timeIn o) (leNumber (cut 24 2 o)))))
-    ∷ code 0x20 24 (λ o. some (Plain (Asked (Get (keyIn o) (timeIn o)))))
-    ∷ code 0x21 24 (λ o. some (Plain (Asked (GetAndTouch (keyIn o) (timeIn o)))))
-    ∷ code 0x22 16 (λ o. some (Plain (Asked (Remove (keyIn o)))))
-    ∷ code 0x23 16 (λ o. some (Plain (Asked (Demote (keyIn o)))))
-    ∷ code 0x24 16 (λ o. some (Plain (Asked (ClearPathMtu (keyIn o)))))
-    ∷ code 0x30 8 (λ o. some (Plain (Asked (PurgeExpired (leNumber (cut 0 8 o))))))
-    ∷ code 0x31 0 (λ o. some (Plain (Asked Clear)))
-    ∷ code 0x32 16 (λ o. some (Plain (Asked (InvalidateViaNode (keyIn o)))))
-    ∷ code 0x33 16 (λ o. some (Plain (Asked (InvalidateOtherRoots (keyIn o)))))
-    ∷ code 0x40 8 (λ o. some (Plain (Asked (Stats (leNumber (cut 0 8 o))))))
-    ∷ code 0x41 0 (λ o. some (Plain (Asked NextExpiry)))
+    code 0x00 freshSize (Requests (λ o. Fresh (leNumber (cut 0 maxSize o)) (leNumber (cut freshTtlAt numberSize o))))
+    ∷ code 0x01 coordEntrySize (Elements coordEntryOf)
+    ∷ code 0x10 keyTimeSize (Writes (λ o s. Insert (keyIn o) (s .pending) (timeIn o)))
+    ∷ code 0x11 withTtlSize (Writes (λ o s. InsertWithTtl (keyIn o) (s .pending) (timeIn o) (leNumber (cut ttlAt numberSize o))))
+    ∷ code 0x12 withFundingSize (Funds (λ o f s. InsertFunded (keyIn o) (s .pending) (timeIn o) f))
+    ∷ code 0x13 withFundingSize (Funds (λ o f s. InsertStated (keyIn o) (s .pending) (timeIn o) f))
+    ∷ code 0x14 keyTimeSize (Writes (λ o s. InsertVerified (keyIn o) (s .pending) (timeIn o)))
+    ∷ code 0x15 withMtuSize (Writes (λ o s. InsertVerifiedWithPathMtu (keyIn o) (s .pending) (timeIn o) (leNumber (cut mtuAt mtuSize o))))
+    ∷ code 0x20 keyTimeSize (asks (λ o. Get (keyIn o) (timeIn o)))
+    ∷ code 0x21 keyTimeSize (asks (λ o. GetAndTouch (keyIn o) (timeIn o)))
+    ∷ code 0x22 addressSize (asks (λ o. Remove (keyIn o)))
+    ∷ code 0x23 addressSize (asks (λ o. Demote (keyIn o)))
+    ∷ code 0x24 addressSize (asks (λ o. ClearPathMtu (keyIn o)))
+    ∷ code 0x30 numberSize (asks (λ o. PurgeExpired (leNumber (cut 0 numberSize o))))
+    ∷ code 0x31 0 (asks (λ o. Clear))
+    ∷ code 0x32 addressSize (asks (λ o. InvalidateViaNode (keyIn o)))
+    ∷ code 0x33 addressSize (asks (λ o. InvalidateOtherRoots (keyIn o)))
+    ∷ code 0x40 numberSize (asks (λ o. Stats (leNumber (cut 0 numberSize o))))
+    ∷ code 0x41 0 (asks (λ o. NextExpiry))
     ∷ []
 
 unfoldable pub codeOf : ℕ → List Code → Option Code
@@ -98,45 +169,54 @@ pub record Decoded : Type 0 where
   pub command : Command
   pub left : List ℕ
 
--- none is number 6: command unknown, cut, or funding kind over 1
-unfoldable pub decode : ℕ → List ℕ → Option Decoded
-decode b bs =
-    maybe (codeOf b codes) none (λ c.
-    let read = maybe (c .reads (take (c .width) bs)) none (λ q. some (record { command = q; left = drop (c .width) bs })) in
+-- by a table of codes; none is number 6: command unknown, cut, or funding kind over 1
+unfoldable pub decodeIn : List Code → ℕ → List ℕ → Option Decoded
+decodeIn cs b bs =
+    maybe (codeOf b cs) none (λ c.
+    let read = maybe (reads c (take (c .width) bs)) none (λ q. some (record { command = q; left = drop (c .width) bs })) in
     cond (leb (c .width) (length bs)) read none)
+
+abbrev pub decode : ℕ → List ℕ → Option Decoded
+decode b bs = decodeIn codes b bs
 
 -- ---- one command
 
--- the state and the pending path
+-- the state, and what the sender has
 pub record Session : Type 0 where
   pub state : State
-  pub pending : Path
+  pub sender : Sender
 
 pub record Obeyed : Type 0 where
   pub reply : Reply
   pub session : Session
 
-unfoldable pub obeyed : Step → Path → Obeyed
-obeyed t p = record { reply = reply (t .answer); session = record { state = t .state; pending = p } }
+unfoldable pub obeyed : Step → Sender → Obeyed
+obeyed t k = record { reply = reply (t .answer); session = record { state = t .state; sender = k } }
 
 -- 01: pending; a 33rd element is refused by 2 and dropped
-unfoldable pub pended : State → Appended → Obeyed
-pended s a =
-    record { reply = cond (eqb (a .refusal) 0) (says (a .path .len) 0 0 0 0) (refuses (a .refusal)); session = record { state = s; pending = a .path } }
+abbrev pub elementReply : Appended → Reply
+elementReply a = cond (eqb (a .refusal) 0) (says (a .path .len) 0 0 0 0) (refuses (a .refusal))
+
+unfoldable pub pended : Session → Appended → Obeyed
+pended s a = record { reply = elementReply a; session = record { state = s .state; sender = withPending (a .path) (s .sender) } }
 
 -- codes 10 to 15 empty the pending path, refused or not; every other command keeps it
 unfoldable pub obey : ℕ → Session → Command → Obeyed
-obey R s (Element e) = pended (s .state) (appended (s .pending) e)
-obey R s (WithPath f) = obeyed (serve R (s .state) (Asked (f (s .pending)))) emptyPath
-obey R s (Plain x) = obeyed (serve R (s .state) x) (s .pending)
+obey R s (Element e) = pended s (appended (s .sender .pending) e)
+obey R s (WithPath f) = obeyed (serve R (s .state) (Asked (f (s .sender)))) (emptied (s .sender))
+obey R s (Plain x) = obeyed (serve R (s .state) x) (s .sender)
 
 -- 10 to 15
 unfoldable pub takesPath : ℕ → Bool
 takesPath b = leb 0x10 b && leb b 0x15
 
--- number 6 leaves the state; 10 to 15 empty the pending path here too
+-- what a command refused by 6 leaves: 10 to 15 empty the pending path here too
+unfoldable pub afterSix : ℕ → Sender → Sender
+afterSix b k = cond (takesPath b) (emptied k) k
+
+-- number 6 leaves the state
 unfoldable pub refusedSix : ℕ → Session → Obeyed
-refusedSix b s = record { reply = refuses 6; session = record { state = s .state; pending = cond (takesPath b) emptyPath (s .pending) } }
+refusedSix b s = record { reply = refuses 6; session = record { state = s .state; sender = afterSix b (s .sender) } }
 
 -- ---- a run: one line a command
 
@@ -173,9 +253,9 @@ tallyAfter t (l ∷ ls) = tallyAfter (tallied t (l .reply .refusal)) ls
 abbrev pub coordrunRows : ℕ
 coordrunRows = 24
 
--- coordrun: on that many rows, starting fresh at max 8, ttl 300000, with no pending path
+-- coordrun: on that many rows, starting fresh at max 8, ttl 300000, with a new sender
 unfoldable pub coordrun : List ℕ → List Line
-coordrun bs = runCommands (length bs) coordrunRows (record { state = fresh coordrunRows 8 300000 []; pending = emptyPath }) bs .lines
+coordrun bs = runCommands (length bs) coordrunRows (record { state = fresh coordrunRows 8 300000 []; sender = newSender }) bs .lines
 
 -- ---- a line as text
 
@@ -192,10 +272,14 @@ decimalDigits (suc n) v = let higher = decimalDigits n (v / 10) in cond (ltb v 1
 unfoldable pub decimal : ℕ → List ℕ
 decimal v = decimalDigits 20 v
 
+-- the character between numbers
+abbrev pub space : ℕ
+space = 32
+
 -- each number after a space
 unfoldable pub spaced : List ℕ → List ℕ
 spaced [] = []
-spaced (v ∷ vs) = 32 ∷ (decimal v ++ spaced vs)
+spaced (v ∷ vs) = space ∷ (decimal v ++ spaced vs)
 
 -- code in two lowercase hex digits, refusal or 0, five decimal numbers
 unfoldable pub lineText : Line → List ℕ

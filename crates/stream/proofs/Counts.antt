@@ -7,10 +7,10 @@ use mathlib.Core.Option.{Option, none, some}
 use mathlib.Core.Bool.{Bool}
 use lib.ListN.{length, drop, length-drop}
 use Rattle.rules.specs.Cases.{maybe}
-use Rattle.rules.specs.Commands.{Decoded, decode, line, lineText}
+use Rattle.rules.specs.Commands.{Decoded, codes, decode, line, lineText}
+use Rattle.rules.proofs.CommandRuns.{left-shorter}
 use Rattle.commands.specs.OnMemory.{Session, obey, obeyByte, refusedSix}
 use Rattle.stream.specs.Runs.{Run, operands, runAll, runPart}
-use Rattle.stream.proofs.OneCommand.{left-shorter}
 
 -- ---- the whole stream
 
@@ -34,7 +34,7 @@ same-run (suc n) (suc m) h (b ∷ bs) i j = go (decode b bs) refl (λ d l. same-
     go : (o : Option Decoded) → decode b bs ≡ o → ((d : Decoded) → length (d .left) ≤ length bs → runAll n (obey h (d .command) .session) (d .left) ≡ runAll m (obey h (d .command) .session) (d .left))
         → maybe o six (λ d. then d (runAll n (obey h (d .command) .session) (d .left))) ≡ maybe o six (λ d. then d (runAll m (obey h (d .command) .session) (d .left)))
     go none e f = refl
-    go (some d) e f = ap (then d) (f d (left-shorter b bs d e))
+    go (some d) e f = ap (then d) (f d (left-shorter codes b bs d e))
 
 -- THE NUMBER OF BYTES IS ENOUGH
 pub count-enough : (n : ℕ) (h : Session) (bs : List ℕ) → length bs ≤ n → runAll n h bs ≡ runAll (length bs) h bs

@@ -10,16 +10,16 @@ use lib.ListN.{length, take, drop, length-drop}
 use lib.Seq.{drop-drop, drop-length, take-add}
 use borrow.Author.Tests.{eqb-false, eqb-true, ltb-true}
 use Rattle.rules.specs.Cases.{maybe, Every}
-use Rattle.rules.specs.Commands.{Code, Decoded, Line, code, codeOf, codes, decode, line, lineText}
+use Rattle.rules.specs.Commands.{Code, Decoded, Line, code, codeOf, codes, decode, line, lineText, withFundingSize}
 use Rattle.rules.proofs.Addresses.{contradiction}
-use Rattle.rules.proofs.RowLists.{cond-some}
-use Rattle.commands.specs.Widths.{widthOf}
+use Rattle.rules.proofs.CommandRuns.{code-found, left-shorter}
+use Rattle.commands.specs.Widths.{widthIn}
 use Rattle.commands.specs.OnMemory.{Session, Obeyed, obey, obeyByte, refusedSix}
 use Rattle.stream.specs.declared.stop.Stop.{Stop}
 use Rattle.stream.specs.declared.stop.Stop.the-variants.{Cut, End, Full, Six}
-use Rattle.stream.specs.Runs.{Run, RunEnd, andThen, cutShort, lineRoom, operands, runAll, runPart, stopped}
+use Rattle.stream.specs.Runs.{Run, RunEnd, andThen, cutShort, cutShortIn, lineRoom, operands, operandsIn, runAll, runPart, stopped}
 use Rattle.stream.specs.Streams.{toEnd}
-use Rattle.stream.proofs.OneCommand.{left-shorter, none-stays, own-bytes, six-exactly, some-stays, takes-operands}
+use Rattle.stream.proofs.OneCommand.{none-stays, own-bytes, six-exactly, some-stays, takes-operands}
 use Rattle.stream.proofs.Counts.{count-enough}
 
 -- lines, and then a run
@@ -46,7 +46,7 @@ all-none h b bs e = rw e
 
 all-some : (h : Session) (b : ℕ) (bs : List ℕ) (d : Decoded) → decode b bs ≡ some d → toEnd h (b ∷ bs) ≡ behind (line b (obey h (d .command) .reply) ∷ []) (toEnd (obey h (d .command) .session) (d .left))
 unfolding runAll
-all-some h b bs d e = rw e (ap (behind (line b (obey h (d .command) .reply) ∷ [])) (count-enough (length bs) (obey h (d .command) .session) (d .left) (left-shorter b bs d e)))
+all-some h b bs d e = rw e (ap (behind (line b (obey h (d .command) .reply) ∷ [])) (count-enough (length bs) (obey h (d .command) .session) (d .left) (left-shorter codes b bs d e)))
 
 -- a 6 ends the stream, whatever follows
 six-ends : (h : Session) (b : ℕ) (bs more : List ℕ) → (cutShort b bs ≡ true → more ≡ []) → obeyByte h b bs .reply .refusal ≡ 6
@@ -58,7 +58,7 @@ six-ends h b bs more c e =
   where
     go : (a : Bool) → cutShort b bs ≡ a → decode b bs ≡ none → decode b (bs ++ more) ≡ none
     go true f n = subst (λ (l : List ℕ). decode b l ≡ none) (sym (ap (λ (l : List ℕ). bs ++ l) (c f) ∙ append-nil bs)) n
-    go false f n = none-stays b bs more f n
+    go false f n = none-stays codes b bs more f n
 
 -- any other command, and then what is left
 obeyed-first : (h : Session) (b : ℕ) (bs more : List ℕ) → (obeyByte h b bs .reply .refusal ≡ 6 → ⊥)
@@ -67,7 +67,7 @@ obeyed-first h b bs more ne = go (decode b bs) refl
   where
     go : (o : Option Decoded) → decode b bs ≡ o → toEnd h (b ∷ (bs ++ more)) ≡ behind (line b (obeyByte h b bs .reply) ∷ []) (toEnd (obeyByte h b bs .session) (drop (operands b bs) bs ++ more))
     go none e = absurd (ne (six-exactly h b bs .1 e))
-    go (some d) e = rw (obeyed-some h b bs d e, ← takes-operands b bs d e .left) (all-some h b (bs ++ more) (record { command = d .command; left = d .left ++ more }) (some-stays b bs more d e))
+    go (some d) e = rw (obeyed-some h b bs d e, ← takes-operands codes b bs d e .left) (all-some h b (bs ++ more) (record { command = d .command; left = d .left ++ more }) (some-stays codes b bs more d e))
 
 -- ---- how a part's run goes
 
@@ -150,7 +150,7 @@ own-first h b bs more ne = go (decode b bs) refl
   where
     go : (o : Option Decoded) → decode b bs ≡ o → toEnd h (b ∷ (take (operands b bs) bs ++ more)) ≡ behind (first h b bs ∷ []) (toEnd (obeyByte h b bs .session) more)
     go none e = absurd (ne (six-exactly h b bs .1 e))
-    go (some d) e = rw (obeyed-some h b bs d e) (all-some h b (take (operands b bs) bs ++ more) (record { command = d .command; left = more }) (some-stays b (take (operands b bs) bs) more (record { command = d .command; left = [] }) (own-bytes b bs d e)))
+    go (some d) e = rw (obeyed-some h b bs d e) (all-some h b (take (operands b bs) bs ++ more) (record { command = d .command; left = more }) (some-stays codes b (take (operands b bs) bs) more (record { command = d .command; left = [] }) (own-bytes codes b bs d e)))
 
 front-used : (b k u : ℕ) (bs : List ℕ) → take (1 + k + u) (b ∷ bs) ≡ b ∷ (take k bs ++ take u (drop k bs))
 front-used b k u bs = ap (λ (n : ℕ). take n (b ∷ bs)) (let z : 1 + k + u ≡ suc (k + u) = omega arith in z) ∙ ap (λ (l : List ℕ). b ∷ l) (take-add k u bs)
@@ -167,8 +167,8 @@ done-so-far (suc n) last room h (b ∷ bs) =
 -- ---- the bytes used
 
 operands-there : (b : ℕ) (bs : List ℕ) → operands b bs ≤ length bs
-unfolding operands
-operands-there b bs = go (widthOf b)
+unfolding operandsIn
+operands-there b bs = go (widthIn codes b)
   where
     go : (o : Option ℕ) → maybe o 0 (λ w. min w (length bs)) ≤ length bs
     go none = omega arith
@@ -194,25 +194,23 @@ ends-used (suc n) last room h (b ∷ bs) i =
 
 -- ---- a command cut short
 
--- a code has at most 33 operand bytes
-widths : Every (λ c. c .width ≤ 33) codes
+-- the widest operands: those with a funding
+abbrev pub mostOperands : ℕ
+mostOperands = withFundingSize
+
+widths : Every (λ c. c .width ≤ mostOperands) codes
 unfolding codes code
 widths = omega arith
 
-every-code : (P : Code → Type 0) (b : ℕ) (cs : List Code) (c : Code) → Every P cs → codeOf b cs ≡ some c → P c
-unfolding codeOf
-every-code P b [] c h e = contradiction {b = true} refl (cc)
-every-code P b (x ∷ cs) c h e = cond-some (eqb b (x .byte)) e (λ t p. subst P p (h .0)) (λ t p. every-code P b cs c (h .1) p)
-
-cut-short : (b : ℕ) (bs : List ℕ) → cutShort b bs ≡ true → length bs < 33
-unfolding cutShort widthOf
+cut-short : (b : ℕ) (bs : List ℕ) → cutShort b bs ≡ true → length bs < mostOperands
+unfolding cutShortIn widthIn
 cut-short b bs = go (codeOf b codes) refl
   where
-    go : (o : Option Code) → codeOf b codes ≡ o → maybe (maybe o none (λ c. some (c .width))) false (λ w. ltb (length bs) w) ≡ true → length bs < 33
+    go : (o : Option Code) → codeOf b codes ≡ o → maybe (maybe o none (λ c. some (c .width))) false (λ w. ltb (length bs) w) ≡ true → length bs < mostOperands
     go none e h = contradiction h refl
-    go (some c) e h = let w = every-code (λ x. x .width ≤ 33) b codes c widths e in let k = ltb-true (length bs) (c .width) h in omega arith
+    go (some c) e h = let w = code-found (λ x. x .width ≤ mostOperands) b codes c widths e .1 in let k = ltb-true (length bs) (c .width) h in omega arith
 
-cut-left : (n : ℕ) (last : Bool) (room : ℕ) (h : Session) (bs : List ℕ) → runPart n last room h bs .stop ≡ Cut → (last ≡ false) × (length bs ≤ runPart n last room h bs .used + 33)
+cut-left : (n : ℕ) (last : Bool) (room : ℕ) (h : Session) (bs : List ℕ) → runPart n last room h bs .stop ≡ Cut → (last ≡ false) × (length bs ≤ runPart n last room h bs .used + mostOperands)
 unfolding runPart stopped andThen
 cut-left zero last room h bs = λ e. contradiction {b = true} refl (cc)
 cut-left (suc n) last room h [] = λ e. contradiction {b = true} refl (cc)
@@ -224,13 +222,13 @@ cut-left (suc n) last room h (b ∷ bs) =
 -- ---- the theorems
 
 -- a run over a part of a stream, of which more may follow: after a 6 the stream is over, whatever follows; else it goes on
--- from the session then, with the bytes that are left and what follows them; those of a command cut short are at most 33
+-- from the session then, with the bytes that are left and what follows them; those of a command cut short are at most as many as the widest operands
 pub record Part (h : Session) (bs : List ℕ) (e : RunEnd) : Type 0 where
   pub on : (e .stop ≡ Six → ⊥) → (more : List ℕ) → toEnd h (bs ++ more) ≡ behind (e .lines) (toEnd (e .session) (drop (e .used) bs ++ more))
   pub six : e .stop ≡ Six → (more : List ℕ) → toEnd h (bs ++ more) ≡ over e
   pub used : e .used ≤ length bs
   pub end : e .stop ≡ End → e .used ≡ length bs
-  pub cut : e .stop ≡ Cut → length bs ≤ e .used + 33
+  pub cut : e .stop ≡ Cut → length bs ≤ e .used + mostOperands
 
 -- a run over the last part: it is over at its end and after a 6; else it goes on with the bytes that are left
 pub record LastPart (h : Session) (bs : List ℕ) (e : RunEnd) : Type 0 where

@@ -8,22 +8,21 @@ use mathlib.Core.Bool.{Bool, true, false, cond}
 use lib.Dec.{eqb}
 use lib.ListN.{length, take, drop, replicate, length-drop, length-replicate}
 use borrow.Author.Tests.{ne-eqb}
-use Rattle.types.specs.declared.coord.Path.{Path}
-use Rattle.types.specs.Paths.{emptyPath}
+use Rattle.types.specs.declared.sender.Sender.{Sender}
+use Rattle.types.specs.Senders.{newSender}
 use Rattle.types.specs.declared.reply.Reply.{Reply}
 use Rattle.types.specs.Values.{refuses}
-use Rattle.types.specs.declared.placed.Funding.{Funding}
-use Rattle.types.specs.declared.placed.Funding.the-variants.{Uncharged}
 use Rattle.rules.specs.Cases.{maybe, Every}
-use Rattle.rules.specs.Memory.{capacity, cut, heldRows, leNumber, view, viewRows}
+use Rattle.rules.specs.Memory.{capacity, heldRows, view, viewRows}
 use Rattle.rules.specs.Calls.{Call, wasRefused}
 use Rattle.rules.specs.Records.{State}
 use Rattle.rules.specs.Refusals.{Asked, Fresh, Request, badSize, fresh, gives, performRequest, refusal, serve}
 use Rattle.rules.specs.Lists.{Event}
-use Rattle.rules.specs.Lent.{Bytes, PathFits, Small, Typed, TypedRequest, call, calls, lent, requests}
-use Rattle.rules.specs.Commands.{Code, Command, Decoded, Element, Line, Plain, WithPath, code, codes, coordrun, decode, funded, line, runCommands, coordrunRows, Session as StateSession}
+use Rattle.rules.specs.Lent.{Bytes, Small, Typed, TypedRequest, call, calls, lent, requests}
+use Rattle.rules.specs.Commands.{Command, Decoded, Element, Line, Plain, WithPath, codes, coordrun, decode, line, runCommands, coordrunRows, takesPath, Session as StateSession}
 use Rattle.rules.proofs.Addresses.{contradiction}
 use Rattle.rules.proofs.MemoryLaws.{bytes-take}
+use Rattle.rules.proofs.CommandRuns.{codeSort, codes-sorted, decoded-sort, sort}
 use Rattle.rules.proofs.LentMemory.{calls-run, freshened, lent-request, refused-leaves, tailOf, third-demand-of-bytes}
 use Rattle.rules.proofs.Requests.{requests-run}
 use Rattle.rules.proofs.Foreign.{rows-of-length}
@@ -31,103 +30,92 @@ use Rattle.rules.proofs.Sizes.{copies-bytes, small8}
 use Rattle.rules.proofs.Refused.{fresh-refusal}
 use Rattle.rules.specs.Layout.{headSize, memorySize, rowSize}
 use Rattle.commands.specs.OnMemory.{Session, answered, session, obey, pended, refusedSix}
-use Rattle.commands.proofs.Operands.{of-code}
-use Rattle.commands.proofs.TypedCommands.{Fitting, empty-fits, pending-fits}
+use Rattle.commands.proofs.TypedCommands.{Fitting, SenderFits, appended-fits, emptied-fits, new-fits, with-pending-fits}
 use Rattle.stream.specs.declared.stop.Stop.the-variants.{Six}
 use Rattle.stream.specs.Runs.{Run, runAll, runPart}
-use Rattle.stream.specs.Streams.{DemandSince, Since, asked, begun, pendingAfter, repliesShown, repliesTo, requestsFrom, requestsOf, serving, since, then, toEnd}
-use Rattle.stream.proofs.OneCommand.{obeyed-below-six, takes-operands}
+use Rattle.stream.specs.Streams.{DemandSince, Since, asked, begun, repliesShown, repliesTo, requestsFrom, requestsOf, senderAfter, serving, since, then, toEnd}
+use Rattle.stream.proofs.OneCommand.{obeyed-not-six}
 use Rattle.stream.proofs.NothingLost.{part-done, part-done-by-six}
 use Rattle.stream.proofs.OnStates.{SessionFits, decoded-fits, left-bytes, on-states, viewed}
 
 -- ---- its requests
 
-pending-is : (h : Session) (c : Command) → obey h c .session .pending ≡ pendingAfter (h .pending) c
-unfolding obey pended answered pendingAfter
-pending-is h (Element e) = refl
-pending-is h (WithPath f) = refl
-pending-is h (Plain x) = refl
+sender-is : (h : Session) (c : Command) → obey h c .session .sender ≡ senderAfter (h .sender) c
+unfolding obey pended answered senderAfter
+sender-is h (Element e) = refl
+sender-is h (WithPath f) = refl
+sender-is h (Plain x) = refl
 
-memory-is : (h : Session) (c : Command) (xs : List Request) → requests (obey h c .session .memory) xs .memory ≡ requests (h .memory) (asked (h .pending) c ++ xs) .memory
+memory-is : (h : Session) (c : Command) (xs : List Request) → requests (obey h c .session .memory) xs .memory ≡ requests (h .memory) (asked (h .sender) c ++ xs) .memory
 unfolding obey pended answered asked requests
 memory-is h (Element e) xs = refl
 memory-is h (WithPath f) xs = refl
 memory-is h (Plain x) xs = refl
 
 -- THE MEMORY AFTER A STREAM IS THAT AFTER ITS REQUESTS
-pub memory-after : (n : ℕ) (h : Session) (bs : List ℕ) → runAll n h bs .session .memory ≡ requests (h .memory) (requestsFrom n (h .pending) bs) .memory
+pub memory-after : (n : ℕ) (h : Session) (bs : List ℕ) → runAll n h bs .session .memory ≡ requests (h .memory) (requestsFrom n (h .sender) bs) .memory
 unfolding runAll requestsFrom requests
 memory-after zero h bs = refl
 memory-after (suc n) h [] = refl
 memory-after (suc n) h (b ∷ bs) = go (decode b bs) (λ k l. memory-after n k l)
   where
-    go : (o : Option Decoded) → ((k : Session) (l : List ℕ) → runAll n k l .session .memory ≡ requests (k .memory) (requestsFrom n (k .pending) l) .memory)
+    go : (o : Option Decoded) → ((k : Session) (l : List ℕ) → runAll n k l .session .memory ≡ requests (k .memory) (requestsFrom n (k .sender) l) .memory)
         → maybe {B = Run} o (record { lines = line b (refusedSix b h .reply) ∷ []; session = refusedSix b h .session }) (λ d. let t = obey h (d .command) in let later = runAll n (t .session) (d .left) in record { lines = line b (t .reply) ∷ later .lines; session = later .session }) .session .memory
-        ≡ requests (h .memory) (maybe o [] (λ d. asked (h .pending) (d .command) ++ requestsFrom n (pendingAfter (h .pending) (d .command)) (d .left))) .memory
+        ≡ requests (h .memory) (maybe o [] (λ d. asked (h .sender) (d .command) ++ requestsFrom n (senderAfter (h .sender) (d .command)) (d .left))) .memory
     go none ih = unfold refusedSix in refl
     go (some d) ih =
         let k = obey h (d .command) .session in
-        ih k (d .left) ∙ ap (λ (p : Path). requests (k .memory) (requestsFrom n p (d .left)) .memory) (pending-is h (d .command)) ∙ memory-is h (d .command) (requestsFrom n (pendingAfter (h .pending) (d .command)) (d .left))
+        ih k (d .left) ∙ ap (λ (p : Sender). requests (k .memory) (requestsFrom n p (d .left)) .memory) (sender-is h (d .command)) ∙ memory-is h (d .command) (requestsFrom n (senderAfter (h .sender) (d .command)) (d .left))
 
 -- ---- what its lines show
 
--- only 01 is a path element
 isElement : Command → Bool
 isElement (Element e) = true
 isElement (WithPath f) = false
 isElement (Plain x) = false
 
-abbrev Marked : Code → Type 0
-Marked c = (o : List ℕ) (q : Command) → c .reads o ≡ some q → isElement q ≡ eqb (c .byte) 0x01
+sort-element : (c : Command) → isElement c ≡ eqb (sort c) 0
+unfolding isElement sort
+sort-element (Element e) = refl
+sort-element (WithPath f) = refl
+sort-element (Plain x) = refl
 
-marked-some : (x q : Command) → some x ≡ some q → isElement q ≡ isElement x
-marked-some x q e = let z : q ≡ x = cc in ap isElement z
+zero-sort : (a p : Bool) → eqb (cond a 0 (cond p 1 2)) 0 ≡ a
+zero-sort true p = refl
+zero-sort false true = refl
+zero-sort false false = refl
 
-marked-funded : (o : List ℕ) (f : Funding → Path → Call) (q : Command) → funded o f ≡ some q → isElement q ≡ false
-unfolding funded isElement
-marked-funded o f q = go (f Uncharged) _ (eqb (leNumber (cut 24 1 o)) 0) (eqb (leNumber (cut 24 1 o)) 1)
-  where
-    go : (x y : Path → Call) (a b : Bool) → cond a (some (WithPath x)) (cond b (some (WithPath y)) none) ≡ some q → isElement q ≡ false
-    go x y true b e = marked-some (WithPath x) q e
-    go x y false true e = marked-some (WithPath y) q e
-    go x y false false e = contradiction {b = true} refl (cc)
-
-all-marked : Every Marked codes
-unfolding codes code isElement
-all-marked = (λ o q e. marked-some _ q e, (λ o q e. marked-some _ q e, (λ o q e. marked-some _ q e, (λ o q e. marked-some _ q e, (λ o q e. marked-funded o _ q e, (λ o q e. marked-funded o _ q e, (λ o q e. marked-some _ q e, (λ o q e. marked-some _ q e, (λ o q e. marked-some _ q e, (λ o q e. marked-some _ q e, (λ o q e. marked-some _ q e, (λ o q e. marked-some _ q e, (λ o q e. marked-some _ q e, (λ o q e. marked-some _ q e, (λ o q e. marked-some _ q e, (λ o q e. marked-some _ q e, (λ o q e. marked-some _ q e, (λ o q e. marked-some _ q e, (λ o q e. marked-some _ q e, tt)))))))))))))))))))
-
+-- only 01 is a path element
 element-code : (b : ℕ) (bs : List ℕ) (d : Decoded) → decode b bs ≡ some d → isElement (d .command) ≡ eqb b 0x01
-element-code b bs d e =
-    let r = takes-operands b bs d e .reads in
-    let g = of-code Marked b codes (r .code) all-marked (r .known) in
-    g .1 (take (r .code .width) bs) (d .command) (r .says) ∙ ap (λ (n : ℕ). eqb n 0x01) (sym (g .0))
+unfolding codeSort
+element-code b bs d e = sort-element (d .command) ∙ ap (λ (n : ℕ). eqb n 0) (decoded-sort codes codes-sorted b bs d e) ∙ zero-sort (eqb b 0x01) (takesPath b)
 
-shown : (b : ℕ) (r : Reply) (ls : List Line) → r .refusal ≤ 5 → repliesShown (line b r ∷ ls) ≡ cond (eqb b 0x01) (repliesShown ls) (r ∷ repliesShown ls)
+shown : (b : ℕ) (r : Reply) (ls : List Line) → (r .refusal ≡ 6 → ⊥) → repliesShown (line b r ∷ ls) ≡ cond (eqb b 0x01) (repliesShown ls) (r ∷ repliesShown ls)
 unfolding repliesShown line
-shown b r ls h = rw (ne-eqb (r .refusal) 6 (λ e. let z : ⊥ = omega arith in z))
+shown b r ls h = rw (ne-eqb (r .refusal) 6 h)
 
 replies-are : (h : Session) (c : Command) (b : ℕ) (xs : List Request) (ls : List Line) → isElement c ≡ eqb b 0x01 → repliesShown ls ≡ repliesTo (requests (obey h c .session .memory) xs .served)
-    → repliesShown (line b (obey h c .reply) ∷ ls) ≡ repliesTo (requests (h .memory) (asked (h .pending) c ++ xs) .served)
+    → repliesShown (line b (obey h c .reply) ∷ ls) ≡ repliesTo (requests (h .memory) (asked (h .sender) c ++ xs) .served)
 unfolding isElement obey pended answered asked requests repliesTo
-replies-are h (Element e) b xs ls m ih = shown b (obey h (Element e) .reply) ls (obeyed-below-six h (Element e)) ∙ rw (← m) ih
-replies-are h (WithPath f) b xs ls m ih = shown b (obey h (WithPath f) .reply) ls (obeyed-below-six h (WithPath f)) ∙ rw (← m) (ap (λ (rs : List Reply). obey h (WithPath f) .reply ∷ rs) ih)
-replies-are h (Plain x) b xs ls m ih = shown b (obey h (Plain x) .reply) ls (obeyed-below-six h (Plain x)) ∙ rw (← m) (ap (λ (rs : List Reply). obey h (Plain x) .reply ∷ rs) ih)
+replies-are h (Element e) b xs ls m ih = shown b (obey h (Element e) .reply) ls (obeyed-not-six h (Element e)) ∙ rw (← m) ih
+replies-are h (WithPath f) b xs ls m ih = shown b (obey h (WithPath f) .reply) ls (obeyed-not-six h (WithPath f)) ∙ rw (← m) (ap (λ (rs : List Reply). obey h (WithPath f) .reply ∷ rs) ih)
+replies-are h (Plain x) b xs ls m ih = shown b (obey h (Plain x) .reply) ls (obeyed-not-six h (Plain x)) ∙ rw (← m) (ap (λ (rs : List Reply). obey h (Plain x) .reply ∷ rs) ih)
 
 -- THE LINES SHOW THE REPLIES TO THE STREAM'S REQUESTS, each in its turn
-pub replies-shown : (n : ℕ) (h : Session) (bs : List ℕ) → repliesShown (runAll n h bs .lines) ≡ repliesTo (requests (h .memory) (requestsFrom n (h .pending) bs) .served)
+pub replies-shown : (n : ℕ) (h : Session) (bs : List ℕ) → repliesShown (runAll n h bs .lines) ≡ repliesTo (requests (h .memory) (requestsFrom n (h .sender) bs) .served)
 unfolding runAll requestsFrom requests repliesShown repliesTo
 replies-shown zero h bs = refl
 replies-shown (suc n) h [] = refl
 replies-shown (suc n) h (b ∷ bs) = go (decode b bs) refl (λ k l. replies-shown n k l)
   where
-    go : (o : Option Decoded) → decode b bs ≡ o → ((k : Session) (l : List ℕ) → repliesShown (runAll n k l .lines) ≡ repliesTo (requests (k .memory) (requestsFrom n (k .pending) l) .served))
+    go : (o : Option Decoded) → decode b bs ≡ o → ((k : Session) (l : List ℕ) → repliesShown (runAll n k l .lines) ≡ repliesTo (requests (k .memory) (requestsFrom n (k .sender) l) .served))
         → repliesShown (maybe {B = Run} o (record { lines = line b (refusedSix b h .reply) ∷ []; session = refusedSix b h .session }) (λ d. let t = obey h (d .command) in let later = runAll n (t .session) (d .left) in record { lines = line b (t .reply) ∷ later .lines; session = later .session }) .lines)
-        ≡ repliesTo (requests (h .memory) (maybe o [] (λ d. asked (h .pending) (d .command) ++ requestsFrom n (pendingAfter (h .pending) (d .command)) (d .left))) .served)
+        ≡ repliesTo (requests (h .memory) (maybe o [] (λ d. asked (h .sender) (d .command) ++ requestsFrom n (senderAfter (h .sender) (d .command)) (d .left))) .served)
     go none e ih = unfold refusedSix refuses line in refl
     go (some d) e ih =
         let k = obey h (d .command) .session in
-        let i = ih k (d .left) ∙ ap (λ (p : Path). repliesTo (requests (k .memory) (requestsFrom n p (d .left)) .served)) (pending-is h (d .command)) in
-        replies-are h (d .command) b (requestsFrom n (pendingAfter (h .pending) (d .command)) (d .left)) (runAll n k (d .left) .lines) (element-code b bs d e) i
+        let i = ih k (d .left) ∙ ap (λ (p : Sender). repliesTo (requests (k .memory) (requestsFrom n p (d .left)) .served)) (sender-is h (d .command)) in
+        replies-are h (d .command) b (requestsFrom n (senderAfter (h .sender) (d .command)) (d .left)) (runAll n k (d .left) .lines) (element-code b bs d e) i
 
 -- ---- its requests are of their types
 
@@ -139,25 +127,25 @@ every-split {ℓ} : {A : Type ℓ} (P : A → Type 0) (xs ys : List A) → Every
 every-split P [] ys f = (tt, f)
 every-split P (x ∷ xs) ys f = let k = every-split P xs ys (f .1) in ((f .0, k .0), k .1)
 
-asked-fits : (p : Path) (c : Command) → PathFits p → Fitting p c → Every TypedRequest (asked p c) × PathFits (pendingAfter p c)
-unfolding asked pendingAfter
-asked-fits p (Element e) f g = (tt, pending-fits p e f g)
-asked-fits p (WithPath q) f g = ((g, tt), empty-fits)
-asked-fits p (Plain x) f g = ((g, tt), f)
+asked-fits : (k : Sender) (c : Command) → SenderFits k → Fitting k c → Every TypedRequest (asked k c) × SenderFits (senderAfter k c)
+unfolding asked senderAfter
+asked-fits k (Element e) f g = (tt, with-pending-fits (appended-fits (k .pending) e (f .pending) g) f)
+asked-fits k (WithPath q) f g = ((g, tt), emptied-fits f)
+asked-fits k (Plain x) f g = ((g, tt), f)
 
 -- WHATEVER THE BYTES ARE, the requests that they make are of their types
-pub requests-fit : (n : ℕ) (p : Path) (bs : List ℕ) → PathFits p → Bytes bs → Every TypedRequest (requestsFrom n p bs)
+pub requests-fit : (n : ℕ) (k : Sender) (bs : List ℕ) → SenderFits k → Bytes bs → Every TypedRequest (requestsFrom n k bs)
 unfolding requestsFrom
-requests-fit zero p bs f y = tt
-requests-fit (suc n) p [] f y = tt
-requests-fit (suc n) p (b ∷ bs) f y = go (decode b bs) refl (λ q l g z. requests-fit n q l g z)
+requests-fit zero k bs f y = tt
+requests-fit (suc n) k [] f y = tt
+requests-fit (suc n) k (b ∷ bs) f y = go (decode b bs) refl (λ q l g z. requests-fit n q l g z)
   where
-    go : (o : Option Decoded) → decode b bs ≡ o → ((q : Path) (l : List ℕ) → PathFits q → Bytes l → Every TypedRequest (requestsFrom n q l))
-        → Every TypedRequest (maybe o [] (λ d. asked p (d .command) ++ requestsFrom n (pendingAfter p (d .command)) (d .left)))
+    go : (o : Option Decoded) → decode b bs ≡ o → ((q : Sender) (l : List ℕ) → SenderFits q → Bytes l → Every TypedRequest (requestsFrom n q l))
+        → Every TypedRequest (maybe o [] (λ d. asked k (d .command) ++ requestsFrom n (senderAfter k (d .command)) (d .left)))
     go none e ih = tt
     go (some d) e ih =
-        let k = asked-fits p (d .command) f (decoded-fits b bs d p e (y .1) f) in
-        every-join TypedRequest (asked p (d .command)) (requestsFrom n (pendingAfter p (d .command)) (d .left)) (k .0) (ih (pendingAfter p (d .command)) (d .left) (k .1) (left-bytes b bs d e (y .1)))
+        let a = asked-fits k (d .command) f (decoded-fits b bs d k e (y .1) f) in
+        every-join TypedRequest (asked k (d .command)) (requestsFrom n (senderAfter k (d .command)) (d .left)) (a .0) (ih (senderAfter k (d .command)) (d .left) (a .1) (left-bytes b bs d e (y .1)))
 
 -- ---- since the last done fresh
 
@@ -207,14 +195,14 @@ pub record FromFresh (ttl : ℕ) (h : Session) (bs : List ℕ) : Type 0 where
   pub demand : DemandSince (since (begun ttl) (serving h bs .served)) (toEnd h bs .session .memory)
 
 -- THE THIRD DEMAND FOR EVERY BYTE STRING: from a done fresh to the end of the stream, whatever the bytes are
-pub third-demand-of-stream : (l : List ℕ) (m ttl : ℕ) (p : Path) (bs : List ℕ) → Bytes l → Small 8 m → Small 8 ttl → PathFits p → Bytes bs → wasRefused (lent l (Fresh m ttl) .answer) ≡ false → FromFresh ttl (session (lent l (Fresh m ttl) .memory) p) bs
+pub third-demand-of-stream : (l : List ℕ) (m ttl : ℕ) (p : Sender) (bs : List ℕ) → Bytes l → Small 8 m → Small 8 ttl → SenderFits p → Bytes bs → wasRefused (lent l (Fresh m ttl) .answer) ≡ false → FromFresh ttl (session (lent l (Fresh m ttl) .memory) p) bs
 third-demand-of-stream l m ttl p bs y hm ht f z done =
     let h = session (lent l (Fresh m ttl) .memory) p in
     let w = memory-after (length bs) h bs in
     record { memory = w; replies = replies-shown (length bs) h bs; demand = rw w (third-demand-of-requests l m ttl (requestsOf p bs) y hm ht (requests-fit (length bs) p bs f z) done) }
 
 -- AND AT THE END OF EVERY PART OF A RUN: at the memory that is handed back at the end of the input, or for want of output or input
-pub third-demand-of-part : (l : List ℕ) (m ttl : ℕ) (p : Path) (last : Bool) (room : ℕ) (bs : List ℕ) → Bytes l → Small 8 m → Small 8 ttl → PathFits p → Bytes bs → wasRefused (lent l (Fresh m ttl) .answer) ≡ false
+pub third-demand-of-part : (l : List ℕ) (m ttl : ℕ) (p : Sender) (last : Bool) (room : ℕ) (bs : List ℕ) → Bytes l → Small 8 m → Small 8 ttl → SenderFits p → Bytes bs → wasRefused (lent l (Fresh m ttl) .answer) ≡ false
     → let h = session (lent l (Fresh m ttl) .memory) p in let e = runPart (length bs) last room h bs in (e .stop ≡ Six → ⊥) → DemandSince (since (begun ttl) (serving h (take (e .used) bs) .served)) (e .session .memory)
 third-demand-of-part l m ttl p last room bs y hm ht f z done =
     let h = session (lent l (Fresh m ttl) .memory) p in
@@ -222,7 +210,7 @@ third-demand-of-part l m ttl p last room bs y hm ht f z done =
     λ s. subst (λ (k : List ℕ). DemandSince (since (begun ttl) (serving h (take (e .used) bs) .served)) k) (ap (λ (r : Run). r .session .memory) (part-done last room h bs s)) (third-demand-of-stream l m ttl p (take (e .used) bs) y hm ht f (bytes-take (e .used) bs z) done .demand)
 
 -- and after a 6: the requests of the part are then those before the 6
-pub third-demand-after-six : (l : List ℕ) (m ttl : ℕ) (p : Path) (last : Bool) (room : ℕ) (bs : List ℕ) → Bytes l → Small 8 m → Small 8 ttl → PathFits p → Bytes bs → wasRefused (lent l (Fresh m ttl) .answer) ≡ false
+pub third-demand-after-six : (l : List ℕ) (m ttl : ℕ) (p : Sender) (last : Bool) (room : ℕ) (bs : List ℕ) → Bytes l → Small 8 m → Small 8 ttl → SenderFits p → Bytes bs → wasRefused (lent l (Fresh m ttl) .answer) ≡ false
     → let h = session (lent l (Fresh m ttl) .memory) p in let e = runPart (length bs) last room h bs in e .stop ≡ Six → DemandSince (since (begun ttl) (serving h bs .served)) (e .session .memory)
 third-demand-after-six l m ttl p last room bs y hm ht f z done =
     let h = session (lent l (Fresh m ttl) .memory) p in
@@ -234,12 +222,12 @@ requests-join l [] ys = refl
 requests-join l (x ∷ xs) ys = requests-join (lent l x .memory) xs ys
 
 -- and from any fresh that is done in a stream to its end, whatever the memory was before it
-pub third-demand-after-fresh : (h : Session) (bs : List ℕ) (before after : List Request) (m ttl : ℕ) → SessionFits h → Bytes bs → requestsOf (h .pending) bs ≡ before ++ (Fresh m ttl ∷ after)
+pub third-demand-after-fresh : (h : Session) (bs : List ℕ) (before after : List Request) (m ttl : ℕ) → SessionFits h → Bytes bs → requestsOf (h .sender) bs ≡ before ++ (Fresh m ttl ∷ after)
     → let k = requests (h .memory) before .memory in wasRefused (lent k (Fresh m ttl) .answer) ≡ false
     → DemandSince (since (begun ttl) (requests (lent k (Fresh m ttl) .memory) after .served)) (toEnd h bs .session .memory)
 unfolding requests
 third-demand-after-fresh h bs before after m ttl f y e done =
-    let g = requests-fit (length bs) (h .pending) bs (f .pending) y in
+    let g = requests-fit (length bs) (h .sender) bs (f .sender) y in
     let t = every-split TypedRequest before (Fresh m ttl ∷ after) (subst (Every TypedRequest) e g) in
     let k = requests (h .memory) before .memory in
     let z = requests-run (h .memory) before (f .bytes) (t .0) .bytes in
@@ -268,8 +256,8 @@ fresh-24 l h = let e : refusal (capacity l) (view l) (Fresh 8 300000) ≡ none =
 -- coordrun's stream on a memory of 24 rows: fresh is done, the lines are those of 01, and the third demand holds
 pub record OnRows24 (l bs : List ℕ) : Type 0 where
   pub done : wasRefused (lent l (Fresh 8 300000) .answer) ≡ false
-  pub lines : toEnd (session (lent l (Fresh 8 300000) .memory) emptyPath) bs .lines ≡ coordrun bs
-  pub stream : FromFresh 300000 (session (lent l (Fresh 8 300000) .memory) emptyPath) bs
+  pub lines : toEnd (session (lent l (Fresh 8 300000) .memory) newSender) bs .lines ≡ coordrun bs
+  pub stream : FromFresh 300000 (session (lent l (Fresh 8 300000) .memory) newSender) bs
 
 -- COORDRUN, FOR EVERY BYTE STRING, on any memory of 24 rows
 pub coordrun-on-memory : (l bs : List ℕ) → length l ≡ memorySize coordrunRows → Bytes l → Bytes bs → OnRows24 l bs
@@ -278,12 +266,12 @@ coordrun-on-memory l bs e y z =
     let hm = small8 8 (omega arith) in
     let ht = small8 300000 (omega arith) in
     let d = fresh-24 l e in
-    let h = session (lent l (Fresh 8 300000) .memory) emptyPath in
+    let h = session (lent l (Fresh 8 300000) .memory) newSender in
     let f = freshened l 8 300000 y hm ht d in
-    let o = on-states (length bs) h bs (record { bytes = lent-request l (Fresh 8 300000) y (hm, ht) .bytes; pending = empty-fits }) z in
-    let s : viewed h ≡ record { state = fresh coordrunRows 8 300000 []; pending = emptyPath } = ap (λ (x : State). record { state = x; pending = emptyPath }) (f .state ∙ ap₂ (λ (R : ℕ) (t : List ℕ). fresh R 8 300000 t) (rows-24 l e) (no-tail l e)) in
+    let o = on-states (length bs) h bs (record { bytes = lent-request l (Fresh 8 300000) y (hm, ht) .bytes; sender = new-fits }) z in
+    let s : viewed h ≡ record { state = fresh coordrunRows 8 300000 []; sender = newSender } = ap (λ (x : State). record { state = x; sender = newSender }) (f .state ∙ ap₂ (λ (R : ℕ) (t : List ℕ). fresh R 8 300000 t) (rows-24 l e) (no-tail l e)) in
     let w : toEnd h bs .lines ≡ coordrun bs = o .lines ∙ ap₂ (λ (R : ℕ) (x : StateSession). runCommands (length bs) R x bs .lines) (f .size ∙ rows-24 l e) s in
-    record { done = d; lines = w; stream = third-demand-of-stream l 8 300000 emptyPath bs y hm ht empty-fits z d }
+    record { done = d; lines = w; stream = third-demand-of-stream l 8 300000 newSender bs y hm ht new-fits z d }
 
 -- as the program starts: on a memory of zeros
 pub coordrun-from-zeros : (bs : List ℕ) → Bytes bs → OnRows24 (replicate (memorySize coordrunRows) 0) bs

@@ -9,20 +9,20 @@ use lib.Dec.{ltb, eqb}
 use lib.ListN.{length, drop, getD, length-drop, length-append}
 use lib.Seq.{sets, drop-drop}
 use borrow.Author.Tests.{lt-ltb, le-ltb, ltb-false, ne-eqb}
-use Rattle.types.specs.declared.coord.Path.{Path}
+use Rattle.types.specs.declared.sender.Sender.{Sender}
 use Rattle.types.specs.declared.reply.Tally.{Tally}
 use Rattle.types.specs.Values.{tallied}
 use Rattle.rules.specs.Cases.{maybe}
-use Rattle.rules.specs.Commands.{Line, line, lineText, linesText, tallyAfter}
+use Rattle.rules.specs.Commands.{Line, codes, line, lineText, linesText, tallyAfter}
 use Rattle.rules.proofs.Addresses.{contradiction}
 use Rattle.raw.proofs.StoreLaws.{sets-more}
-use Rattle.commands.specs.Widths.{widthOf}
+use Rattle.commands.specs.Widths.{widthIn, widthOf}
 use Rattle.commands.specs.OnMemory.{Session, session, obeyByte}
 use Rattle.commands.specs.declared.command.AfterCommand.{AfterCommand}
 use Rattle.commands.specs.After.{Answers}
 use Rattle.stream.specs.declared.stop.Stop.{Stop}
 use Rattle.stream.specs.declared.stop.Stop.the-variants as Stop
-use Rattle.stream.specs.Runs.{RunEnd, operands, cutShort, stopped, andThen, runPart}
+use Rattle.stream.specs.Runs.{RunEnd, operands, operandsIn, cutShort, cutShortIn, stopped, andThen, runPart}
 use Rattle.stream.specs.declared.run.Next.the-variants.{Full, Cut, Command}
 use Rattle.stream.specs.declared.run.Ran.{Ran}
 use Rattle.stream.specs.Running.{nextIs, EndsAs, prefixed, SoFar, Going}
@@ -34,7 +34,7 @@ unfolding nextIs
 next-full room last b bs h = rw (lt-ltb room 129 h)
 
 pub next-unknown : (room : ℕ) (last : Bool) (b : ℕ) (bs : List ℕ) → 129 ≤ room → widthOf b ≡ none → Command 0 ≡ nextIs room last b bs
-unfolding nextIs cutShort operands
+unfolding nextIs cutShortIn operandsIn
 next-unknown room last b bs h e = rw (le-ltb room 129 h, e) (go last)
   where
     go : (a : Bool) → Command 0 ≡ cond (not a && false) Cut (Command 0)
@@ -42,7 +42,7 @@ next-unknown room last b bs h e = rw (le-ltb room 129 h, e) (go last)
     go false = refl
 
 pub next-whole : (room : ℕ) (last : Bool) (b : ℕ) (bs : List ℕ) (w : ℕ) → 129 ≤ room → widthOf b ≡ some w → w ≤ length bs → Command w ≡ nextIs room last b bs
-unfolding nextIs cutShort operands
+unfolding nextIs cutShortIn operandsIn
 next-whole room last b bs w h e k = rw (le-ltb room 129 h, e, le-ltb (length bs) w k) (go last ∙ ap (λ (n : ℕ). cond (not last && false) Cut (Command n)) (let z : w ≡ min w (length bs) = omega arith in z))
   where
     go : (a : Bool) → Command w ≡ cond (not a && false) Cut (Command w)
@@ -50,11 +50,11 @@ next-whole room last b bs w h e k = rw (le-ltb room 129 h, e, le-ltb (length bs)
     go false = refl
 
 pub next-last : (room : ℕ) (last : Bool) (b : ℕ) (bs : List ℕ) (w n : ℕ) → 129 ≤ room → widthOf b ≡ some w → length bs < w → last ≡ true → n ≡ length bs → Command n ≡ nextIs room last b bs
-unfolding nextIs cutShort operands
+unfolding nextIs cutShortIn operandsIn
 next-last room last b bs w n h e k l q = rw (le-ltb room 129 h, e, l) (ap Command (let z : n ≡ min w (length bs) = omega arith in z))
 
 pub next-cut : (room : ℕ) (last : Bool) (b : ℕ) (bs : List ℕ) (w : ℕ) → 129 ≤ room → widthOf b ≡ some w → length bs < w → last ≡ false → Cut ≡ nextIs room last b bs
-unfolding nextIs cutShort operands
+unfolding nextIs cutShortIn operandsIn
 next-cut room last b bs w h e k l = rw (le-ltb room 129 h, e, l, lt-ltb (length bs) w k)
 
 -- ---- the run from there on
@@ -131,12 +131,12 @@ none-before : (e : RunEnd) → e ≡ prefixed [] 0 e
 unfolding prefixed
 none-before e = ap (λ (n : ℕ). record { lines = e .lines; used = n; session = e .session; stop = e .stop }) (let z : e .used ≡ 0 + e .used = omega arith in z)
 
-pub start : (last : Bool) (m i o : List ℕ) (p : Path) (t : Tally) → Going (runPart (length i) last (length o) (session m p) i) last i o t 0 0 p t m o
+pub start : (last : Bool) (m i o : List ℕ) (p : Sender) (t : Tally) → Going (runPart (length i) last (length o) (session m p) i) last i o t 0 0 p t m o
 unfolding prefixed linesText tallyAfter
 start last m i o p t = record { turns = length i; enough = omega arith; done = record { lines = []; whole = none-before _ ∙ ap (λ (n : ℕ). prefixed [] 0 (runPart (length i) last n (session m p) i)) (let z : length o ≡ length o - 0 = omega arith in z); text = refl; end = refl; inside = omega arith; counted = refl } }
 
 pub ended : (e : RunEnd) (why : Stop) (h : Session) (o : List ℕ) (t : Tally) (at put : ℕ) (counts : Tally) (o′ : List ℕ) (r : Ran) → SoFar e (stopped why h) o t at put counts o′
-    → r .used ≡ at → r .written ≡ put → r .pending ≡ h .pending → r .tally ≡ counts → r .stop ≡ why → EndsAs e t r (h .memory) o o′
+    → r .used ≡ at → r .written ≡ put → r .sender ≡ h .sender → r .tally ≡ counts → r .stop ≡ why → EndsAs e t r (h .memory) o o′
 unfolding prefixed stopped
 ended e why h o t at put counts o′ r s eu ew ep et es =
     let l : e .lines ≡ s .lines = ap (λ (x : RunEnd). x .lines) (s .whole) ∙ nil-append (s .lines) in
@@ -144,7 +144,7 @@ ended e why h o t at put counts o′ r s eu ew ep et es =
     record {
       used = eu ∙ (let z : at ≡ at + 0 = omega arith in z) ∙ ap (λ (x : RunEnd). x .used) (sym (s .whole));
       written = ew ∙ s .end ∙ ap (λ (y : List ℕ). length y) (sym x);
-      pending = ep ∙ ap (λ (x : RunEnd). x .session .pending) (sym (s .whole));
+      sender = ep ∙ ap (λ (x : RunEnd). x .session .sender) (sym (s .whole));
       tally = et ∙ s .counted ∙ ap (tallyAfter t) (sym l);
       stop = es ∙ ap (λ (x : RunEnd). x .stop) (sym (s .whole));
       memory = ap (λ (x : RunEnd). x .session .memory) (sym (s .whole));
@@ -156,7 +156,7 @@ pub same-room : (x o put : ℕ) (last : Bool) (b : ℕ) (bs : List ℕ) → x �
 same-room x o put last b bs e = ap (λ (n : ℕ). nextIs (n - put) last b bs) (sym e)
 
 -- no byte is left
-pub over : {e : RunEnd} {last : Bool} {i o : List ℕ} {t : Tally} {at put : ℕ} {p : Path} {counts : Tally} {m o′ : List ℕ} → Going e last i o t at put p counts m o′
+pub over : {e : RunEnd} {last : Bool} {i o : List ℕ} {t : Tally} {at put : ℕ} {p : Sender} {counts : Tally} {m o′ : List ℕ} → Going e last i o t at put p counts m o′
     → at ≤ length i → length i ≤ at → SoFar e (stopped Stop.End (session m p)) o t at put counts o′
 unfolding runPart
 over {e} {last} {i} {o} {t} {at} {put} {p} {counts} {m} {o′} g h k =
@@ -192,7 +192,7 @@ turn-left : (n : ℕ) → 1 ≤ n → (k : ℕ) × (n ≡ suc k)
 turn-left zero h = absurd (let z : ⊥ = omega arith in z)
 turn-left (suc k) h = (k, refl)
 
-module _ {e : RunEnd} {last : Bool} {i o : List ℕ} {t : Tally} {at put : ℕ} {p : Path} {counts : Tally} {m o′ : List ℕ}
+module _ {e : RunEnd} {last : Bool} {i o : List ℕ} {t : Tally} {at put : ℕ} {p : Sender} {counts : Tally} {m o′ : List ℕ}
     (g : Going e last i o t at put p counts m o′) (h : at < length i) where
   -- the command at `at` is the next one
   pub record Front : Type 0 where
@@ -218,12 +218,12 @@ module _ {e : RunEnd} {last : Bool} {i o : List ℕ} {t : Tally} {at put : ℕ} 
   stops-cut n = subst (λ (x : RunEnd). SoFar e x o t at put counts o′) (part-cut (front .turns) last (length o - put) (session m p) (getD i at 0) (drop (at + 1) i) n) (front .done)
 
 -- before the command at `at`, whose operands are w bytes: a byte is left, and a command with room for its line stands next
-pub record Turn (e : RunEnd) (last : Bool) (i o : List ℕ) (t : Tally) (at put : ℕ) (p : Path) (counts : Tally) (m o′ : List ℕ) (w : ℕ) : Type 0 where
+pub record Turn (e : RunEnd) (last : Bool) (i o : List ℕ) (t : Tally) (at put : ℕ) (p : Sender) (counts : Tally) (m o′ : List ℕ) (w : ℕ) : Type 0 where
   pub going : Going e last i o t at put p counts m o′
   pub left : at < length i
   pub next : nextIs (length o - put) last (getD i at 0) (drop (at + 1) i) ≡ Command w
 
-module _ {e : RunEnd} {last : Bool} {i o : List ℕ} {t : Tally} {at put : ℕ} {p : Path} {counts : Tally} {m o′ : List ℕ} {w : ℕ}
+module _ {e : RunEnd} {last : Bool} {i o : List ℕ} {t : Tally} {at put : ℕ} {p : Sender} {counts : Tally} {m o′ : List ℕ} {w : ℕ}
     (k : Turn e last i o t at put p counts m o′ w) where
   here : Front (k .going) (k .left)
   here = front (k .going) (k .left)
@@ -235,8 +235,8 @@ module _ {e : RunEnd} {last : Bool} {i o : List ℕ} {t : Tally} {at put : ℕ} 
   ample = omega (arith, goes .ample, k .going .done .inside)
 
   pub used : at + (1 + w) ≤ length i
-  unfolding operands
-  used = omega (arith, goes .width, few (widthOf (getD i at 0)), length-drop (at + 1) i)
+  unfolding operandsIn
+  used = omega (arith, goes .width, few (widthIn codes (getD i at 0)), length-drop (at + 1) i)
     where
       few : (q : Option ℕ) → maybe q 0 (λ v. min v (length (drop (at + 1) i))) ≤ length (drop (at + 1) i)
       few none = omega arith
@@ -245,28 +245,28 @@ module _ {e : RunEnd} {last : Bool} {i o : List ℕ} {t : Tally} {at put : ℕ} 
   -- it was obeyed, its line was put and counted
   module _ {r : AfterCommand} {m′ : List ℕ} (a : Answers (obeyByte (session m p) (getD i at 0) (drop (at + 1) i)) r m′) {put′ : ℕ} {o″ : List ℕ} {counts′ : Tally}
       (ep : put′ ≡ put + length (lineText (line (getD i at 0) (r .reply)))) (short : length (lineText (line (getD i at 0) (r .reply))) ≤ 129) (eo : o″ ≡ sets o′ put (lineText (line (getD i at 0) (r .reply)))) (ec : counts′ ≡ tallied counts (r .reply .refusal)) where
-    after-line : SoFar e (cond (eqb (r .reply .refusal) 6) (stopped Stop.Six (session m′ (r .pending))) (runPart (here .turns) last (length o - put - length (lineText (line (getD i at 0) (r .reply)))) (session m′ (r .pending)) (drop (operands (getD i at 0) (drop (at + 1) i)) (drop (at + 1) i)))) o t (at + (1 + w)) put′ counts′ o″
+    after-line : SoFar e (cond (eqb (r .reply .refusal) 6) (stopped Stop.Six (session m′ (r .sender))) (runPart (here .turns) last (length o - put - length (lineText (line (getD i at 0) (r .reply)))) (session m′ (r .sender)) (drop (operands (getD i at 0) (drop (at + 1) i)) (drop (at + 1) i)))) o t (at + (1 + w)) put′ counts′ o″
     unfolding line
     after-line =
         let b = getD i at 0 in
         let bs = drop (at + 1) i in
-        let u : session m′ (r .pending) ≡ obeyByte (session m p) b bs .session = ap (λ (x : List ℕ). session x (r .pending)) (a .leaves) ∙ ap (λ (x : Path). session (obeyByte (session m p) b bs .session .memory) x) (a .pends) in
+        let u : session m′ (r .sender) ≡ obeyByte (session m p) b bs .session = ap (λ (x : List ℕ). session x (r .sender)) (a .leaves) ∙ ap (λ (x : Sender). session (obeyByte (session m p) b bs .session .memory) x) (a .sends) in
         let s : SoFar e (one-more (here .turns) last (length o - put) (session m p) b bs) o t at put counts o′ = subst (λ (x : RunEnd). SoFar e x o t at put counts o′) (goes .run) (here .done) in
-        let q : SoFar e (andThen (line b (r .reply)) (1 + operands b bs) (cond (eqb (r .reply .refusal) 6) (stopped Stop.Six (session m′ (r .pending))) (runPart (here .turns) last (length o - put - length (lineText (line b (r .reply)))) (session m′ (r .pending)) (drop (operands b bs) bs)))) o t at put counts o′ = rw (u, a .says) s in
+        let q : SoFar e (andThen (line b (r .reply)) (1 + operands b bs) (cond (eqb (r .reply .refusal) 6) (stopped Stop.Six (session m′ (r .sender))) (runPart (here .turns) last (length o - put - length (lineText (line b (r .reply)))) (session m′ (r .sender)) (drop (operands b bs) bs)))) o t at put counts o′ = rw (u, a .says) s in
         advanced e _ (line b (r .reply)) (1 + operands b bs) o t at put (at + (1 + w)) put′ counts counts′ o′ o″ q (omega (arith, goes .width)) ep (omega (arith, ample, short)) eo ec
 
-    pub stops-six : r .reply .refusal ≡ 6 → SoFar e (stopped Stop.Six (session m′ (r .pending))) o t (at + (1 + w)) put′ counts′ o″
+    pub stops-six : r .reply .refusal ≡ 6 → SoFar e (stopped Stop.Six (session m′ (r .sender))) o t (at + (1 + w)) put′ counts′ o″
     stops-six x = simp x at after-line
 
-    pub goes-on : (r .reply .refusal ≡ 6 → ⊥) → Going e last i o t (at + (1 + w)) put′ (r .pending) counts′ m′ o″
+    pub goes-on : (r .reply .refusal ≡ 6 → ⊥) → Going e last i o t (at + (1 + w)) put′ (r .sender) counts′ m′ o″
     goes-on x =
         let b = getD i at 0 in
         let bs = drop (at + 1) i in
         let d : drop (operands b bs) bs ≡ drop (at + (1 + w)) i = drop-drop (operands b bs) (at + 1) i ∙ ap (λ (x : ℕ). drop x i) (let z : at + 1 + operands b bs ≡ at + (1 + w) = omega (arith, goes .width) in z) in
         let n : length o - put - length (lineText (line b (r .reply))) ≡ length o - put′ = omega (arith, ep) in
-        let s : SoFar e (runPart (here .turns) last (length o - put - length (lineText (line b (r .reply)))) (session m′ (r .pending)) (drop (operands b bs) bs)) o t (at + (1 + w)) put′ counts′ o″ = simp (ne-eqb (r .reply .refusal) 6 x) at after-line in
+        let s : SoFar e (runPart (here .turns) last (length o - put - length (lineText (line b (r .reply)))) (session m′ (r .sender)) (drop (operands b bs) bs)) o t (at + (1 + w)) put′ counts′ o″ = simp (ne-eqb (r .reply .refusal) 6 x) at after-line in
         record {
           turns = here .turns;
           enough = omega (arith, here .enough, length-drop (at + 1) i, length-drop (at + (1 + w)) i);
-          done = subst (λ (y : ℕ). SoFar e (runPart (here .turns) last y (session m′ (r .pending)) (drop (at + (1 + w)) i)) o t (at + (1 + w)) put′ counts′ o″) n (subst (λ (y : List ℕ). SoFar e (runPart (here .turns) last (length o - put - length (lineText (line b (r .reply)))) (session m′ (r .pending)) y) o t (at + (1 + w)) put′ counts′ o″) d s);
+          done = subst (λ (y : ℕ). SoFar e (runPart (here .turns) last y (session m′ (r .sender)) (drop (at + (1 + w)) i)) o t (at + (1 + w)) put′ counts′ o″) n (subst (λ (y : List ℕ). SoFar e (runPart (here .turns) last (length o - put - length (lineText (line b (r .reply)))) (session m′ (r .sender)) y) o t (at + (1 + w)) put′ counts′ o″) d s);
         }

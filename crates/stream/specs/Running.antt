@@ -6,7 +6,7 @@ use mathlib.Core.Bool.{Bool, true, false, cond, not, _&&_}
 use lib.Dec.{ltb}
 use lib.ListN.{length, drop}
 use lib.Seq.{sets}
-use Rattle.types.specs.declared.coord.Path.{Path}
+use Rattle.types.specs.declared.sender.Sender.{Sender}
 use Rattle.types.specs.declared.reply.Tally.{Tally}
 use Rattle.rules.specs.Sound.{sound}
 use Rattle.rules.specs.Memory.{capacity, view}
@@ -25,7 +25,7 @@ nextIs room last b bs = cond (ltb room lineRoom) Full (cond (not last && cutShor
 pub record EndsAs (e : RunEnd) (t : Tally) (r : Ran) (m o o′ : List ℕ) : Type 0 where
   pub used : r .used ≡ e .used
   pub written : r .written ≡ length (linesText (e .lines))
-  pub pending : r .pending ≡ e .session .pending
+  pub sender : r .sender ≡ e .session .sender
   pub tally : r .tally ≡ tallyAfter t (e .lines)
   pub stop : r .stop ≡ e .stop
   pub memory : m ≡ e .session .memory
@@ -47,7 +47,7 @@ pub record SoFar (e x : RunEnd) (o : List ℕ) (t : Tally) (at put : ℕ) (count
   pub counted : counts ≡ tallyAfter t lines
 
 -- before the command at `at`
-pub record Going (e : RunEnd) (last : Bool) (i o : List ℕ) (t : Tally) (at put : ℕ) (p : Path) (counts : Tally) (m o′ : List ℕ) : Type 0 where
+pub record Going (e : RunEnd) (last : Bool) (i o : List ℕ) (t : Tally) (at put : ℕ) (k : Sender) (counts : Tally) (m o′ : List ℕ) : Type 0 where
   pub turns : ℕ
   pub enough : length (drop at i) ≤ turns
-  pub done : SoFar e (runPart turns last (length o - put) (session m p) (drop at i)) o t at put counts o′
+  pub done : SoFar e (runPart turns last (length o - put) (session m k) (drop at i)) o t at put counts o′

@@ -5,8 +5,8 @@ use mathlib.Core.Bool.{Bool, true, false, cond, not, _&&_}
 use lib.Dec.{ltb, eqb}
 use lib.ListN.{length, drop}
 use Rattle.rules.specs.Cases.{maybe}
-use Rattle.rules.specs.Commands.{Line, line, lineText, decode}
-use Rattle.commands.specs.Widths.{widthOf}
+use Rattle.rules.specs.Commands.{Code, Line, codes, line, lineText, decode}
+use Rattle.commands.specs.Widths.{widthIn}
 use Rattle.commands.specs.OnMemory.{Session, obeyByte, obey, refusedSix}
 use Rattle.stream.specs.declared.stop.Stop.{Stop}
 use Rattle.stream.specs.declared.stop.Stop.the-variants.{End, Cut, Full, Six}
@@ -43,13 +43,19 @@ pub record RunEnd : Type 0 where
 abbrev pub lineRoom : ℕ
 lineRoom = 129
 
--- the operands of a code that are there; none of an unknown code
-unfoldable pub operands : ℕ → List ℕ → ℕ
-operands b bs = maybe (widthOf b) 0 (λ w. min w (length bs))
+-- by a table of codes: the operands of a code that are there; none of an unknown code
+unfoldable pub operandsIn : List Code → ℕ → List ℕ → ℕ
+operandsIn cs b bs = maybe (widthIn cs b) 0 (λ w. min w (length bs))
 
 -- more operands are to come
-unfoldable pub cutShort : ℕ → List ℕ → Bool
-cutShort b bs = maybe (widthOf b) false (λ w. ltb (length bs) w)
+unfoldable pub cutShortIn : List Code → ℕ → List ℕ → Bool
+cutShortIn cs b bs = maybe (widthIn cs b) false (λ w. ltb (length bs) w)
+
+abbrev pub operands : ℕ → List ℕ → ℕ
+operands b bs = operandsIn codes b bs
+
+abbrev pub cutShort : ℕ → List ℕ → Bool
+cutShort b bs = cutShortIn codes b bs
 
 unfoldable pub stopped : Stop → Session → RunEnd
 stopped why h = record { lines = []; used = 0; session = h; stop = why }

@@ -4,8 +4,9 @@ use mathlib.Core.List.{List, [], _∷_, _++_}
 use mathlib.Core.Bool.{cond, _||_}
 use lib.Dec.{eqb}
 use lib.ListN.{length}
-use Rattle.types.specs.declared.coord.Path.{Path}
-use Rattle.types.specs.Paths.{emptyPath, appended}
+use Rattle.types.specs.declared.sender.Sender.{Sender}
+use Rattle.types.specs.Paths.{appended}
+use Rattle.types.specs.Senders.{withPending, emptied}
 use Rattle.types.specs.declared.reply.Reply.{Reply}
 use Rattle.rules.specs.Cases.{maybe}
 use Rattle.rules.specs.Calls.{Answer, wasRefused}
@@ -24,32 +25,33 @@ toEnd h bs = runAll (length bs) h bs
 
 -- ---- its requests
 
--- the request that a command makes, with the pending path p; a path element makes none
-unfoldable pub asked : Path → Command → List Request
-asked p (Element e) = []
-asked p (WithPath f) = Asked (f p) ∷ []
-asked p (Plain x) = x ∷ []
+-- the request that a command makes, with what the sender has; a path element makes none
+unfoldable pub asked : Sender → Command → List Request
+asked k (Element e) = []
+asked k (WithPath f) = Asked (f k) ∷ []
+asked k (Plain x) = x ∷ []
 
-unfoldable pub pendingAfter : Path → Command → Path
-pendingAfter p (Element e) = appended p e .path
-pendingAfter p (WithPath f) = emptyPath
-pendingAfter p (Plain x) = p
+-- what the sender has after it
+unfoldable pub senderAfter : Sender → Command → Sender
+senderAfter k (Element e) = withPending (appended (k .pending) e .path) k
+senderAfter k (WithPath f) = emptied k
+senderAfter k (Plain x) = k
 
--- by the bytes and the pending path alone; none at a 6 and after it
-unfoldable pub requestsFrom : ℕ → Path → List ℕ → List Request
-requestsFrom zero p bs = []
-requestsFrom (suc n) p bs =
+-- by the bytes and what the sender has alone; none at a 6 and after it
+unfoldable pub requestsFrom : ℕ → Sender → List ℕ → List Request
+requestsFrom zero k bs = []
+requestsFrom (suc n) k bs =
     elim bs [
       | [] ↦ []
-      | b ∷ rest ↦ maybe (decode b rest) [] (λ d. asked p (d .command) ++ requestsFrom n (pendingAfter p (d .command)) (d .left))
+      | b ∷ rest ↦ maybe (decode b rest) [] (λ d. asked k (d .command) ++ requestsFrom n (senderAfter k (d .command)) (d .left))
     ]
 
-abbrev pub requestsOf : Path → List ℕ → List Request
-requestsOf p bs = requestsFrom (length bs) p bs
+abbrev pub requestsOf : Sender → List ℕ → List Request
+requestsOf k bs = requestsFrom (length bs) k bs
 
 -- the stream's requests in a session: their answers, and the memory after them
 abbrev pub serving : Session → List ℕ → LentServing
-serving h bs = requests (h .memory) (requestsOf (h .pending) bs)
+serving h bs = requests (h .memory) (requestsOf (h .sender) bs)
 
 -- ---- what its lines show
 

@@ -1,12 +1,12 @@
 // A run over a stream of commands, with replies as lines of text. Whether the state is sound is asked once, and kept.
 use crate::stop::Stop;
+use commands::command::Width;
 use commands::command::command_at;
-use commands::width::Width;
-use commands::width::width_of;
+use commands::command::width_of;
 use replies::line::LINE;
 use replies::line::put_line;
-use types::coord::Path;
 use types::reply::Tally;
+use types::sender::Sender;
 ghost use mathlib.Core.Path.{_≡_};
 ghost use Prim.Native.Nat.{_+_, _-_, _≤_, _<_};
 ghost use mathlib.Core.List.{_++_};
@@ -21,7 +21,7 @@ pub struct Ran {
     pub used: usize,
     // How many bytes of the output were written.
     pub written: usize,
-    pub pending: Path,
+    pub sender: Sender,
     pub tally: Tally,
     pub stop: Stop,
 }
@@ -60,17 +60,17 @@ fn next_command(input: &[u8], at: usize, room: usize, last: bool) -> Next
 // bytes holds no line, and no command is run.
 pub fn run(
     state: &mut [u8],
-    pending: Path,
+    sender: Sender,
     tally: Tally,
     input: &[u8],
     last: bool,
     output: &mut [u8],
 ) -> Ran
-    ensures { λ r. ⌜ EndsAs (runPart (length (now (input .entry))) last (length (now (output .entry))) (session (now (state .entry)) pending) (now (input .entry))) tally r (now (state .exit)) (now (output .entry)) (now (output .exit)) ⌝ }
+    ensures { λ r. ⌜ EndsAs (runPart (length (now (input .entry))) last (length (now (output .entry))) (session (now (state .entry)) sender) (now (input .entry))) tally r (now (state .exit)) (now (output .entry)) (now (output .exit)) ⌝ }
     ensures { λ r. ⌜ (r .used ≤ length (now (input .entry))) × (r .written ≤ length (now (output .entry))) ⌝ }
 {
     let mut is_sound = state::check::is_sound(state);
-    let mut path = pending;
+    let mut from = sender;
     let mut counts = tally;
     let mut at = 0;
     let mut put = 0;
@@ -82,7 +82,7 @@ pub fn run(
                 return Ran {
                     used: at,
                     written: put,
-                    pending: path,
+                    sender: from,
                     tally: counts,
                     stop: Stop::Full,
                 };
@@ -91,25 +91,25 @@ pub fn run(
                 return Ran {
                     used: at,
                     written: put,
-                    pending: path,
+                    sender: from,
                     tally: counts,
                     stop: Stop::Cut,
                 };
             }
             Next::Command(width) => {
-                let done = command_at(state, is_sound, path, code, input, at + 1);
+                let done = command_at(state, is_sound, from, code, input, at + 1);
                 let reply = done.reply;
                 let refusal = reply.refusal;
                 put = put_line(output, put, code, reply);
                 counts = crate::tally::count_held(counts, refusal);
-                path = done.pending;
+                from = done.sender;
                 is_sound = done.sound;
                 at += 1 + width;
                 if refusal == 6 {
                     return Ran {
                         used: at,
                         written: put,
-                        pending: path,
+                        sender: from,
                         tally: counts,
                         stop: Stop::Six,
                     };
@@ -120,7 +120,7 @@ pub fn run(
     Ran {
         used: at,
         written: put,
-        pending: path,
+        sender: from,
         tally: counts,
         stop: Stop::End,
     }

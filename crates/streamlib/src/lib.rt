@@ -1,5 +1,5 @@
-// The command stream for a driver in another language: runs as the crate `stream` proves them, with the pending path as bytes
-// and the run's end as numbers. Thin; the calls have the contracts.
+// The command stream for a driver in another language: runs as the crate `stream` proves them, with what the sender has (the pending
+// path) as bytes and the run's end as numbers. Thin; the calls have the contracts.
 use raw::layout::BYTE;
 use raw::layout::ELEMENT;
 use raw::layout::PATH;
@@ -8,6 +8,7 @@ use types::coord::PLACES;
 use types::coord::Path;
 use types::coord::zero_entry;
 use types::reply::Tally;
+use types::sender::Sender;
 
 // A length, and the places.
 const PENDING: usize = PATH;
@@ -15,10 +16,10 @@ const PENDING: usize = PATH;
 // Used, written, why it stopped, commands done, commands refused.
 const REPORT: usize = 5;
 
-fn load(pending: &[u8]) -> Path {
+fn load(pending: &[u8]) -> Sender {
     let mut entries = [zero_entry(); PLACES];
     if pending.len() < PENDING {
-        return Path::empty();
+        return Sender::new();
     }
     let mut k = 0;
     while k < PLACES {
@@ -26,10 +27,13 @@ fn load(pending: &[u8]) -> Path {
         k += 1;
     }
     let len = raw::numbers::wide(pending[0]) as usize;
-    Path { entries, len }
+    Sender {
+        pending: Path { entries, len },
+    }
 }
 
-fn store(pending: &mut [u8], path: Path) {
+fn store(pending: &mut [u8], sender: Sender) {
+    let path = sender.pending;
     if pending.len() < PENDING {
         return;
     }
@@ -77,13 +81,13 @@ pub extern "C" fn stream_run(
     if report.len() < REPORT {
         return;
     }
-    let path = load(pending);
+    let sender = load(pending);
     let tally = Tally {
         done: report[3],
         refused: report[4],
     };
-    let ran = stream::run::run(state, path, tally, input, last != 0, output);
-    let after = ran.pending;
+    let ran = stream::run::run(state, sender, tally, input, last != 0, output);
+    let after = ran.sender;
     let counts = ran.tally;
     let stop = ran.stop;
     store(pending, after);

@@ -1,3 +1,4 @@
 pub mod Addresses
 pub mod Paths
 pub mod Values
+pub mod Senders

@@ -26,10 +26,6 @@ use Rattle.types.specs.declared.reply.Tally.{Tally}
 abbrev pub largestNumber : ℕ
 largestNumber = 18446744073709551615
 
--- the space that stands before each number of a line
-abbrev pub space : ℕ
-space = 32
-
 -- ---- an entry's codes, in the order in which 01 names the kinds
 
 -- Verified 0, Hint 1

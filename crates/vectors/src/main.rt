@@ -9,8 +9,8 @@ use libc::STDIN_FILENO;
 use raw::layout::HEAD;
 use raw::layout::ROW;
 use session::Session;
-use types::coord::Path;
 use types::reply::Tally;
+use types::sender::Sender;
 ghost use mathlib.Core.Path.{_≡_};
 ghost use lib.ListN.{length};
 
@@ -44,7 +44,7 @@ fn written(memory: &mut [u8], input: &[u8], output: &mut [u8]) -> usize {
         done: 0,
         refused: 0,
     };
-    let ran = stream::run::run(memory, Path::empty(), tally, input, true, output);
+    let ran = stream::run::run(memory, Sender::new(), tally, input, true, output);
     ran.written
 }
 

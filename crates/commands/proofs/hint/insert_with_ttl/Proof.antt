@@ -2,48 +2,49 @@
 use mathlib.Core.Path.{refl, _∙_, ap}
 use native.Mathlib.Omega.{arith}
 use lib.ListN.{drop}
-use Rattle.types.specs.Paths.{emptyPath}
+use Rattle.types.specs.Senders.{emptied}
 use Rattle.rules.specs.Memory.{cut, leNumber}
 use Rattle.rules.specs.Calls.{InsertWithTtl}
-use Rattle.rules.specs.Commands.{code, codes, codeOf, takesPath, keyIn, timeIn, reply}
+use Rattle.rules.specs.Layout.{numberSize}
+use Rattle.rules.specs.Commands.{code, codes, codeOf, takesPath, keyIn, timeIn, reply, withTtlSize, ttlAt, afterSix, readAs}
 use Rattle.commands.proofs.Operands.{number-at, key-time-and}
 use Rattle.commands.proofs.CommandLaws.{Given, Called, given-by, with-path, called, is-sound, cut-six, unsound, done}
 use borrow.Author.Needs.{needs}
 use Rattle.commands.proofs.hint.insert_with_ttl.Statement.{statement}
 use Rattle.commands.proofs.hint.insert_with_ttl.Tie as tie
 
-given : (c : tie.After-shared-slice-known) → let a = c .before .before .args in Given 0x11 (a .state .now) (a .is-sound) (a .pending) (a .input .now) (a .at)
+given : (c : tie.After-shared-slice-known) → let a = c .before .before .args in Given 0x11 (a .state .now) (a .is-sound) (a .sender) (a .input .now) (a .at)
 given c = let s = c .before .before in given-by (s .pre .0) (c .before .slice-known .given) (c .shared-slice-known .given) (s .good .1 .1 .0)
 
-makes : (c : tie.Else1) → let a = c .before .before .before .args in let o = cut (a .at) 32 (a .input .now) in
-    Called 0x11 (a .state .now) (a .is-sound) (a .pending) (drop (a .at) (a .input .now)) (InsertWithTtl (keyIn o) (a .pending) (timeIn o) (leNumber (cut 24 8 o))) emptyPath
-unfolding codeOf codes code
+makes : (c : tie.Else1) → let a = c .before .before .before .args in let o = cut (a .at) withTtlSize (a .input .now) in
+    Called 0x11 (a .state .now) (a .is-sound) (a .sender) (drop (a .at) (a .input .now)) (InsertWithTtl (keyIn o) (a .sender .pending) (timeIn o) (leNumber (cut ttlAt numberSize o))) (emptied (a .sender))
+unfolding codeOf codes code readAs
 makes c = called (given (c .before)) refl (c .if1 .left) refl with-path
 
 returns-3 : tie.Need-returns-3
 returns-3 c =
     let at-hint-reply = c .before in
     let at-insert-with-ttl-unchecked = at-hint-reply .before .before .before in
-    let at-read-u642 = at-insert-with-ttl-unchecked .before .before in
+    let at-read-u642 = at-insert-with-ttl-unchecked .before .before .before in
     let at-read-u64 = at-read-u642 .before in
     let at-load-addr = at-read-u64 .before in
     let at-if2 = at-load-addr .before in
     let start = at-if2 .before .before .before .before in
     let a = start .args in
     let s = at-insert-with-ttl-unchecked .insert-with-ttl-unchecked .ensures in
-    let q = key-time-and (a .at) 32 (a .input .now) (omega arith) (at-load-addr .load-addr .ensures) (at-read-u64 .read-u64 .ensures) (λ k n x. InsertWithTtl k (a .pending) n x)
-    (number-at (a .at) 32 24 8 (a .input .now) (omega arith) (at-read-u642 .read-u642 .ensures)) in
-    done (makes (at-if2 .before)) _ q (at-hint-reply .hint-reply .ensures ∙ ap reply (s .0)) (s .1) (c .empty3 .ensures) refl
+    let q = key-time-and (a .at) withTtlSize (a .input .now) (omega arith) (at-load-addr .load-addr .ensures) (at-read-u64 .read-u64 .ensures) (λ k n x. InsertWithTtl k (a .sender .pending) n x)
+    (number-at (a .at) withTtlSize ttlAt numberSize (a .input .now) (omega arith) (at-read-u642 .read-u642 .ensures)) in
+    done (makes (at-if2 .before)) _ q (at-hint-reply .hint-reply .ensures ∙ ap reply (s .0)) (s .1) (c .emptied3 .ensures) refl
 
 pub insert-with-ttl-spec : {M : Type 1} → statement M
-unfolding codeOf codes code takesPath
+unfolding codeOf codes code takesPath afterSix
 insert-with-ttl-spec =
     tie.close
     (tie.spec
     (λ c. search needs) (λ c κs. search needs) (λ c κs. search needs)
-    (λ c. let at-if1 = c .before .before in cut-six (given (at-if1 .before)) refl (at-if1 .if1 .taken) (c .before .empty .ensures) (c .refused-six .ensures))
+    (λ c. let at-if1 = c .before .before in cut-six (given (at-if1 .before)) refl (at-if1 .if1 .taken) (c .before .emptied .ensures) (c .refused-six .ensures))
     (λ c κs. search needs) (λ c κs. search needs)
-    (λ c. let at-if2 = c .before .before in unsound (makes (at-if2 .before)) (at-if2 .if2 .taken) (c .before .empty2 .ensures) (c .refused-one .ensures))
+    (λ c. let at-if2 = c .before .before in unsound (makes (at-if2 .before)) (at-if2 .if2 .taken) (c .before .emptied2 .ensures) (c .refused-one .ensures))
     (λ c κs. search needs) (λ c. search needs) (λ c κs. search needs) (λ c. search needs) (λ c κs. search needs)
-    (λ c κs. let at-if2 = c .before .before .before .before in let start = at-if2 .before .before .before .before in is-sound (start .pre .0) (at-if2 .if2 .left))
+    (λ c κs. let at-if2 = c .before .before .before .before .before in let start = at-if2 .before .before .before .before in is-sound (start .pre .0) (at-if2 .if2 .left))
     (λ c κs. search needs) (λ c κs. search needs) (λ c. search needs) returns-3)

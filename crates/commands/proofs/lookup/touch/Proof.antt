@@ -4,19 +4,19 @@ use native.Mathlib.Omega.{arith}
 use lib.ListN.{drop}
 use Rattle.rules.specs.Memory.{cut}
 use Rattle.rules.specs.Calls.{GetAndTouch}
-use Rattle.rules.specs.Commands.{code, codes, codeOf, takesPath, keyIn, timeIn}
+use Rattle.rules.specs.Commands.{code, codes, codeOf, takesPath, keyIn, timeIn, keyTimeSize, afterSix, readAs}
 use Rattle.commands.proofs.Operands.{key-time}
 use Rattle.commands.proofs.CommandLaws.{Given, Called, given-by, plain, called, is-sound, cut-six, unsound, done}
 use borrow.Author.Needs.{needs}
 use Rattle.commands.proofs.lookup.touch.Statement.{statement}
 use Rattle.commands.proofs.lookup.touch.Tie as tie
 
-given : (c : tie.After-shared-slice-known) → let a = c .before .before .args in Given 0x21 (a .state .now) (a .is-sound) (a .pending) (a .input .now) (a .at)
+given : (c : tie.After-shared-slice-known) → let a = c .before .before .args in Given 0x21 (a .state .now) (a .is-sound) (a .sender) (a .input .now) (a .at)
 given c = let s = c .before .before in given-by (s .pre .0) (c .before .slice-known .given) (c .shared-slice-known .given) (s .good .1 .1 .0)
 
-makes : (c : tie.Else1) → let a = c .before .before .before .args in let o = cut (a .at) 24 (a .input .now) in
-    Called 0x21 (a .state .now) (a .is-sound) (a .pending) (drop (a .at) (a .input .now)) (GetAndTouch (keyIn o) (timeIn o)) (a .pending)
-unfolding codeOf codes code
+makes : (c : tie.Else1) → let a = c .before .before .before .args in let o = cut (a .at) keyTimeSize (a .input .now) in
+    Called 0x21 (a .state .now) (a .is-sound) (a .sender) (drop (a .at) (a .input .now)) (GetAndTouch (keyIn o) (timeIn o)) (a .sender)
+unfolding codeOf codes code readAs
 makes c = called (given (c .before)) refl (c .if1 .left) refl plain
 
 returns-3 : tie.Need-returns-3
@@ -28,11 +28,11 @@ returns-3 c =
     let start = at-if2 .before .before .before .before in
     let a = start .args in
     let s = at-touch-unchecked .touch-unchecked .ensures in
-    let q = key-time (a .at) 24 (a .input .now) (omega arith) (at-load-addr .load-addr .ensures) (at-read-u64 .read-u64 .ensures) GetAndTouch in
+    let q = key-time (a .at) keyTimeSize (a .input .now) (omega arith) (at-load-addr .load-addr .ensures) (at-read-u64 .read-u64 .ensures) GetAndTouch in
     done (makes (at-if2 .before)) _ q (c .touch-reply .ensures ∙ s .0) (s .2) refl refl
 
 pub touch-spec : {M : Type 1} → statement M
-unfolding codeOf codes code takesPath
+unfolding codeOf codes code takesPath afterSix
 touch-spec =
     tie.close
     (tie.spec

@@ -17,16 +17,16 @@ use Rattle.stream.proofs.run.run.Statement.{statement}
 use Rattle.stream.proofs.run.run.Tie as tie
 
 abbrev Inv-loop : tie.InvT-loop
-Inv-loop state₀ input last output₀ is-sound₀ path₀ counts₀ at₀ put₀ state output is-sound path counts at put =
-    (at ≤ length input) × (length state ≡ length state₀) × (length output ≡ length output₀) × (is-sound ≡ sound (capacity state) (view state)) × Going (runPart (length input) last (length output₀) (session state₀ path₀) input) last input output₀ counts₀ at put path counts state output
+Inv-loop state₀ input last output₀ is-sound₀ from₀ counts₀ at₀ put₀ state output is-sound from counts at put =
+    (at ≤ length input) × (length state ≡ length state₀) × (length output ≡ length output₀) × (is-sound ≡ sound (capacity state) (view state)) × Going (runPart (length input) last (length output₀) (session state₀ from₀) input) last input output₀ counts₀ at put from counts state output
 
 abbrev μ-loop : tie.MeasureT-loop
-μ-loop state₀ input last output₀ is-sound₀ path₀ counts₀ at₀ put₀ state output is-sound path counts at put = length input - at
+μ-loop state₀ input last output₀ is-sound₀ from₀ counts₀ at₀ put₀ state output is-sound from counts at put = length input - at
 
 loop-holds : tie.Need-loop-holds Inv-loop μ-loop
 loop-holds c =
     let a = c .before .before .before .before .before .args in
-    (omega arith, refl, refl, c .is-sound .ensures, start (a .last) (a .state .now) (a .input .now) (a .output .now) (a .pending) (a .tally))
+    (omega arith, refl, refl, c .is-sound .ensures, start (a .last) (a .state .now) (a .input .now) (a .output .now) (a .sender) (a .tally))
 
 sub-next-command : tie.Need-sub-next-command Inv-loop μ-loop
 sub-next-command c = let v = c .before .before .loop .inv in omega (arith, v .2, v .4 .done .inside)
@@ -45,8 +45,8 @@ next c e = same-room _ _ _ _ _ _ (loop-of c .loop .inv .2) ∙ sym (c .next-comm
 
 -- a command was found: all that its turn asks
 turn : (c : tie.After-found Inv-loop μ-loop) → let b = loop-of (c .before .before) in let l = b .loop in let a = start-of b .args in
-    Turn (runPart (length (a .input .now)) (a .last) (length (a .output .now)) (session (a .state .now) (a .pending)) (a .input .now))
-    (a .last) (a .input .now) (a .output .now) (a .tally) (l .at) (l .put) (l .path) (l .counts) (l .state) (l .output) (c .found .given .0 .0)
+    Turn (runPart (length (a .input .now)) (a .last) (length (a .output .now)) (session (a .state .now) (a .sender)) (a .input .now))
+    (a .last) (a .input .now) (a .output .now) (a .tally) (l .at) (l .put) (l .from) (l .counts) (l .state) (l .output) (c .found .given .0 .0)
 turn c =
     let b = loop-of (c .before .before) in
     record { going = b .loop .inv .4; left = c .before .before .before .before .loop-test .taken; next = next (c .before .before) (c .found .given .1) }
@@ -56,14 +56,14 @@ returns c =
     let n = c .before .before in
     let l = loop-of n .loop in
     let s = stops-full (l .inv .4) (n .before .before .loop-test .taken) (next n (c .enum-told .given .1)) in
-    (ended _ _ (session (l .state) (l .path)) _ _ _ _ _ _ _ s refl refl refl refl refl, (l .inv .0, s .inside))
+    (ended _ _ (session (l .state) (l .from)) _ _ _ _ _ _ _ s refl refl refl refl refl, (l .inv .0, s .inside))
 
 returns-2 : tie.Need-returns-2 Inv-loop μ-loop
 returns-2 c =
     let n = c .before .before in
     let l = loop-of n .loop in
     let s = stops-cut (l .inv .4) (n .before .before .loop-test .taken) (next n (c .enum-told2 .given .1)) in
-    (ended _ _ (session (l .state) (l .path)) _ _ _ _ _ _ _ s refl refl refl refl refl, (l .inv .0, s .inside))
+    (ended _ _ (session (l .state) (l .from)) _ _ _ _ _ _ _ s refl refl refl refl refl, (l .inv .0, s .inside))
 
 command-at-requires : tie.Need-command-at-requires Inv-loop μ-loop
 command-at-requires c κs =
@@ -100,7 +100,7 @@ returns-3 c =
     let o = obeyed-at (put-at n) in
     let k = turn (found-at o) in
     let s = stops-six k (o .command-at .ensures) (l .0 .0) (l .1) (l .0 .1) (n .count-held .ensures) (c .if1 .taken) in
-    (ended _ _ (session (o .command-at .last .0) (o .command-at .result .pending)) _ _ _ _ _ _ _ s refl refl refl refl refl, (used k, s .inside))
+    (ended _ _ (session (o .command-at .last .0) (o .command-at .result .sender)) _ _ _ _ _ _ _ s refl refl refl refl refl, (used k, s .inside))
 
 loop-less : tie.Need-loop-less Inv-loop μ-loop
 loop-less c = omega (arith, used (turn (found-at (obeyed-at (put-at (c .before .before))))))
@@ -123,7 +123,7 @@ returns-4 : tie.Need-returns-4 Inv-loop μ-loop
 returns-4 c =
     let l = c .before .loop in
     let s = over (l .inv .4) (l .inv .0) (c .loop-test .left) in
-    (ended _ _ (session (l .state) (l .path)) _ _ _ _ _ _ _ s refl refl refl refl refl, (l .inv .0, s .inside))
+    (ended _ _ (session (l .state) (l .from)) _ _ _ _ _ _ _ s refl refl refl refl refl, (l .inv .0, s .inside))
 
 pub run-spec : {M : Type 1} → statement M
 run-spec =
