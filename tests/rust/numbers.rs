@@ -1,7 +1,7 @@
 //! Fields, sizes, limits and codes, once for every test program here and for the crate's own tests. What is derived is written so.
 //!
 //! Behind each number stands what `tests/numbers` holds it to: a definition (`Layout.headSize`: `crates/rules/specs/Layout.antt`), a
-//! name of `tests/numbers.antt`, or a constant of the proved code (`replies::line::LINE`).
+//! name of `tests/numbers.antt.in`, or a constant of the proved code (`replies::line::LINE`).
 #![allow(dead_code, reason = "no program uses all of them")]
 
 // ---- widths, in bytes
