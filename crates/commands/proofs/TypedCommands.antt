@@ -25,10 +25,9 @@ use Rattle.rules.specs.Lent.{Bytes, Small, AddrFits, CoordEntryFits, PathFits, 
 use Rattle.rules.specs.Layout.{mtuSize, numberSize, addressSize}
 use Rattle.rules.specs.Commands.{Code, Command, Element, WithPath, Plain, Operands, Elements, Writes, Funds, Requests, code, codes, reads, readAs, keyIn, timeIn, kindIn, amountIn, funded, maxSize, timeAt, keyTimeSize}
 use Rattle.rules.proofs.RowLists.{by-cond}
-use Rattle.rules.proofs.MemoryLaws.{bytes-take}
+use Rattle.rules.proofs.MemoryLaws.{address-fits, bytes-take, cut-small, element-of-fits}
+use Rattle.rules.proofs.EntryLaws.{zeros-fit}
 use Rattle.rules.proofs.Sizes.{small8}
-use Rattle.rules.proofs.Foreign.{cut-small, address-fits, element-of-fits}
-use Rattle.rules.proofs.Fitting.{zeros-fit}
 use Rattle.rules.proofs.CommandRuns.{Reads, code-found}
 
 -- ---- what stands in operands of w bytes: one law for each kind, whose premise is computed

@@ -1,11 +1,10 @@
 -- Refusals: each number is given exactly if document 01 says so, and a refusal leaves the state.
-use Prim.Native.Nat.{ℕ, _≤_}
+use Prim.Native.Nat.{ℕ}
 use mathlib.Core.Path.{_≡_, refl, sym, _∙_, ap, subst}
 use mathlib.Core.List.{List, [], _∷_}
 use mathlib.Core.Option.{Option, none, some}
 use mathlib.Core.Bool.{Bool, true, false, cond, _&&_, _||_, not, or-true}
 use lib.Dec.{eqb}
-use native.Mathlib.Omega.{arith}
 use borrow.Author.Tests.{eq-eqb, eqb-false, eqb-true, not-false, not-true}
 use Rattle.rules.specs.Cases.{Every, maybe}
 use Rattle.rules.specs.Records.{State}
@@ -289,4 +288,3 @@ write-allowed R s q h p w v = refused-by-none R s q (record { sound = h; path = 
 -- a call that takes no path and draws no stamps is refused by 1 alone
 pub refused-only-one : (R : ℕ) (s : State) (q : Call) → sound R s ≡ true → pathGiven q ≡ none → verifiedWrite q ≡ none → drawsStamps q && seqSpent s ≡ false → refusal R s (Asked q) ≡ none
 refused-only-one R s q h p v d = refused-by-none R s q (record { sound = h; path = rw p; stamps = d; place = rw v })
-
