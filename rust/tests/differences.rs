@@ -3,7 +3,7 @@
 mod common;
 
 use common::numbers::{
-    DEFAULT_TTL_MS, ELEMENT, HEAD, KEY, MAX_ENTRIES, MOST_ENTRIES, PATH_PLACES, PLACES, ROW, ROW_COUNT, WEIGHT_LIMIT,
+    DEFAULT_TTL_MS, ELEMENT, HEAD, KEY, MAX_ENTRIES, MOST_ENTRIES, PATH_PLACES, PLACES, ROW, ROW_COUNT, SEQ, WEIGHT_LIMIT,
 };
 use common::{TTL, addr, fresh, number, z};
 use coordcache::{CoordCache, CoordError, Funding, HintOutcome, MAX_PATH, MAX_ROWS, Placed, Refused, Segment, TreeCoordinate};
@@ -58,7 +58,7 @@ fn refusal_2_of_a_path_that_is_too_long() {
 /// stamps. That `seq` counts up, and is kept by `clear`, is seen in the memory.
 #[test]
 fn refusal_3_is_out_of_reach_but_seq_counts_up() {
-    let seq = |cache: &CoordCache| number(cache, 16);
+    let seq = |cache: &CoordCache| number(cache, SEQ);
     let mut cache = fresh(1);
     assert_eq!(seq(&cache), 0);
     cache.insert_verified(addr(1), z(1), 0).unwrap();

@@ -1,4 +1,5 @@
 // Operands as they come from another language, and replies as they go there.
+use raw::layout::ADDRESS;
 use raw::layout::ELEMENT;
 use raw::layout::ROW;
 use search::outcome::Search;
@@ -25,7 +26,7 @@ fn owned(a: NodeAddr) -> NodeAddr
     a
 }
 
-pub fn address(bytes: &[u8; 16]) -> NodeAddr
+pub fn address(bytes: &[u8; ADDRESS]) -> NodeAddr
     ensures { λ r. ⌜ (r ≡ addressFrom (now (bytes .entry))) × AddrFits r ⌝ }
 {
     owned(NodeAddr(*bytes))

@@ -17,7 +17,7 @@ ghost use Rattle.rules.specs.Records.{maxRows};
 ghost use Rattle.rules.specs.Layout.{memorySize};
 
 // The length of 3 rows.
-const LAST: usize = 3325;
+const LAST: usize = HEAD + 3 * ROW;
 
 // What call number `call` answers on the state of this kind, and a sum over the memory that it leaves.
 fn answer(kind: u64, call: u64) {

@@ -1,4 +1,5 @@
 // States of 3 rows made byte by byte, and what makes one of them unsound.
+use raw::layout::ADDRESS;
 use raw::layout::CREATED_AT;
 use raw::layout::DEFAULT_TTL;
 use raw::layout::ELEMENT;
@@ -9,6 +10,7 @@ use raw::layout::LAST_USED;
 use raw::layout::MAX_ENTRIES;
 use raw::layout::MTU;
 use raw::layout::MTU_MARK;
+use raw::layout::NUMBER;
 use raw::layout::PATH_PLACES;
 use raw::layout::PLACE;
 use raw::layout::ROW;
@@ -246,27 +248,32 @@ pub fn make(memory: &mut [u8], kind: u64) {
     }
 }
 
+// The highest byte of a number, and the last of a key.
+const TOP: usize = NUMBER - 1;
+
+const KEY_END: usize = ADDRESS - 1;
+
 // One field of the foreign state's head changed.
 fn spoil_head(memory: &mut [u8], number: u64) {
     match number {
         0 => put(memory, MAX_ENTRIES, 3),
-        1 => put(memory, 7, 255),
+        1 => put(memory, MAX_ENTRIES + TOP, 255),
         2 => put(memory, SEQ, 8),
         3 => put(memory, STORED_WEIGHT, 35),
         4 => put(memory, STORED_WEIGHT, 37),
-        5 => put(memory, 31, 255),
+        5 => put(memory, STORED_WEIGHT + TOP, 255),
         6 => put(memory, ROW_COUNT, 1),
         7 => put(memory, ROW_COUNT, 4),
-        _ => put(memory, 39, 255),
+        _ => put(memory, ROW_COUNT + TOP, 255),
     }
 }
 
 // One field of a row changed: the key, the path's length, the mark, the source.
 fn spoil_entry(memory: &mut [u8], number: u64) {
     match number {
-        9 => put_in(memory, 1, 15, 1),
+        9 => put_in(memory, 1, KEY_END, 1),
         10 => put_in(memory, 1, 0, 16),
-        11 => put_in(memory, 2, 15, 2),
+        11 => put_in(memory, 2, KEY_END, 2),
         12 => put_in(memory, 0, ENTRY, 0),
         13 => put_in(memory, 0, ENTRY, 33),
         14 => put_in(memory, 2, ENTRY, 17),

@@ -4,7 +4,7 @@ use Prim.Native.Nat.{ℕ, _+_, _-_, _≤_, _<_}
 use native.Mathlib.Omega.{arith}
 use mathlib.Core.List.{List}
 use mathlib.Core.Option.{none, some}
-use mathlib.Core.Bool.{Bool, true, false, cond, not, _||_}
+use mathlib.Core.Bool.{Bool, true, false, not, _||_}
 use lib.Dec.{eqb}
 use lib.ListN.{length, getD, drop, length-drop}
 use mir.Syntax.{w8}
@@ -24,7 +24,7 @@ use Rattle.rules.specs.Refusals.{Fresh, Asked, performRequest, gives}
 use Rattle.rules.specs.Answers.{refusalOf}
 use Rattle.rules.specs.Memory.{cut, leNumber, coordEntryOf, capacity, view}
 use Rattle.rules.specs.Lent.{Bytes, Typed, lent, call}
-use Rattle.rules.specs.Commands.{Code, Command, Element, WithPath, Plain, code, codes, codeOf, decode, reads, readAs, afterSix, elementReply, maxSize, freshTtlAt, freshSize, reply}
+use Rattle.rules.specs.Commands.{Code, Command, Element, WithPath, Plain, code, codes, codeOf, decode, reads, readAs, afterSix, elementReply, freshMaxSize, freshTtlAt, freshSize, reply}
 use Rattle.rules.specs.Layout.{numberSize, coordEntrySize}
 use Rattle.rules.proofs.MemoryLaws.{all-bytes, bytes-drop}
 use Rattle.rules.proofs.Public.{unsound-one}
@@ -153,13 +153,13 @@ module _ {b : ℕ} {l : List ℕ} {f : Bool} {k : Sender} {bs : List ℕ} {q : C
 -- ---- 00
 
 pub fresh-answers : {l : List ℕ} {f : Bool} {k : Sender} {i : List ℕ} {at : ℕ} → Given 0x00 l f k i at → {max ttl n : ℕ} {r : AfterCommand} {m : List ℕ} → freshSize ≤ length i - at
-    → max ≡ leNumber (cut at maxSize i) → ttl ≡ leNumber (cut (at + freshTtlAt) numberSize i) → n ≡ refusalOf (lent l (Fresh max ttl) .answer) → m ≡ lent l (Fresh max ttl) .memory
+    → max ≡ leNumber (cut at freshMaxSize i) → ttl ≡ leNumber (cut (at + freshTtlAt) numberSize i) → n ≡ refusalOf (lent l (Fresh max ttl) .answer) → m ≡ lent l (Fresh max ttl) .memory
     → r .reply ≡ refuses n → r .sender ≡ k → r .sound ≡ f || eqb n 0 → Answers (obeyByte (session l k) 0x00 (drop at i)) r m
 unfolding codeOf codes code readAs obey answered performRequest gives
 fresh-answers {l = l} {f = f} {k = k} {i = i} {at = at} g {max = max} {ttl = ttl} {n = n} {m = m} w em et en ml er ep es =
     let o = cut at freshSize i in
-    let x = Fresh (leNumber (cut 0 maxSize o)) (leNumber (cut freshTtlAt numberSize o)) in
-    let a : Fresh max ttl ≡ x = cc (first-at at freshSize maxSize i (omega arith) em, number-at at freshSize freshTtlAt numberSize i (omega arith) et) in
+    let x = Fresh (leNumber (cut 0 freshMaxSize o)) (leNumber (cut freshTtlAt numberSize o)) in
+    let a : Fresh max ttl ≡ x = cc (first-at at freshSize freshMaxSize i (omega arith) em, number-at at freshSize freshTtlAt numberSize i (omega arith) et) in
     let y : Reads codes 0x00 (drop at i) (Plain x) = record { code = _; known = refl; there = rw (length-drop at i) w; says = refl } in
     let t = command-fits k y (bytes-drop at i (g .input)) (g .sender) in
     let z : m ≡ lent l x .memory = ml ∙ ap (λ v. lent l v .memory) a in

@@ -19,11 +19,10 @@ use Rattle.types.specs.declared.placed.Funding.{Funding}
 use Rattle.types.specs.declared.placed.Funding.the-variants.{Upto, Uncharged}
 use Rattle.rules.specs.Cases.{maybe, Every}
 use Rattle.rules.specs.Memory.{cut, leNumber}
-use Rattle.rules.specs.Calls.{Call}
 use Rattle.rules.specs.Refusals.{Request, Asked}
 use Rattle.rules.specs.Lent.{Bytes, Small, AddrFits, CoordEntryFits, PathFits, WriteFits, Typed, TypedRequest}
 use Rattle.rules.specs.Layout.{mtuSize, numberSize, addressSize}
-use Rattle.rules.specs.Commands.{Code, Command, Element, WithPath, Plain, Operands, Elements, Writes, Funds, Requests, code, codes, reads, readAs, keyIn, timeIn, kindIn, amountIn, funded, maxSize, timeAt, keyTimeSize}
+use Rattle.rules.specs.Commands.{Code, Command, Element, WithPath, Plain, Operands, Elements, Writes, Funds, Requests, code, codes, readAs, keyIn, timeIn, kindIn, amountIn, funded, freshMaxSize, timeAt, keyTimeSize}
 use Rattle.rules.proofs.RowLists.{by-cond}
 use Rattle.rules.proofs.MemoryLaws.{address-fits, bytes-take, cut-small, element-of-fits}
 use Rattle.rules.proofs.EntryLaws.{zeros-fit}
@@ -34,8 +33,8 @@ use Rattle.rules.proofs.CommandRuns.{Reads, code-found}
 
 module _ (o : List ℕ) {w : ℕ} (b : Bytes o) (h : length o ≡ w) where
   -- 00's max
-  max-fits : leb maxSize w ≡ true → Small 8 (leNumber (cut 0 maxSize o))
-  max-fits t = let n = leb-true maxSize w t in let k = cut-small 0 maxSize o (omega arith) b in small8 (leNumber (cut 0 maxSize o)) (omega arith)
+  max-fits : leb freshMaxSize w ≡ true → Small 8 (leNumber (cut 0 freshMaxSize o))
+  max-fits t = let n = leb-true freshMaxSize w t in let k = cut-small 0 freshMaxSize o (omega arith) b in small8 (leNumber (cut 0 freshMaxSize o)) (omega arith)
 
   number-fits : (k : ℕ) → leb (k + numberSize) w ≡ true → Small 8 (leNumber (cut k numberSize o))
   number-fits k t = let n = leb-true (k + numberSize) w t in cut-small k numberSize o (omega arith) b

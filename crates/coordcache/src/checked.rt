@@ -18,6 +18,7 @@ use crate::unchecked::coord_cache_purge_expired_unchecked;
 use crate::unchecked::coord_cache_remove_unchecked;
 use crate::unchecked::coord_cache_stats_unchecked;
 use boundary::tell;
+use raw::layout::ADDRESS;
 use raw::layout::ROW;
 use types::reply::refused;
 ghost use mathlib.Core.Path.{_≡_};
@@ -50,7 +51,7 @@ pub extern "C" fn coord_cache_fresh(state: &mut [u8], max: u64, ttl: u64) -> u8
 #[no_mangle]
 pub extern "C" fn coord_cache_insert(
     state: &mut [u8],
-    key: &[u8; 16],
+    key: &[u8; ADDRESS],
     path: &[u8],
     time: u64,
     values: &mut [u64; 5],
@@ -66,7 +67,7 @@ pub extern "C" fn coord_cache_insert(
 #[no_mangle]
 pub extern "C" fn coord_cache_insert_with_ttl(
     state: &mut [u8],
-    key: &[u8; 16],
+    key: &[u8; ADDRESS],
     path: &[u8],
     time: u64,
     ttl: u64,
@@ -83,7 +84,7 @@ pub extern "C" fn coord_cache_insert_with_ttl(
 #[no_mangle]
 pub extern "C" fn coord_cache_insert_funded(
     state: &mut [u8],
-    key: &[u8; 16],
+    key: &[u8; ADDRESS],
     path: &[u8],
     time: u64,
     kind: u8,
@@ -104,7 +105,7 @@ pub extern "C" fn coord_cache_insert_funded(
 #[no_mangle]
 pub extern "C" fn coord_cache_insert_stated(
     state: &mut [u8],
-    key: &[u8; 16],
+    key: &[u8; ADDRESS],
     path: &[u8],
     time: u64,
     kind: u8,
@@ -126,7 +127,7 @@ pub extern "C" fn coord_cache_insert_stated(
 #[no_mangle]
 pub extern "C" fn coord_cache_insert_verified(
     state: &mut [u8],
-    key: &[u8; 16],
+    key: &[u8; ADDRESS],
     path: &[u8],
     time: u64,
     values: &mut [u64; 5],
@@ -142,7 +143,7 @@ pub extern "C" fn coord_cache_insert_verified(
 #[no_mangle]
 pub extern "C" fn coord_cache_insert_verified_with_path_mtu(
     state: &mut [u8],
-    key: &[u8; 16],
+    key: &[u8; ADDRESS],
     path: &[u8],
     time: u64,
     mtu: u16,
@@ -160,7 +161,7 @@ pub extern "C" fn coord_cache_insert_verified_with_path_mtu(
 #[no_mangle]
 pub extern "C" fn coord_cache_get(
     state: &[u8],
-    key: &[u8; 16],
+    key: &[u8; ADDRESS],
     time: u64,
     values: &mut [u64; 5],
     at: &mut u64,
@@ -176,7 +177,7 @@ pub extern "C" fn coord_cache_get(
 #[no_mangle]
 pub extern "C" fn coord_cache_get_and_touch(
     state: &mut [u8],
-    key: &[u8; 16],
+    key: &[u8; ADDRESS],
     time: u64,
     values: &mut [u64; 5],
     at: &mut u64,
@@ -193,7 +194,7 @@ pub extern "C" fn coord_cache_get_and_touch(
 #[no_mangle]
 pub extern "C" fn coord_cache_remove(
     state: &mut [u8],
-    key: &[u8; 16],
+    key: &[u8; ADDRESS],
     values: &mut [u64; 5],
     row: &mut [u8; ROW],
 ) -> u8
@@ -207,7 +208,11 @@ pub extern "C" fn coord_cache_remove(
 
 // Whether the key is held.
 #[no_mangle]
-pub extern "C" fn coord_cache_demote(state: &mut [u8], key: &[u8; 16], values: &mut [u64; 5]) -> u8
+pub extern "C" fn coord_cache_demote(
+    state: &mut [u8],
+    key: &[u8; ADDRESS],
+    values: &mut [u64; 5],
+) -> u8
     ensures { λ r. ⌜ Told (call (now (state .entry)) (Demote (addressFrom (now (key .entry))))) r (now (values .exit)) (now (state .exit)) ⌝ }
 {
     if !state::check::is_sound(state) {
@@ -219,7 +224,7 @@ pub extern "C" fn coord_cache_demote(state: &mut [u8], key: &[u8; 16], values: &
 #[no_mangle]
 pub extern "C" fn coord_cache_clear_path_mtu(
     state: &mut [u8],
-    key: &[u8; 16],
+    key: &[u8; ADDRESS],
     values: &mut [u64; 5],
 ) -> u8
     ensures { λ r. ⌜ Told (call (now (state .entry)) (ClearPathMtu (addressFrom (now (key .entry))))) r (now (values .exit)) (now (state .exit)) ⌝ }
@@ -258,7 +263,7 @@ pub extern "C" fn coord_cache_clear(state: &mut [u8], values: &mut [u64; 5]) -> 
 #[no_mangle]
 pub extern "C" fn coord_cache_invalidate_via_node(
     state: &mut [u8],
-    addr: &[u8; 16],
+    addr: &[u8; ADDRESS],
     values: &mut [u64; 5],
 ) -> u8
     ensures { λ r. ⌜ Told (call (now (state .entry)) (InvalidateViaNode (addressFrom (now (addr .entry))))) r (now (values .exit)) (now (state .exit)) ⌝ }
@@ -272,7 +277,7 @@ pub extern "C" fn coord_cache_invalidate_via_node(
 #[no_mangle]
 pub extern "C" fn coord_cache_invalidate_other_roots(
     state: &mut [u8],
-    addr: &[u8; 16],
+    addr: &[u8; ADDRESS],
     values: &mut [u64; 5],
 ) -> u8
     ensures { λ r. ⌜ Told (call (now (state .entry)) (InvalidateOtherRoots (addressFrom (now (addr .entry))))) r (now (values .exit)) (now (state .exit)) ⌝ }

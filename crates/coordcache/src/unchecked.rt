@@ -4,6 +4,7 @@ use boundary::funding;
 use boundary::path_from;
 use boundary::take_row;
 use boundary::tell;
+use raw::layout::ADDRESS;
 use raw::layout::ROW;
 use types::reply::refused;
 ghost use mathlib.Core.Path.{_≡_};
@@ -19,7 +20,7 @@ ghost use Rattle.coordcache.specs.Places.{placeTold};
 #[no_mangle]
 pub extern "C" fn coord_cache_insert_unchecked(
     state: &mut [u8],
-    key: &[u8; 16],
+    key: &[u8; ADDRESS],
     path: &[u8],
     time: u64,
     values: &mut [u64; 5],
@@ -36,7 +37,7 @@ pub extern "C" fn coord_cache_insert_unchecked(
 #[no_mangle]
 pub extern "C" fn coord_cache_insert_with_ttl_unchecked(
     state: &mut [u8],
-    key: &[u8; 16],
+    key: &[u8; ADDRESS],
     path: &[u8],
     time: u64,
     ttl: u64,
@@ -54,7 +55,7 @@ pub extern "C" fn coord_cache_insert_with_ttl_unchecked(
 #[no_mangle]
 pub extern "C" fn coord_cache_insert_funded_unchecked(
     state: &mut [u8],
-    key: &[u8; 16],
+    key: &[u8; ADDRESS],
     path: &[u8],
     time: u64,
     kind: u8,
@@ -77,7 +78,7 @@ pub extern "C" fn coord_cache_insert_funded_unchecked(
 #[no_mangle]
 pub extern "C" fn coord_cache_insert_stated_unchecked(
     state: &mut [u8],
-    key: &[u8; 16],
+    key: &[u8; ADDRESS],
     path: &[u8],
     time: u64,
     kind: u8,
@@ -101,7 +102,7 @@ pub extern "C" fn coord_cache_insert_stated_unchecked(
 #[no_mangle]
 pub extern "C" fn coord_cache_insert_verified_unchecked(
     state: &mut [u8],
-    key: &[u8; 16],
+    key: &[u8; ADDRESS],
     path: &[u8],
     time: u64,
     values: &mut [u64; 5],
@@ -118,7 +119,7 @@ pub extern "C" fn coord_cache_insert_verified_unchecked(
 #[no_mangle]
 pub extern "C" fn coord_cache_insert_verified_with_path_mtu_unchecked(
     state: &mut [u8],
-    key: &[u8; 16],
+    key: &[u8; ADDRESS],
     path: &[u8],
     time: u64,
     mtu: u16,
@@ -143,7 +144,7 @@ pub extern "C" fn coord_cache_insert_verified_with_path_mtu_unchecked(
 #[no_mangle]
 pub extern "C" fn coord_cache_get_unchecked(
     state: &[u8],
-    key: &[u8; 16],
+    key: &[u8; ADDRESS],
     time: u64,
     values: &mut [u64; 5],
     at: &mut u64,
@@ -160,7 +161,7 @@ pub extern "C" fn coord_cache_get_unchecked(
 #[no_mangle]
 pub extern "C" fn coord_cache_get_and_touch_unchecked(
     state: &mut [u8],
-    key: &[u8; 16],
+    key: &[u8; ADDRESS],
     time: u64,
     values: &mut [u64; 5],
     at: &mut u64,
@@ -178,7 +179,7 @@ pub extern "C" fn coord_cache_get_and_touch_unchecked(
 #[no_mangle]
 pub extern "C" fn coord_cache_remove_unchecked(
     state: &mut [u8],
-    key: &[u8; 16],
+    key: &[u8; ADDRESS],
     values: &mut [u64; 5],
     row: &mut [u8; ROW],
 ) -> u8
@@ -196,7 +197,7 @@ pub extern "C" fn coord_cache_remove_unchecked(
 #[no_mangle]
 pub extern "C" fn coord_cache_demote_unchecked(
     state: &mut [u8],
-    key: &[u8; 16],
+    key: &[u8; ADDRESS],
     values: &mut [u64; 5],
 ) -> u8
     requires { ⌜ sound (capacity (now state)) (view (now state)) ≡ true ⌝ }
@@ -210,7 +211,7 @@ pub extern "C" fn coord_cache_demote_unchecked(
 #[no_mangle]
 pub extern "C" fn coord_cache_clear_path_mtu_unchecked(
     state: &mut [u8],
-    key: &[u8; 16],
+    key: &[u8; ADDRESS],
     values: &mut [u64; 5],
 ) -> u8
     requires { ⌜ sound (capacity (now state)) (view (now state)) ≡ true ⌝ }
@@ -247,7 +248,7 @@ pub extern "C" fn coord_cache_clear_unchecked(state: &mut [u8], values: &mut [u6
 #[no_mangle]
 pub extern "C" fn coord_cache_invalidate_via_node_unchecked(
     state: &mut [u8],
-    addr: &[u8; 16],
+    addr: &[u8; ADDRESS],
     values: &mut [u64; 5],
 ) -> u8
     requires { ⌜ sound (capacity (now state)) (view (now state)) ≡ true ⌝ }
@@ -261,7 +262,7 @@ pub extern "C" fn coord_cache_invalidate_via_node_unchecked(
 #[no_mangle]
 pub extern "C" fn coord_cache_invalidate_other_roots_unchecked(
     state: &mut [u8],
-    addr: &[u8; 16],
+    addr: &[u8; ADDRESS],
     values: &mut [u64; 5],
 ) -> u8
     requires { ⌜ sound (capacity (now state)) (view (now state)) ≡ true ⌝ }

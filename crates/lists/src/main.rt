@@ -7,11 +7,11 @@ mod scan;
 use memory::bounds::MAX_ROWS;
 use raw::layout::HEAD;
 use raw::layout::ROW;
+use raw::layout::STAMP_SEQ;
 use scan::Scan;
 use types::reply::Reply;
 ghost use mathlib.Core.Path.{_≡_};
 ghost use lib.ListN.{length};
-ghost use Rattle.rules.specs.Commands.{coordrunRows};
 ghost use Rattle.rules.specs.Records.{maxRows};
 ghost use Rattle.rules.specs.Layout.{memorySize};
 
@@ -24,13 +24,13 @@ const SHORT: usize = HEAD + FEW * ROW;
 const LONG: usize = HEAD + MOST * ROW;
 
 fn short_memory() -> [u8; SHORT]
-    ensures { λ r. ⌜ (memorySize coordrunRows) ≡ length r ⌝ }
+    ensures { λ r. ⌜ memorySize 24 ≡ length r ⌝ }
 {
     [0; SHORT]
 }
 
 fn long_memory() -> [u8; LONG]
-    ensures { λ r. ⌜ (memorySize maxRows) ≡ length r ⌝ }
+    ensures { λ r. ⌜ memorySize maxRows ≡ length r ⌝ }
 {
     [0; LONG]
 }
@@ -51,9 +51,11 @@ fn each(memory: &mut [u8], v: [u64; 7], first: u64, last: u64) {
 }
 
 // The low byte of row 0's stamp, seq.
+const ROW_0_SEQ: usize = HEAD + STAMP_SEQ;
+
 fn stamp(memory: &mut [u8], seq: u64) {
-    if 1126 < memory.len() {
-        memory[1126] = (seq % 256) as u8;
+    if ROW_0_SEQ < memory.len() {
+        memory[ROW_0_SEQ] = (seq % 256) as u8;
     }
 }
 

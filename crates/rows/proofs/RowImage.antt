@@ -3,7 +3,7 @@ use mathlib.Core.Path.{_≡_, ap, _∙_}
 use mathlib.Core.List.{List, _++_, append-assoc}
 use Prim.Native.Nat.{ℕ, _+_, _≤_}
 use native.Mathlib.Omega.{arith}
-use lib.ListN.{length, length-append}
+use lib.ListN.{length-append}
 use lib.Seq.{sets}
 use Rattle.types.specs.Paths.{asWritten, pathPlaces}
 use Rattle.rules.specs.Records.{emptyEntry, withMtu, withSource, withTimes}

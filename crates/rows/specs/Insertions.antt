@@ -1,7 +1,7 @@
 -- A row by value, as a row of the state; a state with a row inserted or exchanged.
 use Prim.Native.Nat.{ℕ, suc, _+_}
 use mathlib.Core.Path.{_≡_}
-use mathlib.Core.List.{List, _∷_, _++_}
+use mathlib.Core.List.{_∷_, _++_}
 use lib.ListN.{length, take, drop}
 use Rattle.rules.specs.Records.{Row, State, wholeEntry, withHeld}
 use Rattle.rules.specs.Rows.{withoutRow, withRows}

@@ -187,7 +187,8 @@ unfolding linesOf
 cut-command = refl
 
 -- funding kind over 1
-kind-two : linesOf (element 1 ++ (0x12 ∷ (replicate 16 1 ++ replicate 8 0 ++ (2 ∷ []) ++ replicate 8 0))) ≡ line 0x01 (says 1 0 0 0 0) ∷ line 0x12 (refuses 6) ∷ []
+kind-two : map (λ b. linesOf (element 1 ++ (b ∷ (replicate 16 1 ++ replicate 8 0 ++ (2 ∷ []) ++ replicate 8 0)))) (0x12 ∷ 0x13 ∷ [])
+    ≡ map (λ b. line 0x01 (says 1 0 0 0 0) ∷ line b (refuses 6) ∷ []) (0x12 ∷ 0x13 ∷ [])
 unfolding element linesOf
 kind-two = refl
 

@@ -11,7 +11,6 @@ use lib.ListN.{length, take, drop, set, length-drop}
 use borrow.Author.Tests.{eqb-false, eqb-true, le-ltb, leb-false, leb-true, lt-ltb}
 use Rattle.types.specs.declared.coord.CoordEntry.{CoordEntry}
 use Rattle.types.specs.declared.coord.Path.{Path}
-use Rattle.types.specs.declared.coord.Appended.{Appended}
 use Rattle.types.specs.declared.sender.Sender.{Sender}
 use Rattle.types.specs.Paths.{appended, pathPlaces}
 use Rattle.types.specs.Senders.{emptied}

@@ -1,5 +1,6 @@
--- An entry and its bytes. All laws that list an entry's fields stand here; Records has one definition for each group of fields
--- that changes, and here is a law for each that what fits still fits, and one that its bytes, stored, are read as it.
+-- An entry and its bytes. What an entry's fields ask stands here, field by field; Records has one definition for each group of fields that
+-- changes, and here is a law for each that what fits still fits, and one that its bytes, stored, are read as it. (A field read by itself
+-- is memory's Fields.)
 use mathlib.Core.Path.{_≡_, refl, sym, ap, _∙_}
 use Prim.Native.Nat.{ℕ, zero, suc, _+_, _*_, _-_, _≤_, _<_}
 use native.Mathlib.Omega.{arith}
@@ -11,7 +12,7 @@ use Rattle.types.specs.Paths.{asWritten, elements, emptyPath, pathPlaces, zeroE
 use Rattle.rules.specs.Cases.{Every}
 use Rattle.rules.specs.Records.{Entry, emptyEntry, withMtu, withPath, withSource, withTimes}
 use Rattle.rules.specs.Layout.{addressSize, byteSize, coordEntrySize, createdAtOffset, entrySize, expiresAtOffset, lastUsedOffset, lengthOffset, mtuMarkOffset, mtuOffset, mtuSize, numberSize, pathSize, placesOffset, placesSize, sourceOffset, verifiedUntilOffset}
-use Rattle.rules.specs.Memory.{coordEntriesBytes, coordEntriesOf, cut, entryBytes, entryOf, leBytes, leNumber, mtuBytes, pathBytes, pathOf, sourceBytes, usedBytes}
+use Rattle.rules.specs.Memory.{coordEntriesBytes, coordEntriesOf, cut, entryBytes, entryOf, leBytes, mtuBytes, pathBytes, pathOf, sourceBytes, usedBytes}
 use Rattle.rules.specs.Lent.{Bytes, CoordEntryFits, PathFits, Small}
 use Rattle.rules.proofs.RowLists.{every-append, every-copy, every-take}
 use Rattle.rules.proofs.MemoryLaws.{bytes-append, bytes-drop, cut-front, cut-small, drop-take-add, elements-length, elements-of-fit, elements-of-length, elements-view, elems-memory, entries-bytes, field, last-kept, last-number, le-bytes, length-le, number, number-kept, number-then}

@@ -15,7 +15,7 @@ use Rattle.types.specs.Paths.{contains, pathWeight, rootOf, startsAt}
 use Rattle.types.specs.declared.placed.Funding.the-variants.{Uncharged, Upto}
 use Rattle.types.specs.declared.placed.Funding.{Funding}
 use Rattle.types.specs.Values.{covers}
-use Rattle.rules.specs.Cases.{Every, maybe}
+use Rattle.rules.specs.Cases.{maybe}
 use Rattle.rules.specs.Records.{Entry, State, byUse, emptyEntry, hintSource, noMtu, parked, probation, someMtu, verifiedSource}
 use Rattle.rules.specs.Rows.{atPlace, find, inMain, rowAt, withOnlyRows, withRows, zeroRows}
 use Rattle.rules.specs.Entries.{addTimes, dropMtu, expired, markHint, markVerified, newEntry, refresh, setMtu, update, verifiedTtl}

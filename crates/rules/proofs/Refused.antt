@@ -109,6 +109,15 @@ table-none : (R : ℕ) (s : State) (x : Request) → Iff (refusal R s x ≡ none
 unfolding refusal
 table-none R s x = none-given (reasons R s x)
 
+-- THE NUMBERS OF 01, IN ITS ORDER: 1, 2, 3, 4 for a call, and 5 for fresh
+pub call-numbers : (R : ℕ) (s : State) (q : Call) → numbers (reasons R s (Asked q)) ≡ 1 ∷ 2 ∷ 3 ∷ 4 ∷ []
+unfolding reasons reason
+call-numbers R s q = refl
+
+pub fresh-numbers : (R m ttl : ℕ) (s : State) → numbers (reasons R s (Fresh m ttl)) ≡ 5 ∷ []
+unfolding reasons reason
+fresh-numbers R m ttl s = refl
+
 table-without-six : (R : ℕ) (s : State) (x : Request) → isOneOf 6 (numbers (reasons R s x)) ≡ false
 unfolding reasons reason
 table-without-six R s (Fresh m ttl) = refl

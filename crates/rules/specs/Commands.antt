@@ -43,11 +43,11 @@ reply (ExpiryGiven o) = maybe o (says 0 0 0 0 0) (λ t. says 1 t 0 0 0)
 -- a key alone, or an address, has addressSize bytes, and a time alone numberSize
 
 -- 00: max, ttl
-abbrev pub maxSize : ℕ
-maxSize = 2
+abbrev pub freshMaxSize : ℕ
+freshMaxSize = 2
 
 abbrev pub freshTtlAt : ℕ
-freshTtlAt = maxSize
+freshTtlAt = freshMaxSize
 
 abbrev pub freshSize : ℕ
 freshSize = freshTtlAt + numberSize
@@ -136,10 +136,11 @@ readAs (Requests f) o = some (Plain (f o))
 abbrev pub reads : Code → List ℕ → Option Command
 reads c o = readAs (c .says) o
 
--- the table of codes
+-- the table of codes; in bytes, 01's widths: 10 of 00; 32 of 01; 24 of 10, 14, 20, 21; 32 of 11; 33 of 12, 13; 26 of 15; 16 of 22 to 24, 32,
+-- 33; 8 of 30, 40; none of 31, 41
 unfoldable pub codes : List Code
 codes =
-    code 0x00 freshSize (Requests (λ o. Fresh (leNumber (cut 0 maxSize o)) (leNumber (cut freshTtlAt numberSize o))))
+    code 0x00 freshSize (Requests (λ o. Fresh (leNumber (cut 0 freshMaxSize o)) (leNumber (cut freshTtlAt numberSize o))))
     ∷ code 0x01 coordEntrySize (Elements coordEntryOf)
     ∷ code 0x10 keyTimeSize (Writes (λ o s. Insert (keyIn o) (s .pending) (timeIn o)))
     ∷ code 0x11 withTtlSize (Writes (λ o s. InsertWithTtl (keyIn o) (s .pending) (timeIn o) (leNumber (cut ttlAt numberSize o))))

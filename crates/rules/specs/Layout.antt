@@ -1,4 +1,5 @@
--- The layout of the lent memory: a head, then rows. Every size and offset stands here once, as a sum of widths and places.
+-- The layout of the lent memory: a head, then rows. Every size and offset stands here once, as a sum of widths and places (the bytes
+-- of an address and the places of a path are those of types).
 use Prim.Native.Nat.{ℕ, _+_, _*_, _^_}
 use Rattle.types.specs.Addresses.{addressBytes}
 use Rattle.types.specs.Paths.{pathPlaces}

@@ -42,7 +42,7 @@ pub record State : Type 0 where
   pub rows : List Row
   pub rest : List ℕ
 
--- ---- a state with some fields changed; every change of a state is made of these two
+-- ---- a state with some fields changed; every change of a state is made of these two, but for fresh, which sets the limits
 
 unfoldable pub withSeq : ℕ → State → State
 withSeq v s = record { maxEntries = s .maxEntries; defaultTtl = s .defaultTtl; seq = v; storedWeight = s .storedWeight; rowCount = s .rowCount; rows = s .rows; rest = s .rest }
@@ -81,9 +81,9 @@ noMtu = 0
 abbrev pub someMtu : ℕ
 someMtu = 1
 
--- ---- entries, made and with some fields changed: but for Memory.entryOf, no other definition lists all fields of an entry
+-- ---- entries, made and with some fields changed; what makes or changes an entry is made of these, but for Memory.entryOf
 
--- created at this time, and nothing more yet
+-- created at this time; path, times and source are still to be set
 abbrev pub emptyEntry : ℕ → Entry
 emptyEntry now = record { path = emptyPath; createdAt = now; lastUsed = 0; expiresAt = 0; mtuMark = noMtu; mtu = 0; source = 0; verifiedUntil = 0 }
 
@@ -103,7 +103,7 @@ withMtu mark m e = record { path = e .path; createdAt = e .createdAt; lastUsed =
 abbrev pub withSource : ℕ → ℕ → Entry → Entry
 withSource source until e = record { path = e .path; createdAt = e .createdAt; lastUsed = e .lastUsed; expiresAt = e .expiresAt; mtuMark = e .mtuMark; mtu = e .mtu; source = source; verifiedUntil = until }
 
--- every field by value
+-- every field by value, the path as a row holds it
 abbrev pub wholeEntry : Path → ℕ → ℕ → ℕ → ℕ → ℕ → ℕ → ℕ → Entry
 wholeEntry p created used expires mark m source until = withSource source until (withMtu mark m (withTimes used expires (withPath p (emptyEntry created))))
 

@@ -1,6 +1,6 @@
 -- The third demand for every byte string: from a done fresh to the end of the stream.
-use mathlib.Core.Path.{_≡_, refl, sym, _∙_, ap, ap₂, subst}
-use Prim.Native.Nat.{ℕ, zero, suc, _+_, _*_, _-_, _≤_}
+use mathlib.Core.Path.{_≡_, refl, _∙_, ap, ap₂, subst}
+use Prim.Native.Nat.{ℕ, zero, suc, _+_, _*_, _-_}
 use native.Mathlib.Omega.{arith}
 use mathlib.Core.List.{List, [], _∷_, _++_}
 use mathlib.Core.Option.{Option, none, some}
@@ -20,7 +20,6 @@ use Rattle.rules.specs.Refusals.{Asked, Fresh, Request, badSize, fresh, gives, 
 use Rattle.rules.specs.Lists.{Event}
 use Rattle.rules.specs.Lent.{Bytes, Small, Typed, TypedRequest, call, calls, lent, requests}
 use Rattle.rules.specs.Commands.{Command, Decoded, Element, Line, Plain, WithPath, codes, coordrun, decode, line, runCommands, coordrunRows, takesPath, Session as StateSession}
-use Rattle.rules.proofs.Addresses.{contradiction}
 use Rattle.rules.proofs.MemoryLaws.{bytes-take}
 use Rattle.rules.proofs.CommandRuns.{codeSort, codes-sorted, decoded-sort, sort}
 use Rattle.rules.proofs.LentMemory.{calls-run, freshened, lent-request, refused-leaves, tailOf, third-demand-of-bytes}

@@ -13,14 +13,17 @@ use types::reply::Tally;
 use types::sender::Sender;
 ghost use mathlib.Core.Path.{_≡_};
 ghost use lib.ListN.{length};
+ghost use Rattle.rules.specs.Layout.{memorySize};
 
 // The most that a stream has.
 const ROWS: u64 = 66;
 
-fn memory_of_66_rows() -> [u8; 72310]
-    ensures { λ r. ⌜ 72310 ≡ length r ⌝ }
+const SIZE: usize = HEAD + ROWS as usize * ROW;
+
+fn whole_memory() -> [u8; SIZE]
+    ensures { λ r. ⌜ memorySize 66 ≡ length r ⌝ }
 {
-    [0; 72310]
+    [0; SIZE]
 }
 
 // The bytes of memory that a stream has; none where it wants too many rows.
@@ -135,7 +138,7 @@ fn whole(s: Session) -> Session {
 }
 
 fn main() {
-    let mut memory = memory_of_66_rows();
+    let mut memory = whole_memory();
     let mut space = io::large_buffer();
     let mut output = io::large_buffer();
     let n = io::read_full(STDIN_FILENO, &mut space);
