@@ -15,7 +15,7 @@ import re
 import sys
 
 TOKEN = re.compile(r"--[^\n]*|//[^\n]*|\"(?:[^\"\\]|\\.)*\"|«[^»]*»|[^\s(){}.;,@\"«»\[\]\\]+|[\s\S]")
-DECLARED = re.compile(r"(?:(?:abbrev|unfoldable|opaque|private) )*(?:pub )?(?:(?:abbrev|unfoldable|opaque) )*([^\s:(){}.]+) : (.*)")
+DECLARED = re.compile(r"(?:(?:abbrev|unfoldable|opaque|private) )*(?:pub )?(?:(?:abbrev|unfoldable|opaque) )*([^\s:(){}.]+)(?: \{[^{}]*\})? :(?: (.*)|$)")
 # Where the plain form is another name's: a lemma that would have a definition's name gets `_lem`.
 OTHERWISE = {
     "core-weight": "core_weight_lem",
@@ -48,6 +48,12 @@ OTHERWISE = {
     "verified-source": "verified_source_lem",
     "within-funding": "within_funding_lem",
     "rows_before": "rows_before_lem",
+    "demoted-at": "demoted_at_lem",
+    "place-told": "place_told_lem",
+    "row-taken": "row_taken_lem",
+    "set-aside": "set_aside_lem",
+    "touched-at": "touched_at_lem",
+    "with-path": "made_with_path",
     "apart-from": "apart_from_lem",
     "is-number": "is_number_lem",
     "is-head-number": "is_head_number_lem",
@@ -108,6 +114,11 @@ def declared(text):
         if m:
             whole = signature(lines, at)
             names[m[1]] = bool(re.search(r"(→ |: )Type( \d+)?$", whole))
+    # in a module or a `where`: lemmas, and constructors with a dash
+    for line in lines:
+        m = re.match(r" +(?:pub )?([a-z][^\s:(){}.]*)(?: \{[^{}]*\})? :(?: |$)", line)
+        if m and m[1] not in fields and m[1] not in names:
+            names[m[1]] = False
     return names, fields
 
 

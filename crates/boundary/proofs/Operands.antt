@@ -77,13 +77,13 @@ module _ {k : NodeAddr} {n : ℕ} {r : Search} {l : List ℕ} (s : Searched k n 
   pub row_inside : r ≡ At i → (i < n) × (head_size + n * row_size ≤ length l)
   row_inside e = found_inside l n k i r s.sound s.counted s.result e
 
-  pub row-taken : (buffer : List ℕ) → r ≡ At i → cut (head_size + i * row_size) row_size l ≡ row_taken k l buffer
+  pub row_taken_lem : (buffer : List ℕ) → r ≡ At i → cut (head_size + i * row_size) row_size l ≡ row_taken k l buffer
   unfolding row_taken row_held
-  row-taken buffer e = rw (s.sound, same_rows (some i) (found k (view_rows n l).rows i r s.result e))
+  row_taken_lem buffer e = rw (s.sound, same_rows (some i) (found k (view_rows n l).rows i r s.result e))
 
-  pub row-left : (buffer : List ℕ) → r ≡ Absent i → buffer ≡ row_taken k l buffer
+  pub row_left : (buffer : List ℕ) → r ≡ Absent i → buffer ≡ row_taken k l buffer
   unfolding row_taken row_held
-  row-left buffer e = rw (s.sound, same_rows none (missing k (view_rows n l).rows i r s.result e))
+  row_left buffer e = rw (s.sound, same_rows none (missing k (view_rows n l).rows i r s.result e))
 
 -- on a memory that is not sound nothing is taken out
 pub none_taken : (l : List ℕ) (k : NodeAddr) (buffer : List ℕ) → sound (capacity l) (view l) ≡ false → buffer ≡ row_taken k l buffer

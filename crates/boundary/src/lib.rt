@@ -1,4 +1,6 @@
 // Operands as they come from another language, and replies as they go there.
+#![tactic(auto)]
+
 ghost use Rattle.std.specs.Prelude.{◌≡◌, min, true, ◌≤◌};
 ghost use Rattle.std.proofs.Math.Option.{some};
 ghost use Rattle.rules.specs.Sound.{sound};

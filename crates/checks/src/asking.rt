@@ -13,7 +13,7 @@ pub const FRESH_3: u64 = 22;
 
 const TIME: u64 = 10;
 
-#[derive(Drop)]
+#[derive(Clone, Copy)]
 pub struct Said {
     pub refusal: u64,
     pub value: u64,

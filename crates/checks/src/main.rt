@@ -1,5 +1,7 @@
 // The calls that need no room, on a fresh, a full and a foreign state; on unsound states, each condition in turn; on memory
 // of every length up to 3 rows, and of 1,025 rows. A fresh that is done, on all of these states. What it prints is held to `stdout`.
+#![tactic(auto)]
+
 mod asking;
 mod lines;
 mod states;

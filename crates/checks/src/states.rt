@@ -99,7 +99,7 @@ fn put_filed(memory: &mut [u8], i: usize, place: u8, first: u32, seq: u8, weight
 }
 
 // When a row was made, used and expires; who it is from.
-#[derive(Drop)]
+#[derive(Clone, Copy)]
 pub struct Times {
     created: u32,
     used: u32,
@@ -109,7 +109,7 @@ pub struct Times {
 }
 
 // Where a row is filed.
-#[derive(Drop)]
+#[derive(Clone, Copy)]
 pub struct Filed {
     place: u8,
     first: u32,

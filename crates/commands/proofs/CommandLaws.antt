@@ -34,7 +34,7 @@ use Rattle.memory.proofs.OwnedValues.{owned_path}
 use Rattle.commands.specs.OnMemory.{Session, Obeyed, session, answered, pended, obey, refused_six, obey_byte}
 use Rattle.commands.specs.declared.command.AfterCommand.{AfterCommand}
 use Rattle.commands.specs.After.{Answers, AnswersBare, refused_by}
-use Rattle.commands.proofs.Operands.{decoded, cut_none, bad-none, unknown_none, first_at, number_at}
+use Rattle.commands.proofs.Operands.{decoded, cut_none, bad_none, unknown_none, first_at, number_at}
 use Rattle.commands.proofs.UnknownCodes.{NoneOf, unknown_code, no_path}
 use Rattle.commands.proofs.TypedCommands.{Fitting, SenderFits, command_fits}
 
@@ -83,28 +83,28 @@ as_unknown l k b bs e w n h = let u = unknown_code codes b n in six l k b bs e (
 
 module _ {b : ℕ} {l : List ℕ} {f : Bool} {k : Sender} {i : List ℕ} {at : ℕ} (g : Given b l f k i at) {c : Code} (n : code_of b codes ≡ some c) {q : Sender} {r : AfterCommand} where
   -- CUT
-  pub cut-six : length i - at < c.width → q ≡ after_six b k → r ≡ refused_by 6 f q → Answers (obey_byte (session l k) b (drop at i)) r l
-  cut-six h = six l k b (drop at i) g.sounds (cut_none codes b (drop at i) c n (rw (length-drop at i) h))
+  pub cut_six : length i - at < c.width → q ≡ after_six b k → r ≡ refused_by 6 f q → Answers (obey_byte (session l k) b (drop at i)) r l
+  cut_six h = six l k b (drop at i) g.sounds (cut_none codes b (drop at i) c n (rw (length-drop at i) h))
 
   -- of a funding kind over 1
   pub bad_kind : c.width ≤ length i - at → reads c (cut at c.width i) ≡ none
       → q ≡ after_six b k → r ≡ refused_by 6 f q → Answers (obey_byte (session l k) b (drop at i)) r l
-  bad_kind h e = six l k b (drop at i) g.sounds (bad-none codes b (drop at i) c n (rw (length-drop at i) h) e)
+  bad_kind h e = six l k b (drop at i) g.sounds (bad_none codes b (drop at i) c n (rw (length-drop at i) h) e)
 
 -- ---- a command that makes a call
 
 -- the call q that a command makes with what the sender has, k before it and k' after it
 pub data Makes (k : Sender) : Command → Call → Sender → Type 0 where
-  with-path : {h : Sender → Call} → Makes k (WithPath h) (h k) (emptied k)
+  made_with_path : {h : Sender → Call} → Makes k (WithPath h) (h k) (emptied k)
   plain : {q : Call} → Makes k (Plain (Asked q)) q k
 
 makes_obeyed : {k : Sender} {x : Command} {q : Call} {k' : Sender} (l : List ℕ) → Makes k x q k' → obey (session l k) x ≡ answered (call l q) k'
 unfolding obey
-makes_obeyed l with-path = refl
+makes_obeyed l made_with_path = refl
 makes_obeyed l plain = refl
 
 makes_typed : {k : Sender} {x : Command} {q : Call} {k' : Sender} → Makes k x q k' → Fitting k x → Typed q
-makes_typed with-path t = t
+makes_typed made_with_path t = t
 makes_typed plain t = t
 
 -- the operands are there, and the call is q

@@ -31,11 +31,11 @@ first_at at w n l h e =
 
 -- a key, and a time behind it; and what else is read behind both
 module _ {k : NodeAddr} {t : ℕ} (at w : ℕ) (l : List ℕ) (h : key_time_size ≤ w) (ek : k ≡ record { 0 = cut at address_size l }) (et : t ≡ le_number (cut (at + time_at) number_size l)) where
-  pub key-time : (f : NodeAddr → ℕ → Call) → f k t ≡ f (key_in (cut at w l)) (time_in (cut at w l))
-  key-time f = cc (key_at at w l (omega arith) ek, number_at at w time_at number_size l (omega arith) et)
+  pub key_time : (f : NodeAddr → ℕ → Call) → f k t ≡ f (key_in (cut at w l)) (time_in (cut at w l))
+  key_time f = cc (key_at at w l (omega arith) ek, number_at at w time_at number_size l (omega arith) et)
 
-  pub key-time-and : {A : Type 0} {x x' : A} (f : NodeAddr → ℕ → A → Call) → x ≡ x' → f k t x ≡ f (key_in (cut at w l)) (time_in (cut at w l)) x'
-  key-time-and f e = cc (key_at at w l (omega arith) ek, number_at at w time_at number_size l (omega arith) et, e)
+  pub key_time_and : {A : Type 0} {x x' : A} (f : NodeAddr → ℕ → A → Call) → x ≡ x' → f k t x ≡ f (key_in (cut at w l)) (time_in (cut at w l)) x'
+  key_time_and f e = cc (key_at at w l (omega arith) ek, number_at at w time_at number_size l (omega arith) et, e)
 
 -- ---- what a table of codes reads
 
@@ -49,10 +49,10 @@ unfolding decode_in
 unknown_none cs b bs e = rw e
 
 module _ (cs : List Code) (b : ℕ) (bs : List ℕ) (c : Code) (k : code_of b cs ≡ some c) where
-  pub cut-none : length bs < c.width → decode_in cs b bs ≡ none
+  pub cut_none : length bs < c.width → decode_in cs b bs ≡ none
   unfolding decode_in
-  cut-none h = rw (k, lt-leb c.width (length bs) h)
+  cut_none h = rw (k, lt-leb c.width (length bs) h)
 
-  pub bad-none : c.width ≤ length bs → reads c (take c.width bs) ≡ none → decode_in cs b bs ≡ none
+  pub bad_none : c.width ≤ length bs → reads c (take c.width bs) ≡ none → decode_in cs b bs ≡ none
   unfolding decode_in
-  bad-none h e = rw (k, le-leb c.width (length bs) h, e)
+  bad_none h e = rw (k, le-leb c.width (length bs) h, e)

@@ -33,20 +33,20 @@ use Rattle.rules.proofs.CommandRuns.{Reads, code_found}
 
 module _ (o : List ℕ) {w : ℕ} (b : Bytes o) (h : length o ≡ w) where
   -- 00's max
-  max-fits : leb fresh_max_size w ≡ true → Small 8 (le_number (cut 0 fresh_max_size o))
-  max-fits t = let n = leb-true fresh_max_size w t in let k = cut_small 0 fresh_max_size o (omega arith) b in small8 (le_number (cut 0 fresh_max_size o)) (omega arith)
+  max_fits : leb fresh_max_size w ≡ true → Small 8 (le_number (cut 0 fresh_max_size o))
+  max_fits t = let n = leb-true fresh_max_size w t in let k = cut_small 0 fresh_max_size o (omega arith) b in small8 (le_number (cut 0 fresh_max_size o)) (omega arith)
 
   number_fits : (k : ℕ) → leb (k + number_size) w ≡ true → Small 8 (le_number (cut k number_size o))
   number_fits k t = let n = leb-true (k + number_size) w t in cut_small k number_size o (omega arith) b
 
-  mtu-fits : (k : ℕ) → leb (k + mtu_size) w ≡ true → Small 2 (le_number (cut k mtu_size o))
-  mtu-fits k t = let n = leb-true (k + mtu_size) w t in cut_small k mtu_size o (omega arith) b
+  mtu_fits : (k : ℕ) → leb (k + mtu_size) w ≡ true → Small 2 (le_number (cut k mtu_size o))
+  mtu_fits k t = let n = leb-true (k + mtu_size) w t in cut_small k mtu_size o (omega arith) b
 
   key_fits : leb address_size w ≡ true → AddrFits (key_in o)
   key_fits t = let n = leb-true address_size w t in address_fits 0 o (omega arith) b
 
-  write-fits : {p : Path} → leb key_time_size w ≡ true → PathFits p → WriteFits (key_in o) p (time_in o)
-  write-fits t f = let n = leb-true key_time_size w t in record { key = address_fits 0 o (omega arith) b; path = f; time = cut_small time_at number_size o (omega arith) b }
+  write_fits : {p : Path} → leb key_time_size w ≡ true → PathFits p → WriteFits (key_in o) p (time_in o)
+  write_fits t f = let n = leb-true key_time_size w t in record { key = address_fits 0 o (omega arith) b; path = f; time = cut_small time_at number_size o (omega arith) b }
 
 -- ---- what the sender has
 
@@ -121,7 +121,7 @@ nothing : Unit {0}
 nothing = tt
 
 -- one law for each kind of argument serves all codes
-ruleset typed = (none_left, one_more, both, nothing, max-fits, number_fits, mtu-fits, key_fits, write-fits, element_of_fits)
+ruleset typed = (none_left, one_more, both, nothing, max_fits, number_fits, mtu_fits, key_fits, write_fits, element_of_fits)
 
 -- the search is made part by part of the table
 parted : (P : Code → Type 0) (n : ℕ) (cs : List Code) → Every P (take n cs) → Every P (drop n cs) → Every P cs

@@ -15,7 +15,7 @@ use types::reply::{Reply, refused, says};
 use types::sender::Sender;
 
 // What a command says, and what it leaves beside the state: what the sender has, and whether the state is sound.
-#[derive(Drop)]
+#[derive(Clone, Copy)]
 pub struct AfterCommand {
     pub reply: Reply,
     pub sender: Sender,
@@ -88,7 +88,7 @@ fn element(state: &[u8], is_sound: bool, sender: Sender, input: &[u8], at: usize
 }
 
 // The width of a command's operands, in bytes.
-#[derive(Drop)]
+#[derive(Clone, Copy)]
 pub enum Width {
     Bytes(usize),
     Unknown,

@@ -28,7 +28,7 @@ use Rattle.lookups.proofs.PartReply.{got_reply}
 use Rattle.replies.specs.Part.{part_reply}
 use Rattle.boundary.specs.Exported.{Told, PartAt, row_taken}
 use Rattle.coordcache.specs.Places.{place_told}
-use Rattle.coordcache.proofs.ToldReplies.{told-call}
+use Rattle.coordcache.proofs.ToldReplies.{told_call}
 
 -- a lookup that is done says so
 part_done : (bytes : ℕ) → (part_reply bytes).refusal ≡ 0
@@ -41,39 +41,39 @@ part_length k time m at bytes s = sym (length_cut at bytes m s.inside) ∙ ap le
 -- ---- the part in the memory m after a lookup, by the address k' that the bytes of the key are
 
 module _ (m : List ℕ) (k' : NodeAddr) (time at : ℕ) {k : NodeAddr} {bytes : ℕ} (s : StandsAt k time m at bytes) (f : k ≡ k') where
-  pub part-there : PartAt at m (got_part k' time m)
-  part-there =
+  pub part_there : PartAt at m (got_part k' time m)
+  part_there =
       let whole : PartAt at m (got_part k time m) = ap (λ (j : ℕ). cut at j m) (sym (part_length k time m at bytes s)) ∙ s.part in
       subst (λ (x : NodeAddr). PartAt at m (got_part x time m)) f whole
 
-  pub place-told : (before : ℕ) {n : ℕ} {r : Reply} → r ≡ part_reply bytes → n ≡ r.refusal → at ≡ place_told n before k' time m
+  pub place_told_lem : (before : ℕ) {n : ℕ} {r : Reply} → r ≡ part_reply bytes → n ≡ r.refusal → at ≡ place_told n before k' time m
   unfolding place_told
-  place-told before {n} e a =
+  place_told_lem before {n} e a =
       let done : n ≡ 0 = a ∙ ap (λ (x : Reply). x.refusal) e ∙ part_done bytes in
       s.own ∙ ap (λ (x : NodeAddr). place_found x time m) f ∙ rw (eq-eqb n 0 done)
 
 -- ---- what is told, by the same address
 
 module _ (l : List ℕ) (k' : NodeAddr) {k : NodeAddr} {r : Reply} {n : ℕ} {vs : List ℕ} (f : k ≡ k') (a : n ≡ r.refusal) (b : vs ≡ r.values) where
-  pub got-told : (time : ℕ) {at bytes : ℕ} → StandsAt k time l at bytes → r ≡ part_reply bytes → l ≡ (call l (Get k time)).memory
+  pub got_told : (time : ℕ) {at bytes : ℕ} → StandsAt k time l at bytes → r ≡ part_reply bytes → l ≡ (call l (Get k time)).memory
       → sound (capacity l) (view l) ≡ true → Told (call l (Get k' time)) n vs l
-  got-told time {at} {bytes} s e d o =
-      told-call a b l (e ∙ ap part_reply (part_length k time l at bytes s) ∙ got_reply l k time o) refl d (ap (λ (x : NodeAddr). Get x time) f)
+  got_told time {at} {bytes} s e d o =
+      told_call a b l (e ∙ ap part_reply (part_length k time l at bytes s) ∙ got_reply l k time o) refl d (ap (λ (x : NodeAddr). Get x time) f)
 
   -- get_and_touch replies what get does on the memory m after it
-  pub touched-told : (m : List ℕ) (time : ℕ) {at bytes : ℕ} → StandsAt k time m at bytes → r ≡ part_reply bytes
+  pub touched_told : (m : List ℕ) (time : ℕ) {at bytes : ℕ} → StandsAt k time m at bytes → r ≡ part_reply bytes
       → m ≡ (call l (GetAndTouch k time)).memory → sound (capacity l) (view l) ≡ true → Bytes l → AddrFits k → Small number_size time
       → Told (call l (GetAndTouch k' time)) n vs m
-  touched-told m time {at} {bytes} s e d o g y z =
+  touched_told m time {at} {bytes} s e d o g y z =
       let later : sound (capacity m) (view m) ≡ true = rw d (lent_sound l (Asked (GetAndTouch k time)) g (y, z) o) in
       let got = e ∙ ap part_reply (part_length k time m at bytes s) ∙ got_reply m k time later in
       let touched = ap (λ (x : List ℕ). reply (call x (Get k time)).answer) d ∙ ap reply (got_after_touch l k time g (y, z)) in
-      told-call a b l (got ∙ touched) refl d (ap (λ (x : NodeAddr). GetAndTouch x time) f)
+      told_call a b l (got ∙ touched) refl d (ap (λ (x : NodeAddr). GetAndTouch x time) f)
 
   -- remove, whose reply does not depend on the entry that left
-  pub removed-told : (x : Removal) (y : CacheEntry) {m : List ℕ} → ((z : CacheEntry) → r ≡ reply (removal_said x z))
+  pub removed_told : (x : Removal) (y : CacheEntry) {m : List ℕ} → ((z : CacheEntry) → r ≡ reply (removal_said x z))
       → removal_said x y ≡ (call l (Remove k)).answer → m ≡ (call l (Remove k)).memory → Told (call l (Remove k')) n vs m
-  removed-told x y e d g = told-call a b l (e y) d g (ap Remove f)
+  removed_told x y e d g = told_call a b l (e y) d g (ap Remove f)
 
 pub row_told : (l : List ℕ) (k' : NodeAddr) (row : List ℕ) {k : NodeAddr} {row' : List ℕ}
     → row' ≡ row_taken k l row → k ≡ k' → row' ≡ row_taken k' l row

@@ -29,28 +29,28 @@ found_sound {b} e g = sym e ∙ not-false b g
 
 -- it was not: number 1 is told, and nothing else is done
 module _ (l : List ℕ) {b : Bool} (e : b ≡ sound (capacity l) (view l)) (g : not b ≡ true) where
-  found-unsound : sound (capacity l) (view l) ≡ false
-  found-unsound = sym e ∙ not-true b g
+  found_unsound : sound (capacity l) (view l) ≡ false
+  found_unsound = sym e ∙ not-true b g
 
   pub one_told : (q : Call) {r : Reply} {n : ℕ} {vs : List ℕ} → r ≡ refuses 1 → n ≡ r.refusal → vs ≡ r.values → Told (call l q) n vs l
   unfolding reply
-  one_told q w a b = let u = unsound_one l q found-unsound in told a b (call l q) (w ∙ sym (ap reply u.answer)) (sym u.memory)
+  one_told q w a b = let u = unsound_one l q found_unsound in told a b (call l q) (w ∙ sym (ap reply u.answer)) (sym u.memory)
 
   -- with a funding whose kind names one
-  pub one-told-funded : (kind amount : ℕ) (f : Funding → Call) {r : Reply} {n : ℕ} {vs : List ℕ}
+  pub one_told_funded : (kind amount : ℕ) (f : Funding → Call) {r : Reply} {n : ℕ} {vs : List ℕ}
       → kind ≤ 1 → r ≡ refuses 1 → n ≡ r.refusal → vs ≡ r.values → Told (funded l kind amount f) n vs l
   unfolding funded funding_from
-  one-told-funded zero amount f z w a b = one_told (f _) w a b
-  one-told-funded (suc zero) amount f z w a b = one_told (f _) w a b
-  one-told-funded (suc (suc k)) amount f z w a b = let y : ⊥ = omega arith in absurd y
+  one_told_funded zero amount f z w a b = one_told (f _) w a b
+  one_told_funded (suc zero) amount f z w a b = one_told (f _) w a b
+  one_told_funded (suc (suc k)) amount f z w a b = let y : ⊥ = omega arith in absurd y
 
   -- a lookup finds no part
   pub no_part : (k : NodeAddr) (time at : ℕ) → PartAt at l (got_part k time l)
-  no_part k time at = subst (λ (x : List ℕ). PartAt at l x) (one_got l k time found-unsound) refl
+  no_part k time at = subst (λ (x : List ℕ). PartAt at l x) (one_got l k time found_unsound) refl
 
   -- remove takes no row
   pub no_row : (k : NodeAddr) (row : List ℕ) → row ≡ row_taken k l row
-  no_row k row = none_taken l k row found-unsound
+  no_row k row = none_taken l k row found_unsound
 
 -- with number 1 a lookup leaves what stood in `at`
 pub place_kept : (l : List ℕ) (k : NodeAddr) (time at : ℕ) {n : ℕ} {r : Reply} → r ≡ refuses 1 → n ≡ r.refusal → at ≡ place_told n at k time l

@@ -26,21 +26,21 @@ module _ {r : Reply} {n : ℕ} {vs : List ℕ} (a : n ≡ r.refusal) (b : vs ≡
       record { says = w ∙ e; leaves = d }
 
   -- the call q was made, and q is the call q' that the operands name
-  pub told-call : (l : List ℕ) {q q' : Call} {x : Answer} {m : List ℕ} → r ≡ reply x → x ≡ (call l q).answer → m ≡ (call l q).memory → q ≡ q'
+  pub told_call : (l : List ℕ) {q q' : Call} {x : Answer} {m : List ℕ} → r ≡ reply x → x ≡ (call l q).answer → m ≡ (call l q).memory → q ≡ q'
       → Told (call l q') n vs m
-  told-call l {q} {m = m} e d k f = subst (λ (y : Call). Told (call l y) n vs m) f (told (call l q) (e ∙ ap reply d) k)
+  told_call l {q} {m = m} e d k f = subst (λ (y : Call). Told (call l y) n vs m) f (told (call l q) (e ∙ ap reply d) k)
 
   -- a call that returns its number j alone
-  pub told-number : (l : List ℕ) {q q' : Call} {j : ℕ} {m : List ℕ} → r ≡ refuses j → j ≡ refusal_of (call l q).answer → m ≡ (call l q).memory → q ≡ q'
+  pub told_number : (l : List ℕ) {q q' : Call} {j : ℕ} {m : List ℕ} → r ≡ refuses j → j ≡ refusal_of (call l q).answer → m ≡ (call l q).memory → q ≡ q'
       → (perform_request (capacity l) (view l) (Asked q)).answer ≡ Done → Told (call l q') n vs m
-  told-number l {q} e d k f z = told-call l (e ∙ ap refuses d ∙ sym (number_reply l (Asked q) z)) refl k f
+  told_number l {q} e d k f z = told_call l (e ∙ ap refuses d ∙ sym (number_reply l (Asked q) z)) refl k f
 
 -- the call was made with the funding that the kind names
 pub told_funded : (l : List ℕ) (kind amount : ℕ) (f : Funding → Call) {q : Call} {y : Funding} {x : Answer} {r : Reply} {n : ℕ} {vs m : List ℕ}
     → funding_from kind amount ≡ some y → r ≡ reply x → n ≡ r.refusal → vs ≡ r.values → x ≡ (call l q).answer → m ≡ (call l q).memory → q ≡ f y
     → Told (funded l kind amount f) n vs m
 unfolding funded
-told_funded l kind amount f w e a b d k g = rw w (told-call a b l e d k g)
+told_funded l kind amount f w e a b d k g = rw w (told_call a b l e d k g)
 
 -- ---- calls whose done answer has no values
 

@@ -1,6 +1,8 @@
 // Commands from standard input, one line each to standard output: 24 rows, starting fresh at max 8, ttl 300000. Input of any
 // length runs in the same memory. At its end, after a refusal by 6, or where it cannot read or write, the tally goes to standard
 // error.
+#![tactic(auto)]
+
 ghost use Rattle.std.specs.Prelude.{◌≡◌, length};
 ghost use Rattle.rules.specs.Commands.{coordrun_rows};
 ghost use Rattle.rules.specs.Layout.{memory_size};
@@ -23,7 +25,7 @@ fn memory_of_24_rows() -> [u8; MEMORY]
 }
 
 // What one turn leaves for the next.
-#[derive(Drop)]
+#[derive(Clone, Copy)]
 struct Session {
     // Bytes at the start of the input that are still to run.
     filled: usize,

@@ -11,7 +11,7 @@ use Rattle.types.specs.declared.node_addr.NodeAddr.{NodeAddr}
 use Rattle.types.specs.declared.coord.CoordEntry.{CoordEntry}
 use Rattle.types.specs.Addresses.{same_addr, same_bytes}
 use Rattle.types.specs.Paths.{same_entry}
-use Rattle.types.proofs.PathLaws.{same_stop, same-go, same_end}
+use Rattle.types.proofs.PathLaws.{same_stop, same_go, same_end}
 use Rattle.rules.specs.Memory.{cut, le_number, coord_entry_of}
 use Rattle.rules.proofs.Addresses.{same_eq, same_true, same_false, same_ne}
 use Rattle.rules.proofs.MemoryLaws.{length_cut}
@@ -22,15 +22,15 @@ use Rattle.raw.proofs.CopyLaws.{cut_byte}
 -- ---- sixteen bytes against an address: a turn of the loop, and its end
 
 module _ (x l : List ℕ) (at i : ℕ) (hx : length x ≡ address_size) (hl : at + address_size ≤ length l) where
-  pub addr-turn : i < address_size → same_bytes (drop i x) (drop i (cut at address_size l)) ≡ (eqb (get_or x i 0) (get_or l (at + i) 0) && same_bytes (drop (i + 1) x) (drop (i + 1) (cut at address_size l)))
-  addr-turn h = go (eqb (get_or x i 0) (get_or l (at + i) 0)) refl
+  pub addr_turn : i < address_size → same_bytes (drop i x) (drop i (cut at address_size l)) ≡ (eqb (get_or x i 0) (get_or l (at + i) 0) && same_bytes (drop (i + 1) x) (drop (i + 1) (cut at address_size l)))
+  addr_turn h = go (eqb (get_or x i 0) (get_or l (at + i) 0)) refl
     where
       go : (b : Bool) → eqb (get_or x i 0) (get_or l (at + i) 0) ≡ b → same_bytes (drop i x) (drop i (cut at address_size l)) ≡ (b && same_bytes (drop (i + 1) x) (drop (i + 1) (cut at address_size l)))
-      go true e = same-go x (cut at address_size l) i (omega arith) (omega (arith, length_cut at address_size l hl)) (eqb-true _ _ e ∙ cut_byte at address_size i l h)
+      go true e = same_go x (cut at address_size l) i (omega arith) (omega (arith, length_cut at address_size l hl)) (eqb-true _ _ e ∙ cut_byte at address_size i l h)
       go false e = same_stop x (cut at address_size l) i (omega arith) (omega (arith, length_cut at address_size l hl)) (λ q. eqb-false _ _ e (q ∙ sym (cut_byte at address_size i l h)))
 
-  pub addr-end : address_size ≤ i → same_bytes (drop i x) (drop i (cut at address_size l)) ≡ true
-  addr-end h = same_end x (cut at address_size l) i (omega arith) (omega (arith, length_cut at address_size l hl))
+  pub addr_end : address_size ≤ i → same_bytes (drop i x) (drop i (cut at address_size l)) ≡ true
+  addr_end h = same_end x (cut at address_size l) i (omega arith) (omega (arith, length_cut at address_size l hl))
 
 -- what was compared, with one byte more
 pub addr_more : (t a b c : Bool) → t ≡ (a && b) → b ≡ c → t ≡ (a && c)

@@ -12,7 +12,7 @@ use Rattle.types.specs.declared.coord.CoordEntry.{CoordEntry}
 use Rattle.types.specs.declared.coord.Path.{Path}
 use Rattle.types.specs.Addresses.{same_addr}
 use Rattle.types.specs.Paths.{elements, same_entry, same_entries, among, root_of, path_places}
-use Rattle.types.proofs.PathLaws.{entry_at, entries_turn, among-turn, last_element}
+use Rattle.types.proofs.PathLaws.{entry_at, entries_turn, among_turn, last_element}
 use Rattle.rules.specs.Records.{Row}
 use Rattle.rules.specs.Rows.{row_at}
 use Rattle.rules.specs.Memory.{cut, coord_entry_of, coord_entries_of, path_of, entry_of, row_of, view_rows}
@@ -47,8 +47,8 @@ row_place c k d h =
     ∙ ap coord_entry_of (ap (take coord_entry_size) (drop-drop (k * coord_entry_size) places_offset (cut entry_offset entry_size c)) ∙ cut_cut entry_offset entry_size (places_offset + k * coord_entry_size) coord_entry_size c (omega arith) ∙ ap (λ (j : ℕ). cut j coord_entry_size c) e)
 
 module _ (n i : ℕ) (l : List ℕ) (h : i < n) where
-  pub places-length : length (row_path n i l).entries ≡ path_places
-  places-length = ap (λ (r : Row). length r.entry.path.entries) (row_at_lem n i l h) ∙ row_places (cut (head_size + i * row_size) row_size l)
+  pub places_length : length (row_path n i l).entries ≡ path_places
+  places_length = ap (λ (r : Row). length r.entry.path.entries) (row_at_lem n i l h) ∙ row_places (cut (head_size + i * row_size) row_size l)
 
   pub place_at : (k : ℕ) (d : CoordEntry) → k < path_places → get_or (row_path n i l).entries k d ≡ coord_entry_of (cut (head_size + i * row_size + places_in_row + k * coord_entry_size) coord_entry_size l)
   place_at k d g =
@@ -57,43 +57,43 @@ module _ (n i : ℕ) (l : List ℕ) (h : i < n) where
       ∙ row_place (cut (head_size + i * row_size) row_size l) k d g
       ∙ ap coord_entry_of (cut_cut (head_size + i * row_size) row_size (places_in_row + k * coord_entry_size) coord_entry_size l (omega arith) ∙ ap (λ (j : ℕ). cut j coord_entry_size l) e)
 
-  place-addr : (k : ℕ) → k < path_places → (entry_at (row_path n i l) k).node_addr ≡ record { 0 = cut (head_size + i * row_size + places_in_row + k * coord_entry_size) address_size l }
-  place-addr k g = ap (λ (x : CoordEntry). x.node_addr) (place_at k _ g) ∙ element_addr (head_size + i * row_size + places_in_row + k * coord_entry_size) l
+  place_addr : (k : ℕ) → k < path_places → (entry_at (row_path n i l) k).node_addr ≡ record { 0 = cut (head_size + i * row_size + places_in_row + k * coord_entry_size) address_size l }
+  place_addr k g = ap (λ (x : CoordEntry). x.node_addr) (place_at k _ g) ∙ element_addr (head_size + i * row_size + places_in_row + k * coord_entry_size) l
 
-  pub elements-count : length (elements (row_path n i l)) ≡ min (row_path n i l).len path_places
+  pub elements_count : length (elements (row_path n i l)) ≡ min (row_path n i l).len path_places
   unfolding elements
-  elements-count = length-take (row_path n i l).len (row_path n i l).entries ∙ ap (min (row_path n i l).len) places-length
+  elements_count = length-take (row_path n i l).len (row_path n i l).entries ∙ ap (min (row_path n i l).len) places_length
 
-  pub elements-length : (row_path n i l).len ≤ path_places → length (elements (row_path n i l)) ≡ (row_path n i l).len
-  elements-length g = elements-count ∙ omega arith
+  pub elements_length : (row_path n i l).len ≤ path_places → length (elements (row_path n i l)) ≡ (row_path n i l).len
+  elements_length g = elements_count ∙ omega arith
 
   -- a turn of the comparison with another path
-  pub path-turn : (q : Path) (k : ℕ) → k < path_places → k < length (elements (row_path n i l)) → k < length (elements q)
+  pub path_turn : (q : Path) (k : ℕ) → k < path_places → k < length (elements (row_path n i l)) → k < length (elements q)
       → same_entries (drop k (elements (row_path n i l))) (drop k (elements q)) ≡ (same_entry (coord_entry_of (cut (head_size + i * row_size + places_in_row + k * coord_entry_size) coord_entry_size l)) (entry_at q k) && same_entries (drop (k + 1) (elements (row_path n i l))) (drop (k + 1) (elements q)))
-  path-turn q k g hp hq =
+  path_turn q k g hp hq =
       entries_turn (row_path n i l) q k hp hq
       ∙ ap (λ (x : CoordEntry). same_entry x (entry_at q k) && same_entries (drop (k + 1) (elements (row_path n i l))) (drop (k + 1) (elements q))) (place_at k _ g)
 
   -- a turn of the search for an address
-  search-turn : (a : NodeAddr) (k : ℕ) → (row_path n i l).len ≤ path_places → k < (row_path n i l).len
+  search_turn : (a : NodeAddr) (k : ℕ) → (row_path n i l).len ≤ path_places → k < (row_path n i l).len
       → among a (drop k (elements (row_path n i l))) ≡ (same_addr a (record { 0 = cut (head_size + i * row_size + places_in_row + k * coord_entry_size) address_size l }) || among a (drop (k + 1) (elements (row_path n i l))))
-  search-turn a k g b =
-      among-turn a (row_path n i l) k (omega (arith, elements-length g))
-      ∙ ap (λ (x : NodeAddr). same_addr a x || among a (drop (k + 1) (elements (row_path n i l)))) (place-addr k (omega arith))
+  search_turn a k g b =
+      among_turn a (row_path n i l) k (omega (arith, elements_length g))
+      ∙ ap (λ (x : NodeAddr). same_addr a x || among a (drop (k + 1) (elements (row_path n i l)))) (place_addr k (omega arith))
 
-  pub search-hit : (a : NodeAddr) (k : ℕ) → (row_path n i l).len ≤ path_places → k < (row_path n i l).len
+  pub search_hit : (a : NodeAddr) (k : ℕ) → (row_path n i l).len ≤ path_places → k < (row_path n i l).len
       → same_addr a (record { 0 = cut (head_size + i * row_size + places_in_row + k * coord_entry_size) address_size l }) ≡ true → among a (drop k (elements (row_path n i l))) ≡ true
-  search-hit a k g b e = search-turn a k g b ∙ rw e
+  search_hit a k g b e = search_turn a k g b ∙ rw e
 
-  pub search-miss : (a : NodeAddr) (k : ℕ) → (row_path n i l).len ≤ path_places → k < (row_path n i l).len
+  pub search_miss : (a : NodeAddr) (k : ℕ) → (row_path n i l).len ≤ path_places → k < (row_path n i l).len
       → same_addr a (record { 0 = cut (head_size + i * row_size + places_in_row + k * coord_entry_size) address_size l }) ≡ false → among a (drop k (elements (row_path n i l))) ≡ among a (drop (k + 1) (elements (row_path n i l)))
-  search-miss a k g b e = search-turn a k g b ∙ rw e
+  search_miss a k g b e = search_turn a k g b ∙ rw e
 
   -- the root stands in the last place up to the length
-  pub root-place : (row_path n i l).len ≤ path_places → 1 ≤ (row_path n i l).len
+  pub root_place : (row_path n i l).len ≤ path_places → 1 ≤ (row_path n i l).len
       → root_of (row_path n i l) ≡ record { 0 = cut (head_size + i * row_size + places_in_row + ((row_path n i l).len - 1) * coord_entry_size) address_size l }
   unfolding root_of
-  root-place g b =
-      last_element _ (row_path n i l) (λ e. omega (arith, elements-length g))
-      ∙ ap (λ (k : ℕ). (entry_at (row_path n i l) (k - 1)).node_addr) (elements-length g)
-      ∙ place-addr ((row_path n i l).len - 1) (omega arith)
+  root_place g b =
+      last_element _ (row_path n i l) (λ e. omega (arith, elements_length g))
+      ∙ ap (λ (k : ℕ). (entry_at (row_path n i l) (k - 1)).node_addr) (elements_length g)
+      ∙ place_addr ((row_path n i l).len - 1) (omega arith)

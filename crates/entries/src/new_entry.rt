@@ -11,7 +11,7 @@ use memory::codes::{HINT, NO_MTU, SOME_MTU, VERIFIED};
 use memory::row;
 use types::coord::Path;
 
-#[derive(Drop)]
+#[derive(Clone, Copy)]
 pub struct NewEntry {
     pub path: Path,
     pub created_at: u64,

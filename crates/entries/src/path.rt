@@ -13,7 +13,7 @@ use types::coord::{CoordEntry, PLACES, Path};
 use types::node_addr::NodeAddr;
 
 // Where a stored path stands in the memory: its first byte, and how many bytes it has.
-#[derive(Drop)]
+#[derive(Clone, Copy)]
 pub struct PathPlace {
     pub at: usize,
     pub bytes: usize,

@@ -70,28 +70,28 @@ none_without k zero (r ∷ rs) h = (none_cons k r rs h).1
 none_without k (suc i) (r ∷ rs) h = let p = none_cons k r rs h in rw (p.0, none_without k i rs p.1)
 
 module _ (k : NodeAddr) (rs : List Row) (i p : ℕ) (a : ascends rs ≡ true) (l : i < length rs) (h : searched k rs ≡ Absent p) where
-  all-counted : rows_before k rs ≡ p
-  all-counted = let z = sym (none_searched k rs (absent_none k rs p h)) ∙ h in cc
+  all_counted : rows_before k rs ≡ p
+  all_counted = let z = sym (none_searched k rs (absent_none k rs p h)) ∙ h in cc
 
-  count-without : rows_before k (without_row i rs) + cond (addr_before (row_at i rs).key k) 1 0 ≡ p
-  count-without = total_without (λ (r : Row). cond (addr_before r.key k) 1 0) i rs l ∙ all-counted
+  count_without : rows_before k (without_row i rs) + cond (addr_before (row_at i rs).key k) 1 0 ≡ p
+  count_without = total_without (λ (r : Row). cond (addr_before r.key k) 1 0) i rs l ∙ all_counted
 
-  absent-at : (j : ℕ) → rows_before k (without_row i rs) ≡ j → searched k (without_row i rs) ≡ Absent j
-  absent-at j e = none_searched k (without_row i rs) (none_without k i rs (absent_none k rs p h)) ∙ ap Absent e
+  absent_at : (j : ℕ) → rows_before k (without_row i rs) ≡ j → searched k (without_row i rs) ≡ Absent j
+  absent_at j e = none_searched k (without_row i rs) (none_without k i rs (absent_none k rs p h)) ∙ ap Absent e
 
-  pub absent-behind : i < p → searched k (without_row i rs) ≡ Absent (p - 1)
-  absent-behind g = absent-at (p - 1) (go (addr_before (row_at i rs).key k) refl)
+  pub absent_behind : i < p → searched k (without_row i rs) ≡ Absent (p - 1)
+  absent_behind g = absent_at (p - 1) (go (addr_before (row_at i rs).key k) refl)
     where
       go : (b : Bool) → addr_before (row_at i rs).key k ≡ b → rows_before k (without_row i rs) ≡ p - 1
-      go true e = omega (arith, rw e at count-without)
-      go false e = omega (arith, not_counted k rs i a l e, all-counted)
+      go true e = omega (arith, rw e at count_without)
+      go false e = omega (arith, not_counted k rs i a l e, all_counted)
 
-  pub absent-before : p ≤ i → searched k (without_row i rs) ≡ Absent p
-  absent-before g = absent-at p (go (addr_before (row_at i rs).key k) refl)
+  pub absent_before : p ≤ i → searched k (without_row i rs) ≡ Absent p
+  absent_before g = absent_at p (go (addr_before (row_at i rs).key k) refl)
     where
       go : (b : Bool) → addr_before (row_at i rs).key k ≡ b → rows_before k (without_row i rs) ≡ p
-      go true e = omega (arith, counted k rs i a l e, all-counted)
-      go false e = omega (arith, rw e at count-without)
+      go true e = omega (arith, counted k rs i a l e, all_counted)
+      go false e = omega (arith, rw e at count_without)
 
 -- it is among the rows
 pub place_without : {k : NodeAddr} {n i c j : ℕ} {l : List ℕ} → Over k n i c l → searched k (without_row i (view_rows n l).rows) ≡ Absent j → j < n

@@ -34,24 +34,24 @@ long : (R n m : ℕ) → R ≡ (m - head_size) / row_size → n < R → head_siz
 long R n m e h = omega arith
 
 module _ {k : NodeAddr} {n : ℕ} {l : List ℕ} (f : Free k n l) where
-  pub one-more-fits : head_size + (n + 1) * row_size ≤ length l
+  pub one_more_fits : head_size + (n + 1) * row_size ≤ length l
   unfolding capacity
-  one-more-fits = long ((length l - head_size) / row_size) n (length l) refl f.room
+  one_more_fits = long ((length l - head_size) / row_size) n (length l) refl f.room
 
   whole : Sound (capacity l) (view_rows n l)
   whole = sound_is (capacity l) (view_rows n l) f.without.sound
 
-  rows-rise : ascends (view_rows n l).rows ≡ true
-  rows-rise = ascends_test (view_rows n l).rows whole.rising
+  rows_rise : ascends (view_rows n l).rows ≡ true
+  rows_rise = ascends_test (view_rows n l).rows whole.rising
 
-  pub index-asks : (ascends (view_rows n l).rows ≡ true) × (head_size + n * row_size ≤ length l) × (find k (view_rows n l).rows ≡ none)
-  index-asks = (rows-rise, omega (arith, one-more-fits), f.without.gone)
+  pub index_asks : (ascends (view_rows n l).rows ≡ true) × (head_size + n * row_size ≤ length l) × (find k (view_rows n l).rows ≡ none)
+  index_asks = (rows_rise, omega (arith, one_more_fits), f.without.gone)
 
-  pub head-there : head_size ≤ length l
-  head-there = omega (arith, one-more-fits)
+  pub head_there : head_size ≤ length l
+  head_there = omega (arith, one_more_fits)
 
-  pub stored-light : (view_rows 0 l).stored_weight ≤ max_rows * weight_limit
-  stored-light =
+  pub stored_light : (view_rows 0 l).stored_weight ≤ max_rows * weight_limit
+  stored_light =
       let r = light (view_rows n l).seq (view_rows n l).rows whole.each in
       omega (arith, (same_head 0 n l).stored_weight, whole.stored_weight, few_rows (capacity l) (view_rows n l) whole, whole.small)
 
@@ -92,7 +92,7 @@ pub filed : {k : NodeAddr} {n : ℕ} {l : List ℕ} (f : Free k n l) {e : Entry}
 unfolding file_new inserted with_stored_weight with_seq view_rows
 filed {k} {n} {l} f {e} {w} {p} {i} {v} h ev et eq er ex =
     let c : Row = record { key = k; entry = e; place = p; stamp_first = e.last_used; stamp_seq = (view_rows n l).seq + 1; weight = w } in
-    let o = in_order c v i (view_rows n l) (rows-rise f) h (whole f).stored_weight ev in
+    let o = in_order c v i (view_rows n l) (rows_rise f) h (whole f).stored_weight ev in
     ex ∙ rw (eq.1, er, eq.0, et, o.0, o.1, o.2)
 
 -- ---- a saved row
@@ -131,22 +131,22 @@ pub record Standing (k : NodeAddr) (n i : ℕ) (r : Row) (l m : List ℕ) : Type
   pub state : view_rows (n + 1) m ≡ inserted i r (view_rows n l)
 
 module _ {k : NodeAddr} {n i : ℕ} {r : Row} {l m : List ℕ} (s : Standing k n i r l m) where
-  pub row-there : (i < n + 1) × (head_size + (n + 1) * row_size ≤ length m)
-  row-there = (omega (arith, place_inside s.free s.at), omega (arith, one-more-fits s.free, s.size))
+  pub row_there : (i < n + 1) × (head_size + (n + 1) * row_size ≤ length m)
+  row_there = (omega (arith, place_inside s.free s.at), omega (arith, one_more_fits s.free, s.size))
 
-  pub count-asks : (head_size ≤ length m) × ((view_rows 0 m).stored_weight ≤ max_rows * weight_limit)
+  pub count_asks : (head_size ≤ length m) × ((view_rows 0 m).stored_weight ≤ max_rows * weight_limit)
   unfolding inserted
-  count-asks = (omega (arith, row-there), omega (arith, stored-light s.free, (same_head 0 (n + 1) m).stored_weight, ap (λ (x : State). x.stored_weight) s.state, (same_head 0 n l).stored_weight))
+  count_asks = (omega (arith, row_there), omega (arith, stored_light s.free, (same_head 0 (n + 1) m).stored_weight, ap (λ (x : State). x.stored_weight) s.state, (same_head 0 n l).stored_weight))
 
-  pub seq-left : (view_rows (n + 1) m).seq < largest_number
+  pub seq_left : (view_rows (n + 1) m).seq < largest_number
   unfolding inserted
-  seq-left = rw s.state s.free.seq
+  seq_left = rw s.state s.free.seq
 
   -- its weight counted, and a stamp drawn for it
-  pub filed-unchanged : {w v first : ℕ} {u x : State} → w ≡ (row_at i (view_rows (n + 1) m).rows).weight → v ≡ (view_rows 0 m).stored_weight + w → u ≡ with_stored_weight v (view_rows (n + 1) m)
+  pub filed_unchanged : {w v first : ℕ} {u x : State} → w ≡ (row_at i (view_rows (n + 1) m).rows).weight → v ≡ (view_rows 0 m).stored_weight + w → u ≡ with_stored_weight v (view_rows (n + 1) m)
       → first ≡ (row_at i u.rows).entry.last_used → x ≡ stamp (stamped_as 0 first) i u → x ≡ file_new k r.entry r.weight 0 (view_rows n l)
   unfolding inserted with_stored_weight
-  filed-unchanged {w} {v} {first} ew ev eu ef ex =
+  filed_unchanged {w} {v} {first} ew ev eu ef ex =
       let q = (view_rows n l).seq + 1 in
       let b = absent_inside k (view_rows n l).rows i s.at in
       let w1 : w ≡ r.weight = ew ∙ rw (s.state, inserted_row i r (view_rows n l) b) in

@@ -88,17 +88,17 @@ pub sought_for : {l m : List ℕ} {n time v w : ℕ} {r : RoomAnswer} → v ≡ 
 sought_for {l} {m} {n} {time} {r = r} g z e = rw (← g) (sought l m n time _ r z e)
 
 module _ (k : NodeAddr) (n : ℕ) (l m : List ℕ) (time w : ℕ) (r : RoomAnswer) (wo : Without k n l) (so : Sought l m n time w r) where
-  pub left-state : without_victim r.victim (view_rows r.rows m) ≡ (make_room time w (view_rows n l)).state
+  pub left_state : without_victim r.victim (view_rows r.rows m) ≡ (make_room time w (view_rows n l)).state
   unfolding room_of
-  left-state = ap (λ (x : Room). x.state) so.room
+  left_state = ap (λ (x : Room). x.state) so.room
 
-  pub room-made : r.made ≡ (make_room time w (view_rows n l)).made
+  pub room_made : r.made ≡ (make_room time w (view_rows n l)).made
   unfolding room_of
-  room-made = ap (λ (x : Room). x.made) so.room
+  room_made = ap (λ (x : Room). x.made) so.room
 
-  pub room-examined : r.examined ≡ (make_room time w (view_rows n l)).examined
+  pub room_examined : r.examined ≡ (make_room time w (view_rows n l)).examined
   unfolding room_of
-  room-examined = ap (λ (x : Room). x.examined) so.room
+  room_examined = ap (λ (x : Room). x.examined) so.room
 
   made : Roomed time w (view_rows n l) (make_room time w (view_rows n l))
   made = room_roomed time w (view_rows n l) (ready (shown n l wo.sound))
@@ -106,39 +106,39 @@ module _ (k : NodeAddr) (n : ℕ) (l m : List ℕ) (time w : ℕ) (r : RoomAnswe
   both : main_count (view_rows n l) + probation_count (view_rows n l) ≤ max_rows
   both = omega (arith, both_segments (view_rows n l).seq (view_rows n l).rows (shown n l wo.sound).each, view_length n l, few n l wo.sound)
 
-  pub examined-few : r.examined ≤ 2 * max_rows
-  examined-few = omega (arith, room-examined, made.seen, both)
+  pub examined_few : r.examined ≤ 2 * max_rows
+  examined_few = omega (arith, room_examined, made.seen, both)
 
-  pub room-seq : (view_rows n l).seq ≤ last_seq → (make_room time w (view_rows n l)).state.seq < largest_number
-  room-seq q = omega (arith, made.stamps, made.seen, both)
+  pub room_seq : (view_rows n l).seq ≤ last_seq → (make_room time w (view_rows n l)).state.seq < largest_number
+  room_seq q = omega (arith, made.stamps, made.seen, both)
 
   -- no victim was left
-  pub free-state : r.victim ≡ Nothing → view_rows r.rows m ≡ (make_room time w (view_rows n l)).state
-  free-state e = sym (without_none r.victim (view_rows r.rows m) e) ∙ left-state
+  pub free_state : r.victim ≡ Nothing → view_rows r.rows m ≡ (make_room time w (view_rows n l)).state
+  free_state e = sym (without_none r.victim (view_rows r.rows m) e) ∙ left_state
 
-  pub still-without : r.victim ≡ Nothing → Without k r.rows m
-  still-without e =
+  pub still_without : r.victim ≡ Nothing → Without k r.rows m
+  still_without e =
       let s = shown n l wo.sound in
-      reached_without k l m r.rows (make_room time w (view_rows n l)).state (record { size = so.size; state = free-state e })
+      reached_without k l m r.rows (make_room time w (view_rows n l)).state (record { size = so.size; state = free_state e })
       (room_sound (capacity l) (view_rows n l) s time w) (room_gone k time w (view_rows n l) s (without_gone k n l wo))
 
   -- a row is free in main
-  pub free-main : main_count (make_room time w (view_rows n l)).state < main_limit (capacity l) (make_room time w (view_rows n l)).state → r.victim ≡ Nothing → r.rows < capacity m
-  free-main c e = free_in_main r.rows m (still-without e).sound (rw (capacity_same l m so.size, free-state e) c)
+  pub free_main : main_count (make_room time w (view_rows n l)).state < main_limit (capacity l) (make_room time w (view_rows n l)).state → r.victim ≡ Nothing → r.rows < capacity m
+  free_main c e = free_in_main r.rows m (still_without e).sound (rw (capacity_same l m so.size, free_state e) c)
 
-  pub made-in-main : r.made ≡ true → r.victim ≡ Nothing → r.rows < capacity m
-  made-in-main t = free-main (made_free (view_rows n l) (shown n l wo.sound) time w (sym room-made ∙ t))
+  pub made_in_main : r.made ≡ true → r.victim ≡ Nothing → r.rows < capacity m
+  made_in_main t = free_main (made_free (view_rows n l) (shown n l wo.sound) time w (sym room_made ∙ t))
 
   pub takes : (r.victim ≡ Nothing → r.rows < capacity m) → (view_rows n l).seq ≤ last_seq → Takes k r.victim r.stored r.rows m
   takes f q =
-      let s : (view_rows r.rows m).seq < largest_number = omega (arith, room-seq q, victim_seq r.victim (view_rows r.rows m), ap (λ (x : State). x.seq) left-state) in
-      left_takes wo so.size so.rows so.leaves s (λ e. (still-without e, f e))
+      let s : (view_rows r.rows m).seq < largest_number = omega (arith, room_seq q, victim_seq r.victim (view_rows r.rows m), ap (λ (x : State). x.seq) left_state) in
+      left_takes wo so.size so.rows so.leaves s (λ e. (still_without e, f e))
 
   -- no room was made
   visits : r.victim ≡ Nothing → total probation_visits (view_rows r.rows m).rows ≤ 2 * probation_count (view_rows n l)
-  visits e = rw (free-state e) (omega (arith, total_twice probation_visits (λ x. cond (in_probation x) 1 0) probation_twice (make_room time w (view_rows n l)).state.rows, made.probations))
+  visits e = rw (free_state e) (omega (arith, total_twice probation_visits (λ x. cond (in_probation x) 1 0) probation_twice (make_room time w (view_rows n l)).state.rows, made.probations))
 
-  pub stamps-after : r.victim ≡ Nothing → (view_rows n l).seq ≤ last_seq → StampsLeft r.rows m
-  stamps-after e q =
-      let a : (view_rows r.rows m).seq ≤ (view_rows n l).seq + 2 * main_count (view_rows n l) = rw (free-state e) (omega (arith, made.stamps, made.seen)) in
+  pub stamps_after : r.victim ≡ Nothing → (view_rows n l).seq ≤ last_seq → StampsLeft r.rows m
+  stamps_after e q =
+      let a : (view_rows r.rows m).seq ≤ (view_rows n l).seq + 2 * main_count (view_rows n l) = rw (free_state e) (omega (arith, made.stamps, made.seen)) in
       omega (arith, visits e, both)

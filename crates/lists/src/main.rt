@@ -1,5 +1,7 @@
 // Small lists of calls, read from `stdin`, on 24 rows and again on 1,024 rows. What is printed is held to `stdout`,
 // which was derived by hand.
+#![tactic(auto)]
+
 mod calls;
 mod lines;
 mod scan;

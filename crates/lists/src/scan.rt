@@ -1,6 +1,6 @@
 // The numbers of a line of text.
 
-#[derive(Drop)]
+#[derive(Clone, Copy)]
 pub struct Scan {
     pub values: [u64; 7],
     // How many were read.

@@ -19,16 +19,16 @@ abbrev pub Cleared : NodeAddr → List ℕ → List ℕ → Type 0
 Cleared k l m = (0 ≡ refusal_of (call l (ClearPathMtu k)).answer) × (m ≡ (call l (ClearPathMtu k)).memory)
 
 module _ {k : NodeAddr} {n : ℕ} {l : List ℕ} where
-  clear-done : {o : Option ℕ} → Found k n o l → (m : List ℕ) → Bytes m → length m ≡ length l → view_rows n m ≡ (perform (view_rows n l) (ClearPathMtu k)).state → Cleared k l m
+  clear_done : {o : Option ℕ} → Found k n o l → (m : List ℕ) → Bytes m → length m ≡ length l → view_rows n m ≡ (perform (view_rows n l) (ClearPathMtu k)).state → Cleared k l m
   unfolding perform gives refusal_of path_given verified_write draws_stamps
-  clear-done f m b z v =
+  clear_done f m b z v =
       let d = done_rows f.memory (ClearPathMtu k) m n (not_refused l (ClearPathMtu k) f.sound refl refl refl) b z v in
       (ap refusal_of d.answer, d.memory)
 
   pub clear_at : {i : ℕ} → Found k n (some i) l → (m : List ℕ) → Bytes m → length m ≡ length l → view_rows n m ≡ rewrite drop_mtu i (view_rows n l) → Cleared k l m
   unfolding perform gives clear_path_mtu
-  clear_at f m b z v = clear-done f m b z (rw f.row v)
+  clear_at f m b z v = clear_done f m b z (rw f.row v)
 
-  pub clear-absent : Found k n none l → Bytes l → Cleared k l l
+  pub clear_absent : Found k n none l → Bytes l → Cleared k l l
   unfolding perform gives clear_path_mtu
-  clear-absent f b = clear-done f l b refl (rw f.row)
+  clear_absent f b = clear_done f l b refl (rw f.row)

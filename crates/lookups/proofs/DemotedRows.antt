@@ -64,24 +64,24 @@ demote_refused l k {q} h e w =
 
 -- q is the head's seq
 module _ {k : NodeAddr} {n q : ℕ} {l : List ℕ} (e : q ≡ (view_rows 0 l).seq) (w : q ≤ last_seq) where
-  demote-done : {o : Option ℕ} → Found k n o l → (m : List ℕ) → Bytes m → length m ≡ length l → view_rows n m ≡ (perform (view_rows n l) (Demote k)).state
+  demote_done : {o : Option ℕ} → Found k n o l → (m : List ℕ) → Bytes m → length m ≡ length l → view_rows n m ≡ (perform (view_rows n l) (Demote k)).state
       → Answered l n (Demote k) m
   unfolding path_given verified_write draws_stamps seq_spent
-  demote-done f m b z v =
+  demote_done f m b z v =
       let d : q ≡ (view l).seq = e ∙ shown_seq l in
       done_rows f.memory (Demote k) m n (refused_only_one (capacity l) (view l) (Demote k) f.sound refl refl (rw (← d) (le-ltb last_seq q w))) b z v
 
-  pub demote-asked : {i : ℕ} → Found k n (some i) l → (i < n) × (head_size + n * row_size ≤ length l) × ((view_rows n l).seq < largest_number)
-  demote-asked f = (inside f, f.memory.long, omega (arith, e, w, (same_head 0 n l).seq))
+  pub demote_asked : {i : ℕ} → Found k n (some i) l → (i < n) × (head_size + n * row_size ≤ length l) × ((view_rows n l).seq < largest_number)
+  demote_asked f = (inside f, f.memory.long, omega (arith, e, w, (same_head 0 n l).seq))
 
-  pub demoted-at : {i : ℕ} → Found k n (some i) l → (m : List ℕ) → Bytes m → length m ≡ length l → view_rows n m ≡ demoted_at i (view_rows n l)
+  pub demoted_at_lem : {i : ℕ} → Found k n (some i) l → (m : List ℕ) → Bytes m → length m ≡ length l → view_rows n m ≡ demoted_at i (view_rows n l)
       → Demoted k true l m
   unfolding perform gives demoted demoted_at holds
-  demoted-at f m b z v = let d = demote-done f m b z (rw f.row v) in (rw f.row at d.answer, d.memory)
+  demoted_at_lem f m b z v = let d = demote_done f m b z (rw f.row v) in (rw f.row at d.answer, d.memory)
 
-  pub demoted-absent : Found k n none l → Bytes l → Demoted k false l l
+  pub demoted_absent : Found k n none l → Bytes l → Demoted k false l l
   unfolding perform gives demoted holds
-  demoted-absent f b = let d = demote-done f l b refl (rw f.row) in (rw f.row at d.answer, d.memory)
+  demoted_absent f b = let d = demote_done f l b refl (rw f.row) in (rw f.row at d.answer, d.memory)
 
 pub hinted_seq : (i : ℕ) (s : State) → (rewrite mark_hint i s).seq ≡ s.seq
 unfolding rewrite with_rows

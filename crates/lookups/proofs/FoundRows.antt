@@ -52,33 +52,33 @@ module _ {k : NodeAddr} {n : ℕ} {o : Option ℕ} {l : List ℕ} (f : Found k n
     unexpired : unexpired_row k time (view l) ≡ u
     unexpired = subst (λ (s : State). unexpired_row k time s ≡ u) f.memory.same e
 
-    got-part : maybe u [] (λ i. path_part i (row_at i (view_rows n l).rows).entry.path.len l) ≡ got_part k time l
+    got_part_lem : maybe u [] (λ i. path_part i (row_at i (view_rows n l).rows).entry.path.len l) ≡ got_part k time l
     unfolding got_part found_part
-    got-part = rw (get_allowed l k time f.sound, unexpired, f.memory.same)
+    got_part_lem = rw (get_allowed l k time f.sound, unexpired, f.memory.same)
 
-  nothing-stands : (r : PathPlace) → unexpired_row k time (view_rows n l) ≡ none → r ≡ record { at = 0; bytes = 0 } → StandsAt k time l r.at r.bytes
+  nothing_stands : (r : PathPlace) → unexpired_row k time (view_rows n l) ≡ none → r ≡ record { at = 0; bytes = 0 } → StandsAt k time l r.at r.bytes
   unfolding place_found
-  nothing-stands r e z = rw z (record { part = got-part none e; inside = omega arith; own = rw (unexpired none e) })
+  nothing_stands r e z = rw z (record { part = got_part_lem none e; inside = omega arith; own = rw (unexpired none e) })
 
 -- ---- where the part stands
 
 module _ {k : NodeAddr} {n : ℕ} {l : List ℕ} (time : ℕ) (r : PathPlace) where
-  pub absent-stands : Found k n none l → r ≡ record { at = 0; bytes = 0 } → StandsAt k time l r.at r.bytes
+  pub absent_stands : Found k n none l → r ≡ record { at = 0; bytes = 0 } → StandsAt k time l r.at r.bytes
   unfolding unexpired_row
-  absent-stands f z = nothing-stands f time r (rw f.row) z
+  absent_stands f z = nothing_stands f time r (rw f.row) z
 
-  pub expired-stands : {i : ℕ} → Found k n (some i) l → expired time (row_at i (view_rows n l).rows).entry ≡ true → r ≡ record { at = 0; bytes = 0 }
+  pub expired_stands : {i : ℕ} → Found k n (some i) l → expired time (row_at i (view_rows n l).rows).entry ≡ true → r ≡ record { at = 0; bytes = 0 }
       → StandsAt k time l r.at r.bytes
   unfolding unexpired_row
-  expired-stands f x z = nothing-stands f time r (rw (f.row, x)) z
+  expired_stands f x z = nothing_stands f time r (rw (f.row, x)) z
 
-  pub path-stands : {i : ℕ} → Found k n (some i) l → expired time (row_at i (view_rows n l).rows).entry ≡ false
+  pub path_stands : {i : ℕ} → Found k n (some i) l → expired time (row_at i (view_rows n l).rows).entry ≡ false
       → r ≡ record { at = head_size + i * row_size + places_in_row; bytes = (row_at i (view_rows n l).rows).entry.path.len * coord_entry_size }
       → StandsAt k time l r.at r.bytes
   unfolding unexpired_row path_part place_found
-  path-stands {i} f x z =
+  path_stands {i} f x z =
       let e : unexpired_row k time (view_rows n l) ≡ some i = rw (f.row, x) in
-      rw z (record { part = got-part f time (some i) e; inside = omega (arith, inside f, f.memory.long, path_short f); own = rw (unexpired f time (some i) e) })
+      rw z (record { part = got_part_lem f time (some i) e; inside = omega (arith, inside f, f.memory.long, path_short f); own = rw (unexpired f time (some i) e) })
 
 pub part_from : (at bytes : ℕ) (l p : List ℕ) → cut at bytes l ≡ p → cut at (at + bytes - at) l ≡ p
 part_from at bytes l p e = ap (λ (j : ℕ). cut at j l) (let z : at + bytes - at ≡ bytes = omega arith in z) ∙ e

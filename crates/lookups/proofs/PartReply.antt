@@ -22,7 +22,7 @@ use Rattle.rules.specs.Memory.{capacity, view, view_rows}
 use Rattle.rules.specs.Lent.{lent, call, path_part, found_part, got_part}
 use Rattle.rules.specs.Commands.{reply}
 use Rattle.rules.proofs.Addresses.{contradiction}
-use Rattle.rules.proofs.RowLists.{by-maybe, by_cond, every_at, find_at}
+use Rattle.rules.proofs.RowLists.{by_maybe, by_cond, every_at, find_at}
 use Rattle.rules.proofs.MemoryLaws.{length_cut}
 use Rattle.rules.proofs.SoundTest.{RowOk}
 use Rattle.rules.proofs.Public.{SoundMemory, sound_memory}
@@ -56,7 +56,7 @@ part_of l n i s h =
 
 inside : (k : NodeAddr) (time : ℕ) (s : State) (i : ℕ) → unexpired_row k time s ≡ some i → i < length s.rows
 unfolding unexpired_row
-inside k time s i = by-maybe P (find k s.rows) (λ e g. contradiction {b = true} refl (cc))
+inside k time s i = by_maybe P (find k s.rows) (λ e g. contradiction {b = true} refl (cc))
     (λ j e. by_cond P (expired time (row_at j s.rows).entry) (λ x g. contradiction {b = true} refl (cc))
     (λ x g. let z : j ≡ i = cc in subst (λ (n : ℕ). n < length s.rows) z (find_at k s.rows j e).inside))
   where

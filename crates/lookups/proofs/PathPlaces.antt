@@ -29,8 +29,8 @@ use Rattle.rules.proofs.Foreign.{view_length}
 use Rattle.entries.specs.declared.path.PathPlace.{PathPlace}
 use Rattle.refusals.proofs.SearchedKeys.{Found, inside}
 use Rattle.lookups.specs.Steps.{touched_at, touch_says, touched_place, StandsAt}
-use Rattle.lookups.proofs.FoundRows.{finds, absent-stands, path-stands, touch_sound}
-use Rattle.lookups.proofs.TouchedRows.{touched-at, touched-absent}
+use Rattle.lookups.proofs.FoundRows.{finds, absent_stands, path_stands, touch_sound}
+use Rattle.lookups.proofs.TouchedRows.{touched_at_lem, touched_absent}
 
 -- ---- row i
 
@@ -79,19 +79,19 @@ out_count j i s m e v = e ∙ sym (ap (λ (x : State). x.row_count) v)
 module _ {k : NodeAddr} {n : ℕ} {l : List ℕ} (time : ℕ) (r : PathPlace) where
   module _ {i : ℕ} (f : Found k n (some i) l) (m : List ℕ) where
     -- a row that stays: its path stands where it stood
-    kept-stands : time ≤ last_time → sound (capacity m) (view m) ≡ true → view_rows n m ≡ rewrite (refresh time (view_rows n l).default_ttl) i (view_rows n l)
+    kept_stands : time ≤ last_time → sound (capacity m) (view m) ≡ true → view_rows n m ≡ rewrite (refresh time (view_rows n l).default_ttl) i (view_rows n l)
         → r ≡ standing i (view_rows n l) → StandsAt k time m r.at r.bytes
-    kept-stands t h v e =
+    kept_stands t h v e =
         let d : RefreshedRow k time i (view_rows n l) (view_rows n m) =
         subst (RefreshedRow k time i (view_rows n l)) (sym v) (refreshed_row k time (view_rows n l) i t f.row (omega (arith, inside f, f.memory.rows))) in
         let c : n ≡ (view_rows 0 m).row_count = sym (refreshed_count n l m i time v ∙ f.memory.sound.counted ∙ f.memory.rows) in
         let g : Found k n (some i) m = record { sound = h; memory = sound_memory m n h c; row = d.held } in
-        path-stands time r g d.unexpired (e ∙ ap (λ (p : Path). record { at = head_size + i * row_size + places_in_row; bytes = p.len * coord_entry_size }) (sym d.path))
+        path_stands time r g d.unexpired (e ∙ ap (λ (p : Path). record { at = head_size + i * row_size + places_in_row; bytes = p.len * coord_entry_size }) (sym d.path))
 
     -- a row that leaves: its key has none
-    out-stands : (j : ℕ) → sound (capacity m) (view m) ≡ true → j ≡ length (take_out i (view_rows n l)).rows → view_rows j m ≡ take_out i (view_rows n l) → r ≡ nowhere
+    out_stands : (j : ℕ) → sound (capacity m) (view m) ≡ true → j ≡ length (take_out i (view_rows n l)).rows → view_rows j m ≡ take_out i (view_rows n l) → r ≡ nowhere
         → StandsAt k time m r.at r.bytes
-    out-stands j h ej v e =
+    out_stands j h ej v e =
         let a = find_at k (view_rows n l).rows i f.row in
         let g = find_gone k _ (take_out_gone k i (view_rows n l) (rising_unique (cores (view_rows n l).rows) f.memory.sound.rising) a.inside a.key) in
         let o : Found k j none m = record {
@@ -99,7 +99,7 @@ module _ {k : NodeAddr} {n : ℕ} {l : List ℕ} (time : ℕ) (r : PathPlace) wh
           memory = sound_memory m j h (out_count j i (view_rows n l) m ej v);
           row = ap (λ (x : State). find k x.rows) v ∙ g;
         } in
-        absent-stands time r o e
+        absent_stands time r o e
 
     pub placed_at : Bytes l → Typed (GetAndTouch k time) → Bytes m → length m ≡ length l → r ≡ touched_place i time (view_rows n l)
         → view_rows (length (touched_at i time (view_rows n l)).rows) m ≡ touched_at i time (view_rows n l) → Placed l k time r m
@@ -107,7 +107,7 @@ module _ {k : NodeAddr} {n : ℕ} {l : List ℕ} (time : ℕ) (r : PathPlace) wh
     placed_at b g bm z e v = go (expired time (row_at i (view_rows n l).rows).entry) refl
       where
         t : m ≡ (call l (GetAndTouch k time)).memory
-        t = (touched-at time f (touch_says i time (view_rows n l)) m bm z (refl, v)).2
+        t = (touched_at_lem time f (touch_says i time (view_rows n l)) m bm z (refl, v)).2
 
         q : sound (capacity m) (view m) ≡ true
         q = touch_sound l k time m b g f.sound t
@@ -115,11 +115,11 @@ module _ {k : NodeAddr} {n : ℕ} {l : List ℕ} (time : ℕ) (r : PathPlace) wh
         go : (x : Bool) → expired time (row_at i (view_rows n l).rows).entry ≡ x → Placed l k time r m
         go true x =
             let y : touched_at i time (view_rows n l) ≡ take_out i (view_rows n l) = rw x in
-            (out-stands (length (touched_at i time (view_rows n l)).rows) q (ap (λ (z : State). length z.rows) y) (v ∙ y) (e ∙ rw x), t)
+            (out_stands (length (touched_at i time (view_rows n l)).rows) q (ap (λ (z : State). length z.rows) y) (v ∙ y) (e ∙ rw x), t)
         go false x =
             let y : touched_at i time (view_rows n l) ≡ rewrite (refresh time (view_rows n l).default_ttl) i (view_rows n l) = rw x in
             let u = ap (λ (z : State). length z.rows) y ∙ refreshed_length (refresh time (view_rows n l).default_ttl) i n l in
-            (kept-stands (omega (arith, small8_less time g.1)) q (ap (λ (z : ℕ). view_rows z m) (sym u) ∙ v ∙ y) (e ∙ rw x), t)
+            (kept_stands (omega (arith, small8_less time g.1)) q (ap (λ (z : ℕ). view_rows z m) (sym u) ∙ v ∙ y) (e ∙ rw x), t)
 
-  pub placed-absent : Found k n none l → Bytes l → r ≡ nowhere → Placed l k time r l
-  placed-absent f b e = (absent-stands time r f e, (touched-absent time f b).2)
+  pub placed_absent : Found k n none l → Bytes l → r ≡ nowhere → Placed l k time r l
+  placed_absent f b e = (absent_stands time r f e, (touched_absent time f b).2)

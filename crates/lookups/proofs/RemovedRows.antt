@@ -36,23 +36,23 @@ abbrev pub Removed : List ℕ → NodeAddr → Removal → CacheEntry → List �
 Removed l k r e m = (removal_said r e ≡ (call l (Remove k)).answer) × (e ≡ entry_given (call l (Remove k)).answer) × (m ≡ (call l (Remove k)).memory)
 
 module _ {k : NodeAddr} {n : ℕ} {l : List ℕ} where
-  remove-done : {o : Option ℕ} → Found k n o l → (m : List ℕ) (j : ℕ) → Bytes m → length m ≡ length l
+  remove_done : {o : Option ℕ} → Found k n o l → (m : List ℕ) (j : ℕ) → Bytes m → length m ≡ length l
       → view_rows j m ≡ (perform (view_rows n l) (Remove k)).state → Answered l n (Remove k) m
   unfolding path_given verified_write draws_stamps
-  remove-done f m j b z v = done_rows f.memory (Remove k) m j (not_refused l (Remove k) f.sound refl refl refl) b z v
+  remove_done f m j b z v = done_rows f.memory (Remove k) m j (not_refused l (Remove k) f.sound refl refl refl) b z v
 
-  pub removed-at : {i : ℕ} → Found k n (some i) l → (e : CacheEntry) (m : List ℕ) → Bytes m → length m ≡ length l
+  pub removed_at : {i : ℕ} → Found k n (some i) l → (e : CacheEntry) (m : List ℕ) → Bytes m → length m ≡ length l
       → e ≡ entry_value (row_at i (view_rows n l).rows).entry → view_rows (n - 1) m ≡ take_out i (view_rows n l) → Removed l k Removal.Removed e m
   unfolding perform gives without_key removed_entry removal_said entry_given
-  removed-at f e m b z a v =
-      let d = remove-done f m (n - 1) b z (rw f.row v) in
+  removed_at f e m b z a v =
+      let d = remove_done f m (n - 1) b z (rw f.row v) in
       let w : EntryRemoved (some e) ≡ (call l (Remove k)).answer = ap (λ (x : CacheEntry). EntryRemoved (some x)) a ∙ (rw f.row at d.answer) in
       (w, ap entry_given w, d.memory)
 
-  pub removed-absent : Found k n none l → (e : CacheEntry) → Bytes l → e ≡ blank_entry → Removed l k Removal.Absent e l
+  pub removed_absent : Found k n none l → (e : CacheEntry) → Bytes l → e ≡ blank_entry → Removed l k Removal.Absent e l
   unfolding perform gives without_key removed_entry removal_said entry_given
-  removed-absent f e b a =
-      let d = remove-done f l n b refl (rw f.row) in
+  removed_absent f e b a =
+      let d = remove_done f l n b refl (rw f.row) in
       let w : EntryRemoved none ≡ (call l (Remove k)).answer = rw f.row at d.answer in
       (w, a ∙ ap entry_given w, d.memory)
 

@@ -41,15 +41,15 @@ abbrev pub Touched : List ℕ → ℕ → ℕ → ℕ → TouchAnswer → List �
 Touched l n i time r m = (r ≡ touch_says i time (view_rows n l)) × (view_rows (length (touched_at i time (view_rows n l)).rows) m ≡ touched_at i time (view_rows n l))
 
 module _ (l : List ℕ) (n i time : ℕ) (m : List ℕ) where
-  pub touched-out : expired time (row_at i (view_rows n l).rows).entry ≡ true → view_rows (n - 1) m ≡ take_out i (view_rows n l)
+  pub touched_out : expired time (row_at i (view_rows n l).rows).entry ≡ true → view_rows (n - 1) m ≡ take_out i (view_rows n l)
       → Touched l n i time TouchAnswer.Absent m
   unfolding touch_says touched_at
-  touched-out x v = rw x (refl, all_shown (n - 1) m _ v)
+  touched_out x v = rw x (refl, all_shown (n - 1) m _ v)
 
-  pub touched-kept : (len : ℕ) → expired time (row_at i (view_rows n l).rows).entry ≡ false → len ≡ (row_at i (view_rows n l).rows).entry.path.len
+  pub touched_kept : (len : ℕ) → expired time (row_at i (view_rows n l).rows).entry ≡ false → len ≡ (row_at i (view_rows n l).rows).entry.path.len
       → view_rows n m ≡ rewrite (refresh time (view_rows n l).default_ttl) i (view_rows n l) → Touched l n i time (TouchAnswer.Found len) m
   unfolding touch_says touched_at
-  touched-kept len x e v = rw x (ap TouchAnswer.Found e, all_shown n m _ v)
+  touched_kept len x e v = rw x (ap TouchAnswer.Found e, all_shown n m _ v)
 
 -- ---- the call
 
@@ -86,21 +86,21 @@ unfolding lent
 told l k time r m e v = (ap touch_reply e ∙ replied (capacity l) (view l) k time, e, v)
 
 module _ {k : NodeAddr} {n : ℕ} {l : List ℕ} (time : ℕ) where
-  touch-done : {o : Option ℕ} → Found k n o l → (m : List ℕ) (j : ℕ) → Bytes m → length m ≡ length l
+  touch_done : {o : Option ℕ} → Found k n o l → (m : List ℕ) (j : ℕ) → Bytes m → length m ≡ length l
       → view_rows j m ≡ (perform (view_rows n l) (GetAndTouch k time)).state → Answered l n (GetAndTouch k time) m
-  touch-done f m j b z v = done_rows f.memory (GetAndTouch k time) m j (touch_allowed l k time f.sound) b z v
+  touch_done f m j b z v = done_rows f.memory (GetAndTouch k time) m j (touch_allowed l k time f.sound) b z v
 
-  pub touched-at : {i : ℕ} → Found k n (some i) l → (r : TouchAnswer) (m : List ℕ) → Bytes m → length m ≡ length l → Touched l n i time r m → Told l k time r m
+  pub touched_at_lem : {i : ℕ} → Found k n (some i) l → (r : TouchAnswer) (m : List ℕ) → Bytes m → length m ≡ length l → Touched l n i time r m → Told l k time r m
   unfolding perform gives touched touched_at
-  touched-at {i} f r m b z v =
-      let d = touch-done f m (length (touched_at i time (view_rows n l)).rows) b z (rw f.row v.1) in
+  touched_at_lem {i} f r m b z v =
+      let d = touch_done f m (length (touched_at i time (view_rows n l)).rows) b z (rw f.row v.1) in
       let a = touch_says_lem k time (view_rows n l) i f.row (elements_length n i l (inside f) (path_short f)) in
       told l k time r m (v.0 ∙ sym a ∙ ap touch_answer d.answer) d.memory
 
-  pub touched-absent : Found k n none l → Bytes l → Told l k time TouchAnswer.Absent l
+  pub touched_absent : Found k n none l → Bytes l → Told l k time TouchAnswer.Absent l
   unfolding perform gives touched get unexpired_row touch_answer
-  touched-absent f b =
-      let d = touch-done f l n b refl (rw f.row) in
+  touched_absent f b =
+      let d = touch_done f l n b refl (rw f.row) in
       told l k time TouchAnswer.Absent l (rw f.row at (ap touch_answer d.answer)) d.memory
 
 -- a touch that is done: number 0

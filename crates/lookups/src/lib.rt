@@ -1,5 +1,7 @@
 // The calls that name one key and need no room, each public and unchecked: get; touch, with get_and_touch; remove; demote; path_mtu
 // (clear_path_mtu).
+#![tactic(auto)]
+
 pub mod demote;
 pub mod get;
 pub mod path_mtu;

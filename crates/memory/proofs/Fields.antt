@@ -75,9 +75,9 @@ module _ (l : List ℕ) (n i : ℕ) (h : i < n) where
   unfolding row_of
   of_entry get o w law k = of_row (λ r. get r.entry) (entry_offset + o) w (λ c. law (cut entry_offset entry_size c) ∙ ap le_number (cut_cut entry_offset entry_size o w c k)) (omega arith)
 
-  pub field-read : Numbers l i (row_at i (view_rows n l).rows)
+  pub field_read : Numbers l i (row_at i (view_rows n l).rows)
   unfolding row_of entry_of path_of
-  field-read =
+  field_read =
       record {
         path_length = of_entry (λ e. e.path.len) length_offset byte_size (λ c. refl) (omega arith);
         created_at = of_entry (λ e. e.created_at) created_at_offset number_size (λ c. refl) (omega arith);

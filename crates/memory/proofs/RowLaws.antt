@@ -178,14 +178,14 @@ zero_cut a w n l h k =
     let ln : length (replicate {A = ℕ} n 0) ≡ n = length-replicate {A = ℕ} n 0 in
     let z : 0 + a ≡ a = omega arith in
     let e : cut 0 n (sets l 0 (replicate n 0)) ≡ replicate n 0 = rw ln at (cut_same l (replicate n 0) 0 (omega arith)) in
-    sym (cut_cut 0 n a w (sets l 0 (replicate n 0)) h ∙ ap (λ (x : ℕ). cut x w (sets l 0 (replicate n 0))) z) ∙ ap (cut a w) e ∙ zeros-cut a w n h
+    sym (cut_cut 0 n a w (sets l 0 (replicate n 0)) h ∙ ap (λ (x : ℕ). cut x w (sets l 0 (replicate n 0))) z) ∙ ap (cut a w) e ∙ zeros_cut a w n h
   where
-    zeros-cut : (a w n : ℕ) → a + w ≤ n → cut a w (replicate n 0) ≡ replicate w 0
-    zeros-cut zero zero n h = refl
-    zeros-cut zero (suc w) zero h = absurd (let z : ⊥ = omega arith in z)
-    zeros-cut zero (suc w) (suc n) h = ap (λ (x : List ℕ). 0 ∷ x) (zeros-cut zero w n (omega arith))
-    zeros-cut (suc a) w zero h = absurd (let z : ⊥ = omega arith in z)
-    zeros-cut (suc a) w (suc n) h = zeros-cut a w n (omega arith)
+    zeros_cut : (a w n : ℕ) → a + w ≤ n → cut a w (replicate n 0) ≡ replicate w 0
+    zeros_cut zero zero n h = refl
+    zeros_cut zero (suc w) zero h = absurd (let z : ⊥ = omega arith in z)
+    zeros_cut zero (suc w) (suc n) h = ap (λ (x : List ℕ). 0 ∷ x) (zeros_cut zero w n (omega arith))
+    zeros_cut (suc a) w zero h = absurd (let z : ⊥ = omega arith in z)
+    zeros_cut (suc a) w (suc n) h = zeros_cut a w n (omega arith)
 
 zeros_drop : (a b : ℕ) → drop a (replicate {A = ℕ} (a + b) 0) ≡ replicate b 0
 zeros_drop zero b = let z : 0 + b ≡ b = omega arith in rw z

@@ -38,21 +38,21 @@ use Rattle.room.proofs.RoomToFile.{shown, laid_out, free_in_probation, reached_w
 use Rattle.entries.specs.declared.new_entry.NewEntry.{NewEntry}
 use Rattle.entries.specs.NewEntries.{entry_from}
 use Rattle.filing.specs.InRoom.{Takes}
-use Rattle.filing.proofs.RoomSought.{Sought, room_asks, free-main, free-state, still-without, takes}
+use Rattle.filing.proofs.RoomSought.{Sought, room_asks, free_main, free_state, still_without, takes}
 use Rattle.placement.specs.Placements.{Placing, row_in, Holds, HeldHint, promoted_as}
 
 -- ---- a row that is there
 
 module _ {k : NodeAddr} {n i : ℕ} {l : List ℕ} (h : Holds k n i l) where
-  pub row-there : (i < n) × (head_size + n * row_size ≤ length l)
-  row-there = (h.inside, laid_out n l h.sound)
+  pub row_there : (i < n) × (head_size + n * row_size ≤ length l)
+  row_there = (h.inside, laid_out n l h.sound)
 
-  pub out-asks : (i < n) × (head_size + n * row_size ≤ length l) × ((view_rows n l).stored_weight ≡ main_weight (view_rows n l))
-  out-asks = (h.inside, laid_out n l h.sound, (shown n l h.sound).stored_weight)
+  pub out_asks : (i < n) × (head_size + n * row_size ≤ length l) × ((view_rows n l).stored_weight ≡ main_weight (view_rows n l))
+  out_asks = (h.inside, laid_out n l h.sound, (shown n l h.sound).stored_weight)
 
   -- its bytes, saved
-  pub saved-row : {b : List ℕ} → b ≡ cut (head_size + i * row_size) row_size l → row_of b ≡ row_in n i l
-  saved-row e = ap row_of e ∙ sym (row_at_lem n i l h.inside)
+  pub saved_row : {b : List ℕ} → b ≡ cut (head_size + i * row_size) row_size l → row_of b ≡ row_in n i l
+  saved_row e = ap row_of e ∙ sym (row_at_lem n i l h.inside)
 
 -- ---- taken out
 
@@ -77,40 +77,40 @@ module _ {k : NodeAddr} {n i : ℕ} {l m : List ℕ} (u : Out k n i l m) where
   whole : Sound (capacity l) (view_rows n l)
   whole = shown n l u.holds.sound
 
-  pub out-without : Without k (n - 1) m
-  out-without =
+  pub out_without : Without k (n - 1) m
+  out_without =
       reached_without k l m (n - 1) (take_out i (view_rows n l)) (record { size = u.size; state = u.state }) (take_out_sound (capacity l) i (view_rows n l) whole)
       (take_out_gone k i (view_rows n l) (rising_unique (cores (view_rows n l).rows) whole.rising) inside u.holds.key)
 
-  out-seq : (view_rows n l).seq ≤ last_seq → (view_rows (n - 1) m).seq ≤ last_seq
-  out-seq q = rw u.state (omega (arith, take_out_seq i (view_rows n l)))
+  out_seq : (view_rows n l).seq ≤ last_seq → (view_rows (n - 1) m).seq ≤ last_seq
+  out_seq q = rw u.state (omega (arith, take_out_seq i (view_rows n l)))
 
-  pub out-room-asks : (time : ℕ) → (view_rows n l).seq ≤ last_seq
+  pub out_room_asks : (time : ℕ) → (view_rows n l).seq ≤ last_seq
       → (head_size + (n - 1) * row_size ≤ length m) × (sound (capacity m) (view_rows (n - 1) m) ≡ true)
       × ((view_rows (n - 1) m).seq + total (main_visits time) (view_rows (n - 1) m).rows < number_limit)
-  out-room-asks time q = room_asks time (n - 1) m out-without.sound (out-seq q)
+  out_room_asks time q = room_asks time (n - 1) m out_without.sound (out_seq q)
 
   module _ {x : List ℕ} {time w : ℕ} {r : RoomAnswer} (so : Sought m x (n - 1) time w r) where
     made : Roomed time w (view_rows (n - 1) m) (make_room time w (view_rows (n - 1) m))
-    made = room_roomed time w (view_rows (n - 1) m) (ready (shown (n - 1) m out-without.sound))
+    made = room_roomed time w (view_rows (n - 1) m) (ready (shown (n - 1) m out_without.sound))
 
-    limits-kept : limits_of (make_room time w (view_rows (n - 1) m)).state ≡ limits_of (view_rows n l)
-    limits-kept = made.limits ∙ rw u.state (take_out_limits i (view_rows n l))
+    limits_kept : limits_of (make_room time w (view_rows (n - 1) m)).state ≡ limits_of (view_rows n l)
+    limits_kept = made.limits ∙ rw u.state (take_out_limits i (view_rows n l))
 
     -- the row that was taken out left one free
     freed : (b : Bool) → in_main (row_in n i l) ≡ b → r.victim ≡ Nothing → r.rows < capacity x
     freed true e v =
         let a : main_count (view_rows (n - 1) m) + 1 ≡ main_count (view_rows n l) = rw u.state (take_out_main i (view_rows n l) inside e) in
-        free-main k (n - 1) m x time w r out-without so (omega (arith, ap probation_of limits-kept, capacity_same l m u.size, made.mains, a, whole.mains)) v
+        free_main k (n - 1) m x time w r out_without so (omega (arith, ap probation_of limits_kept, capacity_same l m u.size, made.mains, a, whole.mains)) v
     freed false e v =
         let p = not_main (row_in n i l) (every_at (RowOk (view_rows n l).seq) i (view_rows n l).rows inside whole.each).place e in
         let a : probation_count (view_rows (n - 1) m) + 1 ≡ probation_count (view_rows n l) = rw u.state (probation_one_less i (view_rows n l) inside p) in
-        free_in_probation r.rows x (still-without k (n - 1) m x time w r out-without so v).sound
-        (rw (free-state k (n - 1) m x time w r out-without so v) (omega (arith, ap probation_of limits-kept, made.probations, a, whole.probations)))
+        free_in_probation r.rows x (still_without k (n - 1) m x time w r out_without so v).sound
+        (rw (free_state k (n - 1) m x time w r out_without so v) (omega (arith, ap probation_of limits_kept, made.probations, a, whole.probations)))
 
     -- what filing asks
-    pub out-takes : {p : Path} {o : HintOutcome} {b : Bool} → HeldHint k p o b n i l → Takes k r.victim r.stored r.rows x
-    out-takes {b = b} h = takes k (n - 1) m x time w r out-without so (freed b h.main) (out-seq h.seq)
+    pub out_takes : {p : Path} {o : HintOutcome} {b : Bool} → HeldHint k p o b n i l → Takes k r.victim r.stored r.rows x
+    out_takes {b = b} h = takes k (n - 1) m x time w r out_without so (freed b h.main) (out_seq h.seq)
 
     -- nothing was made, and no victim left
     pub unmade : (stated : Bool) → r.made || stated ≡ false → r.victim ≡ Nothing
@@ -121,21 +121,21 @@ module _ {k : NodeAddr} {n i : ℕ} {l m : List ℕ} (u : Out k n i l m) where
         go false e = e
 
     -- the room that was sought, by the rules
-    pub room-there : room_of r (view_rows r.rows x) ≡ make_room time w (take_out i (view_rows n l))
-    room-there = so.room ∙ rw u.state
+    pub room_there : room_of r (view_rows r.rows x) ≡ make_room time w (take_out i (view_rows n l))
+    room_there = so.room ∙ rw u.state
 
     -- filed in main or in probation
-    pub promoted-is : {p : Path} {o : HintOutcome} {b : Bool} → HeldHint k p o b n i l → (ttl : ℕ) (e : NewEntry) {a v : ℕ} {d : Placed} {y : List ℕ}
+    pub promoted_is : {p : Path} {o : HintOutcome} {b : Bool} → HeldHint k p o b n i l → (ttl : ℕ) (e : NewEntry) {a v : ℕ} {d : Placed} {y : List ℕ}
         → entry_from e ≡ update p time ttl (row_in n i l).entry → a ≡ cond r.made 0 2 → v ≡ w → d ≡ promoted_as o r.made v r.examined
         → (let s = file_new k (entry_from e) w a (without_victim r.victim (view_rows r.rows x)) in view_rows (length s.rows) y ≡ s) → Placing (promote k p time ttl w i (view_rows n l)) d y
     unfolding promote place_result room_of
-    promoted-is {o = o} h ttl e {a} {d = d} {y} ee ea ev ed ef = rw (← room-there, ← h.outcome, ← ee) (go r.made refl)
+    promoted_is {o = o} h ttl e {a} {d = d} {y} ee ea ev ed ef = rw (← room_there, ← h.outcome, ← ee) (go r.made refl)
       where
-        row-at-place : ℕ → State
-        row-at-place c = file_new k (entry_from e) w c (without_victim r.victim (view_rows r.rows x))
+        row_at_place : ℕ → State
+        row_at_place c = file_new k (entry_from e) w c (without_victim r.victim (view_rows r.rows x))
 
         go : (c : Bool) → r.made ≡ c
-            → Placing (cond r.made (place_result o w Main false r.examined (row-at-place 0)) (place_result o 0 Probation false r.examined (row-at-place 2))) d y
+            → Placing (cond r.made (place_result o w Main false r.examined (row_at_place 0)) (place_result o 0 Probation false r.examined (row_at_place 2))) d y
         go true g = let z : a ≡ 0 = ea ∙ rw g in rw g (record { says = ed ∙ rw (g, ev); state = rw z at ef })
         go false g = let z : a ≡ 2 = ea ∙ rw g in rw g (record { says = ed ∙ rw g; state = rw z at ef })
 
@@ -160,9 +160,9 @@ stays_as true true true = (λ h. refl, λ h. refl, λ h g. g)
 stays_as true true false = (λ h. h, λ h. h, λ h g. refl)
 
 module _ (p : Path) (time : ℕ) (stated : Bool) (r : Row) {v : Bool} (ev : v ≡ verified time r.entry) where
-  pub stays-unstated : v && not stated ≡ true → stays_verified p time stated r ≡ true
+  pub stays_unstated : v && not stated ≡ true → stays_verified p time stated r ≡ true
   unfolding stays_verified
-  stays-unstated h = rw (← ev) ((stays_as v stated (same_path r.entry.path p)).0 h)
+  stays_unstated h = rw (← ev) ((stays_as v stated (same_path r.entry.path p)).0 h)
 
   module _ {c : Bool} (ec : c ≡ same_path r.entry.path p) where
     pub stays_same : v && c ≡ true → stays_verified p time stated r ≡ true

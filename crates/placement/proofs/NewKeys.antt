@@ -25,7 +25,7 @@ use Rattle.room.proofs.LeftVictims.{without_none}
 use Rattle.room.proofs.RoomToFile.{shown, few, free_in_probation, reached_without, without_gone}
 use Rattle.filing.specs.Filings.{Writable}
 use Rattle.filing.specs.InRoom.{Takes}
-use Rattle.filing.proofs.RoomSought.{Sought, victim_seq, left_takes, takes, made-in-main, still-without, examined-few, stamps-after}
+use Rattle.filing.proofs.RoomSought.{Sought, victim_seq, left_takes, takes, made_in_main, still_without, examined_few, stamps_after}
 
 -- ---- weights
 
@@ -36,13 +36,13 @@ light p w = omega (arith, w.short)
 -- ---- room in main
 
 module _ {k : NodeAddr} {n time w : ℕ} {r : RoomAnswer} {l m : List ℕ} (wo : Without k n l) (q : (view_rows n l).seq ≤ last_seq) (so : Sought l m n time w r) where
-  pub made-takes : r.made ≡ true → Takes k r.victim r.stored r.rows m
-  made-takes d = takes k n l m time w r wo so (made-in-main k n l m time w r wo so d) q
+  pub made_takes : r.made ≡ true → Takes k r.victim r.stored r.rows m
+  made_takes d = takes k n l m time w r wo so (made_in_main k n l m time w r wo so d) q
 
-  pub unmade-leaves : r.made ≡ false → Without k r.rows m × StampsLeft r.rows m × (r.examined ≤ 2 * max_rows)
-  unmade-leaves d =
+  pub unmade_leaves : r.made ≡ false → Without k r.rows m × StampsLeft r.rows m × (r.examined ≤ 2 * max_rows)
+  unmade_leaves d =
       let v = so.none d in
-      (still-without k n l m time w r wo so v, stamps-after k n l m time w r wo so v q, examined-few k n l m time w r wo so)
+      (still_without k n l m time w r wo so v, stamps_after k n l m time w r wo so v q, examined_few k n l m time w r wo so)
 
 -- ---- room in probation
 
@@ -58,25 +58,25 @@ module _ {k : NodeAddr} {n : ℕ} {r : ProbationRoom} {l m : List ℕ} (s : Room
   made : ProbationRoomMade (capacity l) (view_rows n l) (make_probation_room (view_rows n l))
   made = probation_evict (capacity l) (view_rows n l) (shown n l s.without.sound)
 
-  left-state : without_victim r.victim (view_rows n m) ≡ (make_probation_room (view_rows n l)).state
-  left-state = ap (λ (x : Walk). x.state) s.walk
+  left_state : without_victim r.victim (view_rows n m) ≡ (make_probation_room (view_rows n l)).state
+  left_state = ap (λ (x : Walk). x.state) s.walk
 
-  pub probation-few : r.examined ≤ 2 * max_rows
-  probation-few =
+  pub probation_few : r.examined ≤ 2 * max_rows
+  probation_few =
       let v = probation_visits_lem (view_rows n l).rows in
       omega (arith, ap (λ (x : Walk). x.examined) s.walk, made.evicted.done, view_length n l, few n l s.without.sound)
 
   free : r.victim ≡ Nothing → Without k n m × (n < capacity m)
   free e =
-      let g = sym (without_none r.victim (view_rows n m) e) ∙ left-state in
+      let g = sym (without_none r.victim (view_rows n m) e) ∙ left_state in
       let u = made.evicted in
       let a = u.keeps (λ y. y.key ≡ k → ⊥) (without_gone k n l s.without) in
       let h = reached_without k l m n (make_probation_room (view_rows n l)).state (record { size = s.size; state = g }) u.sound a in
       (h, free_in_probation n m h.sound (rw g made.few))
 
-  pub probation-takes : Takes k r.victim r.stored n m
-  probation-takes =
+  pub probation_takes : Takes k r.victim r.stored n m
+  probation_takes =
       let u = made.evicted in
       let v = victim_seq r.victim (view_rows n m) in
-      let q : (view_rows n m).seq < largest_number = omega (arith, u.stamps, u.done, s.stamps, ap (λ (x : State). x.seq) left-state) in
+      let q : (view_rows n m).seq < largest_number = omega (arith, u.stamps, u.done, s.stamps, ap (λ (x : State). x.seq) left_state) in
       left_takes s.without s.size (omega arith) s.leaves q free

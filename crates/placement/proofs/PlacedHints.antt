@@ -39,7 +39,7 @@ use Rattle.search.specs.declared.outcome.Search.TheVariants.{At, Absent}
 use Rattle.search.specs.ByKey.{searched}
 use Rattle.search.proofs.SearchLaws.{at_found, absent_none}
 use Rattle.room.proofs.RoomToFile.{shown, laid_out}
-use Rattle.placement.proofs.HeldKeys.{Out, out-without}
+use Rattle.placement.proofs.HeldKeys.{Out, out_without}
 
 -- ---- 1. the key's row
 
@@ -55,21 +55,21 @@ module _ {k : NodeAddr} {n i : ℕ} {r : Search} {l : List ℕ} (s : Searched k 
   found_at : r ≡ At i → find k (view_rows n l).rows ≡ some i
   found_at g = at_found k (view_rows n l).rows i (sym s.found ∙ g)
 
-  pub holds-found : r ≡ At i → Holds k n i l
-  holds-found g = let a = find_at k (view_rows n l).rows i (found_at g) in record { sound = s.sound; inside = rw (← (view_length n l)) a.inside; key = a.key }
+  pub holds_found : r ≡ At i → Holds k n i l
+  holds_found g = let a = find_at k (view_rows n l).rows i (found_at g) in record { sound = s.sound; inside = rw (← (view_length n l)) a.inside; key = a.key }
 
   module _ {time : ℕ} {b : Bool} (g : r ≡ At i) (x : b ≡ expired time (row_in n i l).entry) where
-    pub held-here : b ≡ false → HeldAt k time n i l l
+    pub held_here : b ≡ false → HeldAt k time n i l l
     unfolding place_hint
-    held-here f = record { same = refl; holds = holds-found g; placed = λ p ttl u stated. rw (found_at g, ← x, f) }
+    held_here f = record { same = refl; holds = holds_found g; placed = λ p ttl u stated. rw (found_at g, ← x, f) }
 
-    pub new-expired : {m : List ℕ} → b ≡ true → Out k n i l m → NewIn k time n (n - 1) l m
+    pub new_expired : {m : List ℕ} → b ≡ true → Out k n i l m → NewIn k time n (n - 1) l m
     unfolding place_hint
-    new-expired f o = record { without = out-without o; seq = rw o.state (take_out_seq i (view_rows n l)); placed = λ p ttl u stated. rw (found_at g, ← x, f, o.state) }
+    new_expired f o = record { without = out_without o; seq = rw o.state (take_out_seq i (view_rows n l)); placed = λ p ttl u stated. rw (found_at g, ← x, f, o.state) }
 
-  pub new-missing : (time : ℕ) → r ≡ Absent i → NewIn k time n n l l
+  pub new_missing : (time : ℕ) → r ≡ Absent i → NewIn k time n n l l
   unfolding place_hint
-  new-missing time g =
+  new_missing time g =
       let a = absent_none k (view_rows n l).rows i (sym s.found ∙ g) in
       record { without = record { sound = s.sound; gone = a }; seq = refl; placed = λ p ttl u stated. rw a }
 
@@ -82,11 +82,11 @@ hint_refused {n} p l h e z q g = write_refused l q p n h g.path g.stamps e z
 
 -- which row, or that there is none
 module _ {k : NodeAddr} {time n i : ℕ} {l m : List ℕ} (r : KeyRow) (h : Stands r k time n l m) where
-  pub stood-held : r ≡ KeyRow.At i → HeldAt k time n i l m
-  stood-held e = subst (λ (x : KeyRow). Stands x k time n l m) e h
+  pub stood_held : r ≡ KeyRow.At i → HeldAt k time n i l m
+  stood_held e = subst (λ (x : KeyRow). Stands x k time n l m) e h
 
-  pub stood-new : r ≡ KeyRow.New i → NewIn k time n i l m
-  stood-new e = subst (λ (x : KeyRow). Stands x k time n l m) e h
+  pub stood_new : r ≡ KeyRow.New i → NewIn k time n i l m
+  stood_new e = subst (λ (x : KeyRow). Stands x k time n l m) e h
 
 -- a hint that is not refused, of a memory with n rows
 pub record Allowed (p : Path) (n : ℕ) (l : List ℕ) : Type 0 where
@@ -98,28 +98,28 @@ module _ {p : Path} {n : ℕ} {l : List ℕ} (a : Allowed p n l) where
   same_rows : view_rows n l ≡ view l
   same_rows = (sound_memory l n a.sound a.counted).same
 
-  pub rows-sound : sound (capacity l) (view_rows n l) ≡ true
-  rows-sound = rw same_rows a.sound
+  pub rows_sound_lem : sound (capacity l) (view_rows n l) ≡ true
+  rows_sound_lem = rw same_rows a.sound
 
   writable : Writable p
   writable = let g = path_ok p a.passed.path in record { long = g.long; short = g.short }
 
-  seq-left : (view_rows n l).seq ≤ last_seq
+  seq_left : (view_rows n l).seq ≤ last_seq
   unfolding seq_spent
-  seq-left = rw same_rows (ltb-false last_seq (view l).seq a.passed.stamps)
+  seq_left = rw same_rows (ltb-false last_seq (view l).seq a.passed.stamps)
 
   module _ {k : NodeAddr} {time i : ℕ} {m : List ℕ} where
     pub held_asks : HeldAt k time n i l m → Holds k n i m × Writable p × ((view_rows n m).seq ≤ last_seq)
-    held_asks h = rw h.same (h.holds, writable, seq-left)
+    held_asks h = rw h.same (h.holds, writable, seq_left)
 
-    pub new-asks : NewIn k time n i l m → Without k i m × Writable p × ((view_rows i m).seq ≤ last_seq)
-    new-asks h = (h.without, writable, rw h.seq seq-left)
+    pub new_asks : NewIn k time n i l m → Without k i m × Writable p × ((view_rows i m).seq ≤ last_seq)
+    new_asks h = (h.without, writable, rw h.seq seq_left)
 
-  pub hint-placed : {k : NodeAddr} {time ttl : ℕ} {f : Funding} {stated : Bool} {d : Placed} {m : List ℕ}
+  pub hint_placed : {k : NodeAddr} {time ttl : ℕ} {f : Funding} {stated : Bool} {d : Placed} {m : List ℕ}
       → Bytes m → length m ≡ length l → Placing (place_hint k p time ttl f stated (view_rows n l)) d m
       → (q : Call) → Places q k p time ttl f stated (view l) → (Hinted d ≡ (call l q).answer) × (m ≡ (call l q).memory)
   unfolding hinted gives
-  hint-placed {k} {time} {ttl} {f} {stated} {d} {m} bytes size u q g =
+  hint_placed {k} {time} {ttl} {f} {stated} {d} {m} bytes size u q g =
       let s = sound_memory l n a.sound a.counted in
       let h = place_hint k p time ttl f stated in
       let t : perform (view_rows n l) q ≡ hinted (h (view_rows n l)) = subst (λ (x : State). perform x q ≡ hinted (h x)) (sym s.same) g.does in

@@ -17,7 +17,7 @@ use types::node_addr::NodeAddr;
 use types::placed::Funding;
 
 // The key's row or, where it has none, how many rows there are.
-#[derive(Drop)]
+#[derive(Clone, Copy)]
 pub enum KeyRow {
     At(usize),
     New(usize),

@@ -27,9 +27,9 @@ module _ (l : List ℕ) {b : Bool} (e : b ≡ sound (capacity l) (view l)) where
   pub unsound : not b ≡ true → sound (capacity l) (view l) ≡ false
   unsound h = sym e ∙ not-true b h
 
-  pub one-said : (q : Call) → not b ≡ true → (Refused 1 ≡ (call l q).answer) × (l ≡ (call l q).memory)
-  one-said q h = said l q 1 (refused_one (capacity l) (view l) q (unsound h))
+  pub one_said : (q : Call) → not b ≡ true → (Refused 1 ≡ (call l q).answer) × (l ≡ (call l q).memory)
+  one_said q h = said l q 1 (refused_one (capacity l) (view l) q (unsound h))
 
-  pub one-numbered : (q : Call) → not b ≡ true → (1 ≡ refusal_of (call l q).answer) × (l ≡ (call l q).memory)
+  pub one_numbered : (q : Call) → not b ≡ true → (1 ≡ refusal_of (call l q).answer) × (l ≡ (call l q).memory)
   unfolding refusal_of
-  one-numbered q h = let u = one-said q h in (ap refusal_of u.0, u.1)
+  one_numbered q h = let u = one_said q h in (ap refusal_of u.0, u.1)

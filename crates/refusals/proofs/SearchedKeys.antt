@@ -35,11 +35,11 @@ inside {k} {n} {i} {l} f = omega (arith, (find_at k (view_rows n l).rows i f.row
 
 -- what reading or writing the row asks, and what taking it out asks
 module _ {k : NodeAddr} {n i : ℕ} {l : List ℕ} (f : Found k n (some i) l) where
-  pub row-asked : (i < n) × (head_size + n * row_size ≤ length l)
-  row-asked = (inside f, f.memory.long)
+  pub row_asked : (i < n) × (head_size + n * row_size ≤ length l)
+  row_asked = (inside f, f.memory.long)
 
-  pub removal-asked : (i < n) × (head_size + n * row_size ≤ length l) × ((view_rows n l).stored_weight ≡ main_weight (view_rows n l))
-  removal-asked = (inside f, f.memory.long, f.memory.sound.stored_weight)
+  pub removal_asked : (i < n) × (head_size + n * row_size ≤ length l) × ((view_rows n l).stored_weight ≡ main_weight (view_rows n l))
+  removal_asked = (inside f, f.memory.long, f.memory.sound.stored_weight)
 
 module _ {k : NodeAddr} {n i : ℕ} {a : Search} {l : List ℕ} (s : Searched k n a l) where
   pub held : a ≡ At i → Found k n (some i) l

@@ -21,18 +21,18 @@ use Rattle.refusals.proofs.RefusalsSaid.{said}
 -- ---- the number, as the code finds it
 
 module _ (p : Path) (s : State) {b : Bool} (e : b ≡ bad_path p) where
-  pub bad-two : b ≡ true → 2 ≡ write_refusal p s
+  pub bad_two : b ≡ true → 2 ≡ write_refusal p s
   unfolding write_refusal
-  bad-two h = rw (sym e ∙ h)
+  bad_two h = rw (sym e ∙ h)
 
   module _ {q : ℕ} (h : b ≡ false) (v : q ≡ s.seq) where
-    pub spent-three : last_seq < q → 3 ≡ write_refusal p s
+    pub spent_three : last_seq < q → 3 ≡ write_refusal p s
     unfolding write_refusal seq_spent
-    spent-three w = rw (sym e ∙ h, ← v, lt-ltb last_seq q w)
+    spent_three w = rw (sym e ∙ h, ← v, lt-ltb last_seq q w)
 
-    pub none-zero : q ≤ last_seq → 0 ≡ write_refusal p s
+    pub none_zero : q ≤ last_seq → 0 ≡ write_refusal p s
     unfolding write_refusal seq_spent
-    none-zero w = rw (sym e ∙ h, ← v, le-ltb last_seq q w)
+    none_zero w = rw (sym e ∙ h, ← v, le-ltb last_seq q w)
 
 -- ---- a write that is refused, and one that goes on
 

@@ -181,15 +181,15 @@ unfolding kept_rows keep_rows
 stay_start = record { same = refl }
 
 module _ {kind time : ℕ} {a : NodeAddr} {n i : ℕ} {l : List ℕ} (s : AllStay kind time a n i l) where
-  pub stay-turn : {b : Bool} → i < n → b ≡ sweep_test kind time a (row_at i (view_rows n l).rows) → b ≡ false → AllStay kind time a n (i + 1) l
-  stay-turn h t f =
+  pub stay_turn : {b : Bool} → i < n → b ≡ sweep_test kind time a (row_at i (view_rows n l).rows) → b ≡ false → AllStay kind time a n (i + 1) l
+  stay_turn h t f =
       let rs = (view_rows n l).rows in
       let k : i < length rs = omega (arith, view_length n l) in
       let q : take (i + 1) rs ≡ take i rs ++ (row_at i rs ∷ []) = ap (λ (x : ℕ). take x rs) (add-one i) ∙ take-suc rs i blank_row k in
       record { same = kept_next kind time a i rs false k (sym t ∙ f) ∙ ap (λ (xs : List Row). xs ++ (row_at i rs ∷ [])) s.same ∙ sym q }
 
-  pub stay-end : n ≤ i → kept_rows kind time a (view_rows n l).rows ≡ (view_rows n l).rows
-  stay-end h =
+  pub stay_end : n ≤ i → kept_rows kind time a (view_rows n l).rows ≡ (view_rows n l).rows
+  stay_end h =
       let q : take i (view_rows n l).rows ≡ (view_rows n l).rows = take_all i (view_rows n l).rows (omega (arith, view_length n l)) in
       subst (λ (xs : List Row). kept_rows kind time a xs ≡ xs) q s.same
 

@@ -16,7 +16,7 @@ use Rattle.rules.specs.Memory.{capacity, view_rows}
 use Rattle.rules.specs.Layout.{head_size, number_limit, row_size}
 use Rattle.rules.proofs.Limits.{max_of}
 use Rattle.rules.proofs.Addresses.{contradiction}
-use Rattle.rules.proofs.RowLists.{by_cond, by-maybe, lowest_at, total_change}
+use Rattle.rules.proofs.RowLists.{by_cond, by_maybe, lowest_at, total_change}
 use Rattle.rules.proofs.SoundTest.{sound_is}
 use Rattle.rules.proofs.Moves.{ready}
 use Rattle.rules.proofs.Walks.{Ends, Led, next_led, start_led, main_of, next_restamp, next_park, turns_lapsed, turns_last, turns_stale, place_is}
@@ -54,7 +54,7 @@ same_park w i e = record { stored_weight = refl; row_count = refl; weights = e }
 lapsed_same : (now n : ℕ) (w : Walk) → Same w (return_lapsed n now w)
 unfolding return_lapsed
 lapsed_same now zero w = record { stored_weight = refl; row_count = refl; weights = refl }
-lapsed_same now (suc n) w = by-maybe (Same w) (lowest_stamp parked w.state.rows)
+lapsed_same now (suc n) w = by_maybe (Same w) (lowest_stamp parked w.state.rows)
     (λ d. record { stored_weight = refl; row_count = refl; weights = refl })
     (λ i d. let g = lowest_at parked w.state.rows i d in
     by_cond (Same w) (ltb (row_at i w.state.rows).stamp_first now)
@@ -88,7 +88,7 @@ yields_some i w l p =
 seek_yields : (now n : ℕ) (w : Walk) → Yields w (seek n now w)
 unfolding seek
 seek_yields now zero w = yields_none w
-seek_yields now (suc n) w = by-maybe (Yields w) (lowest_stamp by_use w.state.rows)
+seek_yields now (suc n) w = by_maybe (Yields w) (lowest_stamp by_use w.state.rows)
     (λ d. yields_none w)
     (λ i d.
     let g = lowest_at by_use w.state.rows i d in
@@ -159,23 +159,23 @@ pub record Choice (q : Call) (count stored i e : ℕ) (m : List ℕ) : Type 0 wh
 
 module _ {q : Call} {count stored i e : ℕ} {m : List ℕ} (k : Choice q count stored i e m) where
   -- what has_room asks
-  pub choice-asks : (q.max ≤ max_rows) × (stored ≤ max_rows * 256) × (q.w ≤ weight_bound q.max)
-  choice-asks = (k.most, omega (arith, k.choosing.small), k.bound)
+  pub choice_asks : (q.max ≤ max_rows) × (stored ≤ max_rows * 256) × (q.w ≤ weight_bound q.max)
+  choice_asks = (k.most, omega (arith, k.choosing.small), k.bound)
 
   choice_test : has_room q.w (view_rows q.n m) ≡ fits q count stored
   unfolding has_room
   choice_test = sym (rw (k.choosing.mains, k.choosing.loads, k.max, ← ap max_of k.choosing.led.limits))
 
   -- seq has room for the walk that is left
-  pub choice-seq : (view_rows q.n m).seq + total (main_visits q.now) (view_rows q.n m).rows < number_limit
-  choice-seq = omega (arith, k.stamps, k.choosing.led.done, k.choosing.led.stamps)
+  pub choice_seq : (view_rows q.n m).seq + total (main_visits q.now) (view_rows q.n m).rows < number_limit
+  choice_seq = omega (arith, k.stamps, k.choosing.led.done, k.choosing.led.stamps)
 
-  pub chosen-enough : {b : Bool} → b ≡ fits q count stored → b ≡ true →
+  pub chosen_enough : {b : Bool} → b ≡ fits q count stored → b ≡ true →
       record { made = true; walk = walk_from (view_rows q.n m) e } ≡ choosing q.now q.w (walk_from (given q) 0)
-  chosen-enough h t = sym (k.choosing.same ∙ choose_done q.now q.w (walk_from (view_rows q.n m) e) (choice_test ∙ sym h ∙ t))
+  chosen_enough h t = sym (k.choosing.same ∙ choose_done q.now q.w (walk_from (view_rows q.n m) e) (choice_test ∙ sym h ∙ t))
 
-  pub set-aside : SetAside q.mains (record { made = true; left = count; stored = stored; last = i; examined = e }) (view_rows q.n m)
-  set-aside = record { mains = k.choosing.mains; weighs = k.choosing.loads; light = k.choosing.small; last = k.last }
+  pub set_aside_lem : SetAside q.mains (record { made = true; left = count; stored = stored; last = i; examined = e }) (view_rows q.n m)
+  set_aside_lem = record { mains = k.choosing.mains; weighs = k.choosing.loads; light = k.choosing.small; last = k.last }
 
 pub choice_start : (q : Call) {main : LowestOfMain} {stored i : ℕ} → head_size + q.n * row_size ≤ length q.memory → sound (capacity q.memory) (given q) ≡ true →
     (given q).seq + total (main_visits q.now) (given q).rows < number_limit → MainIs main (given q).rows → q.mains ≡ main.count →

@@ -90,20 +90,20 @@ module _ {now n i c w : ℕ} {rs : List Row} (t : Weighed now n i c w rs) where
         weight = omega (arith, t.weight, sum_down (λ r. cond (verified_in_main now r) r.weight 0) i (i - 1) rs (omega arith) g);
       }
 
-  pub weighed-in : {b : Bool} {v x : ℕ} → 0 < i → b ≡ verified_in_main now (row_at (i - 1) rs) → b ≡ true → v ≡ (row_at (i - 1) rs).weight → (x ≡ v) × (x < 256) →
+  pub weighed_in : {b : Bool} {v x : ℕ} → 0 < i → b ≡ verified_in_main now (row_at (i - 1) rs) → b ≡ true → v ≡ (row_at (i - 1) rs).weight → (x ≡ v) × (x < 256) →
       Weighed now n (i - 1) (c + 1) (w + x) rs
-  weighed-in {x = x} z h f e q = let k = sym h ∙ f in brings 1 x (c + 1) (w + x) z (omega arith) (omega (arith, q.1)) refl refl (rw k) (rw (k, q.0, e))
+  weighed_in {x = x} z h f e q = let k = sym h ∙ f in brings 1 x (c + 1) (w + x) z (omega arith) (omega (arith, q.1)) refl refl (rw k) (rw (k, q.0, e))
 
-  pub weighed-past : {b : Bool} → 0 < i → b ≡ verified_in_main now (row_at (i - 1) rs) → b ≡ false → Weighed now n (i - 1) c w rs
-  weighed-past z h f = let k = sym h ∙ f in brings 0 0 c w z (omega arith) (omega arith) (omega arith) (omega arith) (rw k) (rw k)
+  pub weighed_past : {b : Bool} → 0 < i → b ≡ verified_in_main now (row_at (i - 1) rs) → b ≡ false → Weighed now n (i - 1) c w rs
+  weighed_past z h f = let k = sym h ∙ f in brings 0 0 c w z (omega arith) (omega arith) (omega arith) (omega arith) (rw k) (rw k)
 
 module _ {now n i c w u m x : ℕ} {l : List ℕ} (b : Bounds u m x n l) (t : Weighed now n i c w (view_rows n l).rows) where
-  pub weighed-small : w ≤ max_rows * 255
-  weighed-small = omega (arith, t.light, t.long, (sound_small (capacity l) (view_rows n l) b.sound).rows)
+  pub weighed_small : w ≤ max_rows * 255
+  weighed_small = omega (arith, t.light, t.long, (sound_small (capacity l) (view_rows n l) b.sound).rows)
 
-  pub weighed-end : {r : Bool} → i ≤ 0 → r ≡ ltb c m && leb (w + x) (weight_bound m) → r ≡ room_can_be_made now u (view_rows n l)
+  pub weighed_end : {r : Bool} → i ≤ 0 → r ≡ ltb c m && leb (w + x) (weight_bound m) → r ≡ room_can_be_made now u (view_rows n l)
   unfolding room_can_be_made
-  weighed-end z h =
+  weighed_end z h =
       let e : i ≡ 0 = omega arith in
       let k = subst (λ (j : ℕ). Weighed now n j c w (view_rows n l).rows) e t in
       h ∙ rw (b.cut, b.max, k.count, k.weight)

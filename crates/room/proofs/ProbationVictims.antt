@@ -99,13 +99,13 @@ module _ (n : ℕ) (l : List ℕ) {max bound : ℕ} {r : LowestStamp}
   limit = eb ∙ ap probation_bound (em ∙ (same_head 0 n l).max_entries)
 
   -- there is room
-  pub room-free : {k : ℕ} → r.count < bound → Evicted n Nothing k 0 l l
+  pub room_free : {k : ℕ} → r.count < bound → Evicted n Nothing k 0 l l
   unfolding make_probation_room without_victim
-  room-free h = (sym (evict_done (probation_limit (view_rows n l)) (visits (view_rows n l)) (walk_from (view_rows n l) 0) (rw (← limit, ← c.count) (lt-ltb r.count bound h))), at_none _ _ refl)
+  room_free h = (sym (evict_done (probation_limit (view_rows n l)) (visits (view_rows n l)) (walk_from (view_rows n l) 0) (rw (← limit, ← c.count) (lt-ltb r.count bound h))), at_none _ _ refl)
 
-  pub evict-start : {k : ℕ} → head_size + n * row_size ≤ length l → sound (capacity l) (view_rows n l) ≡ true →
+  pub evict_start : {k : ℕ} → head_size + n * row_size ≤ length l → sound (capacity l) (view_rows n l) ≡ true →
       (view_rows n l).seq + total probation_visits (view_rows n l).rows < number_limit → k ≡ (view_rows 0 l).stored_weight → bound ≤ r.count → Evicting n 0 k l l
-  evict-start h z s q b =
+  evict_start h z s q b =
       record {
         long = refl;
         size = h;
@@ -141,12 +141,12 @@ taken {n} {i = i} {m = m} {v = v} g h q =
     let rs = (view_rows n m).rows in
     let d = found_at v i (lowest_stamp probation rs) h q in
     let o = lowest_at probation rs i d in
-    let w = some-visit (row_at i rs) (stale (row_at i rs)) refl o.there in
+    let w = some_visit (row_at i rs) (stale (row_at i rs)) refl o.there in
     record { lowest = d; there = o.there; visit = omega (arith, total_some probation_visits i rs o.inside); inside = omega (arith, o.inside, view_length n m); going = g }
   where
-    some-visit : (r : Row) (b : Bool) → stale r ≡ b → at_place probation r ≡ true → 1 ≤ probation_visits r
-    some-visit r true a p = omega (arith, visits_of r true p a)
-    some-visit r false a p = omega (arith, visits_of r false p a)
+    some_visit : (r : Row) (b : Bool) → stale r ≡ b → at_place probation r ≡ true → 1 ≤ probation_visits r
+    some_visit r true a p = omega (arith, visits_of r true p a)
+    some_visit r false a p = omega (arith, visits_of r false p a)
 
 -- it was restamped, and memory x shows the rows then
 pub record Turned (n e k : ℕ) (l m x : List ℕ) : Type 0 where
@@ -164,13 +164,13 @@ module _ {n e k i : ℕ} {l m : List ℕ} (u : Taken n e k i l m) where
   key_fits = omega (arith, u.visit, u.going.keys)
 
   -- what restamp asks
-  pub restamp-asks : (i < n) × (head_size + n * row_size ≤ length m) × ((view_rows n m).seq < largest_number)
-  restamp-asks = (u.inside, u.going.size, omega (arith, u.visit, u.going.stamps))
+  pub restamp_asks : (i < n) × (head_size + n * row_size ≤ length m) × ((view_rows n m).seq < largest_number)
+  restamp_asks = (u.inside, u.going.size, omega (arith, u.visit, u.going.stamps))
 
-  pub stale-turn : {b : Bool} {x : List ℕ} → b ≡ stale (row_at i (view_rows n m).rows) → b ≡ true → length x ≡ length m → view_rows n x ≡ restamp i (view_rows n m) →
+  pub stale_turn : {b : Bool} {x : List ℕ} → b ≡ stale (row_at i (view_rows n m).rows) → b ≡ true → length x ≡ length m → view_rows n x ≡ restamp i (view_rows n m) →
       Turned n e k l m x
   unfolding take_up restamp stamp raised with_rows
-  stale-turn h d len z =
+  stale_turn h d len z =
       let a = sym h ∙ d in
       let g = u.going in
       let t = view_rows n m in
@@ -200,9 +200,9 @@ module _ {n e k i : ℕ} {l m : List ℕ} (u : Taken n e k i l m) where
       }
 
   -- without the victim probation is not full, as it was not over the bound
-  pub fresh-yields : {b : Bool} → b ≡ stale (row_at i (view_rows n m).rows) → b ≡ false → Evicted n (At i) k (e + 1) l m
+  pub fresh_yields : {b : Bool} → b ≡ stale (row_at i (view_rows n m).rows) → b ≡ false → Evicted n (At i) k (e + 1) l m
   unfolding make_probation_room take_up take_out with_only_rows without_victim
-  fresh-yields h o =
+  fresh_yields h o =
       let a = sym h ∙ o in
       let g = u.going in
       let t = view_rows n m in

@@ -15,7 +15,7 @@ use Rattle.rules.specs.Room.{Walk, Chosen, next_victim, has_room, set_aside, put
 use Rattle.rules.specs.Memory.{capacity, view_rows}
 use Rattle.rules.specs.Layout.{head_size, row_size}
 use Rattle.rules.proofs.Addresses.{contradiction}
-use Rattle.rules.proofs.RowLists.{Core, by_cond, by-maybe, cores, core, every_map, every_mapped, map_cores}
+use Rattle.rules.proofs.RowLists.{Core, by_cond, by_maybe, cores, core, every_map, every_mapped, map_cores}
 use Rattle.rules.proofs.SoundTest.{RowOk, and_left, and_right, sound_is}
 use Rattle.rules.proofs.Moves.{ready}
 use Rattle.rules.proofs.Walks.{Going, Led, back_core, choose_led, not_at, start_led}
@@ -74,7 +74,7 @@ choose_held now w (suc n) v =
     let s = (next_yields now v).same in
     by_cond (λ (c : Chosen). Held v c.walk) (has_room w v.state)
     (λ e. record { stored_weight = refl; row_count = refl })
-    (λ e. by-maybe (λ (c : Chosen). Held v c.walk) x.victim
+    (λ e. by_maybe (λ (c : Chosen). Held v c.walk) x.victim
     (λ d. record { stored_weight = s.stored_weight; row_count = s.row_count })
     (λ i d. let k = choose_held now w n (set_aside i x.walk) in record { stored_weight = k.stored_weight ∙ s.stored_weight; row_count = k.row_count ∙ s.row_count }))
 
@@ -129,25 +129,25 @@ module _ {w m x n stored : ℕ} {l : List ℕ} (u : Bounds w m x n l) (es : stor
   load = es ∙ (same_head 0 n l).stored_weight
 
   -- what has_room asks
-  pub stored-asks : (m ≤ max_rows) × (stored ≤ max_rows * 256) × (x ≤ weight_bound m)
-  stored-asks = room_asks u (omega (arith, load, (sound_small (capacity l) (view_rows n l) u.sound).stored))
+  pub stored_asks : (m ≤ max_rows) × (stored ≤ max_rows * 256) × (x ≤ weight_bound m)
+  stored_asks = room_asks u (omega (arith, load, (sound_small (capacity l) (view_rows n l) u.sound).stored))
 
   module _ {count : ℕ} {b : Bool} (ec : count ≡ main_count (view_rows n l)) (t : b ≡ ltb count m && leb (stored + x) (weight_bound m)) where
     pub full : b ≡ false → has_room x (view_rows n l) ≡ false
     unfolding has_room
     full q = sym (t ∙ rw (u.max, ec, load, (sound_is (capacity l) (view_rows n l) u.sound).stored_weight)) ∙ q
 
-    pub main-there : (now : ℕ) {r : RoomAnswer} → b ≡ true → Unsought n stored r → Settles now w n l l r
-    main-there now {r} q a =
+    pub main_there : (now : ℕ) {r : RoomAnswer} → b ≡ true → Unsought n stored r → Settles now w n l l r
+    main_there now {r} q a =
         there now w n stored l r a (room_there now w (capacity l) m count stored x (view_rows n l) b u.sound u.max ec load u.cut t q)
 
   -- main has at most all rows
-  pub rows-there : (now : ℕ) {b : Bool} {r : RoomAnswer} → b ≡ ltb n m && leb (stored + x) (weight_bound m) → b ≡ true → Unsought n stored r → Settles now w n l l r
-  rows-there now t q a =
+  pub rows_there : (now : ℕ) {b : Bool} {r : RoomAnswer} → b ≡ ltb n m && leb (stored + x) (weight_bound m) → b ≡ true → Unsought n stored r → Settles now w n l l r
+  rows_there now t q a =
       let s = view_rows n l in
       let y = sym t ∙ q in
       let c : main_count s < m = omega (arith, count_few in_main s.rows, view_length n l, ltb-true n m (and_left (ltb n m) (leb (stored + x) (weight_bound m)) y)) in
-      main-there {b = true} refl (rw (lt-ltb (main_count s) m c, and_right (ltb n m) (leb (stored + x) (weight_bound m)) y)) now refl a
+      main_there {b = true} refl (rw (lt-ltb (main_count s) m c, and_right (ltb n m) (leb (stored + x) (weight_bound m)) y)) now refl a
 
 -- ---- victims were chosen, and stand aside in memory t; main had count rows
 
@@ -198,12 +198,12 @@ module _ {now w n count : ℕ} {c : ChosenAnswer} {l t : List ℕ} (u : Aside no
       }
 
   -- what drop_aside asks
-  pub drop-asks : (n ≤ max_rows) × (head_size + n * row_size ≤ length t) × PathsFit (view_rows n t).rows
-  drop-asks = (few n l u.sound, omega (arith, u.size, u.long), waits.paths)
+  pub drop_asks : (n ≤ max_rows) × (head_size + n * row_size ≤ length t) × PathsFit (view_rows n t).rows
+  drop_asks = (few n l u.sound, omega (arith, u.size, u.long), waits.paths)
 
-  room-made : (x : State) → c.made ≡ true → x ≡ with_only_rows (not_aside (view_rows n t).rows) (view_rows n t) → room_as true c.examined x ≡ make_room now w (view_rows n l)
+  room_made : (x : State) → c.made ≡ true → x ≡ with_only_rows (not_aside (view_rows n t).rows) (view_rows n t) → room_as true c.examined x ≡ make_room now w (view_rows n l)
   unfolding make_room settled chosen_of
-  room-made x m e = rw (← u.chosen, m, e)
+  room_made x m e = rw (← u.chosen, m, e)
 
   -- the only victim stays, and is what would leave
   pub one_left : c.made ≡ true → count - c.left ≡ 1 → Settles now w n l t (record { made = true; rows = n; victim = At c.last; stored = c.stored; examined = c.examined })
@@ -217,12 +217,12 @@ module _ {now w n count : ℕ} {c : ChosenAnswer} {l t : List ℕ} (u : Aside no
       let only = one_aside c.last v.rows (a.last.inside k) there (omega (arith, back_mains v.rows, waits.mains, u.mains, a.mains)) in
       let out = aside_not_main (row_at c.last v.rows) there in
       let q = left_at c.last c.stored s.rows v.rows (sound_is (capacity l) s u.sound).rising waits.same (a.last.inside k) out a.weighs a.light in
-      (room-made (take_out c.last v) m (rw only), omega arith, at_one (λ i. LeftAt i c.stored s.rows v.rows) _ _ refl q, λ f. contradiction refl f)
+      (room_made (take_out c.last v) m (rw only), omega arith, at_one (λ i. LeftAt i c.stored s.rows v.rows) _ _ refl q, λ f. contradiction refl f)
 
-  pub all-dropped : (j : ℕ) (y : List ℕ) → c.made ≡ true → (j ≤ n) × (view_rows j y ≡ with_only_rows (not_aside (view_rows n t).rows) (view_rows n t)) →
+  pub all_dropped : (j : ℕ) (y : List ℕ) → c.made ≡ true → (j ≤ n) × (view_rows j y ≡ with_only_rows (not_aside (view_rows n t).rows) (view_rows n t)) →
       Settles now w n l y (record { made = true; rows = j; victim = Nothing; stored = c.stored; examined = c.examined })
   unfolding room_of without_victim
-  all-dropped j y m d = (room-made (view_rows j y) m d.1, d.0, at_none _ _ refl, λ f. contradiction refl f)
+  all_dropped j y m d = (room_made (view_rows j y) m d.1, d.0, at_none _ _ refl, λ f. contradiction refl f)
 
   pub all_back : (k : ℕ) (y : List ℕ) → c.made ≡ false → view_rows n y ≡ with_rows (map put_back (view_rows n t).rows) (view_rows n t) →
       Settles now w n l y (record { made = false; rows = n; victim = Nothing; stored = k; examined = c.examined })

@@ -89,11 +89,11 @@ unfolding with_rows
 rows_twice f rs s = refl
 
 module _ {n i : ℕ} {l x : List ℕ} (b : Backed n i l x) where
-  pub backed-turn : {y : List ℕ} → i < n → length y ≡ length x → view_rows n y ≡ with_rows (change_row put_back i (view_rows n x).rows) (view_rows n x) → Backed n (i + 1) l y
-  backed-turn h k e =
+  pub backed_turn : {y : List ℕ} → i < n → length y ≡ length x → view_rows n y ≡ with_rows (change_row put_back i (view_rows n x).rows) (view_rows n x) → Backed n (i + 1) l y
+  backed_turn h k e =
       let s = view_rows n l in
       let q = ap (λ (z : State). with_rows (change_row put_back i z.rows) z) b.same ∙ rows_twice (change_row put_back i) (back_to i s.rows) s in
       record { within = omega arith; long = k ∙ b.long; same = e ∙ q ∙ ap (λ (rs : List Row). with_rows rs s) (back_step i s.rows) ∙ rw add-one refl }
 
-  pub backed-end : n ≤ i → view_rows n x ≡ with_rows (map put_back (view_rows n l).rows) (view_rows n l)
-  backed-end h = b.same ∙ ap (λ (rs : List Row). with_rows rs (view_rows n l)) (back_all i (view_rows n l).rows (omega (arith, b.within, view_length n l)))
+  pub backed_end : n ≤ i → view_rows n x ≡ with_rows (map put_back (view_rows n l).rows) (view_rows n l)
+  backed_end h = b.same ∙ ap (λ (rs : List Row). with_rows rs (view_rows n l)) (back_all i (view_rows n l).rows (omega (arith, b.within, view_length n l)))

@@ -14,7 +14,7 @@ use stamps::lowest::{Lowest, lowest_stamp};
 use stamps::row::{is_stale, restamp};
 
 // Room in probation: the victim, left where it is, the weight that is stored without it, and the keys taken up.
-#[derive(Drop)]
+#[derive(Clone, Copy)]
 pub struct ProbationRoom {
     pub victim: Lowest,
     pub stored: u64,

@@ -20,7 +20,7 @@ use stamps::walk::next_victim;
 use types::node_addr::NodeAddr;
 
 // Whether enough victims were chosen; the main rows that are left and their weight; the row that was set aside last; the keys taken up.
-#[derive(Drop)]
+#[derive(Clone, Copy)]
 struct Chosen {
     made: bool,
     left: u64,
@@ -32,7 +32,7 @@ struct Chosen {
 // Whether room was made in main, the rows there are, and the keys taken up. Where one victim is enough, it is left where it
 // is, counted among the rows, for the row that takes its place; `stored` is then the weight that is stored without it, and without
 // a victim means nothing.
-#[derive(Drop)]
+#[derive(Clone, Copy)]
 pub struct Room {
     pub made: bool,
     pub rows: usize,

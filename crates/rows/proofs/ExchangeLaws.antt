@@ -43,8 +43,8 @@ unfolding with_rows
 opened i j s t rs e p = rw e (record { before = p.0; behind = p.1; others = refl })
 
 module _ (l : List ℕ) (n i j : ℕ) (k : head_size + n * row_size ≤ length l) where
-  pub opened-down : i < j → j < n → Opened i j (view_rows n l) (view_rows n (take (head_size + i * row_size) l ++ (slice (head_size + i * row_size + row_size) (head_size + (j + 1) * row_size) l ++ drop (head_size + (j + 1) * row_size - row_size) l)))
-  opened-down h g =
+  pub opened_down : i < j → j < n → Opened i j (view_rows n l) (view_rows n (take (head_size + i * row_size) l ++ (slice (head_size + i * row_size + row_size) (head_size + (j + 1) * row_size) l ++ drop (head_size + (j + 1) * row_size - row_size) l)))
+  opened_down h g =
       let a : head_size + i * row_size + row_size ≡ head_size + suc i * row_size = omega arith in
       let b : head_size + (j + 1) * row_size - row_size ≡ head_size + j * row_size = omega arith in
       let d : head_size + (j + 1) * row_size ≡ head_size + suc j * row_size = omega arith in

@@ -14,7 +14,7 @@ use raw::layout;
 use types::coord::Path;
 use types::node_addr::NodeAddr;
 
-#[derive(Drop)]
+#[derive(Clone, Copy)]
 pub struct NewRow {
     pub key: NodeAddr,
     pub path: Path,

@@ -20,7 +20,7 @@ use Rattle.rules.proofs.Addresses.{contradiction}
 use Rattle.rules.proofs.SoundTest.{is_sound, sound_is}
 use Rattle.rules.proofs.Walks.{room_roomed}
 use Rattle.rules.proofs.Moves.{probation_evict, ready}
-use Rattle.rules.proofs.Refused.{by-step, given_exactly}
+use Rattle.rules.proofs.Refused.{by_step, given_exactly}
 use Rattle.rules.proofs.CallsKeep.{without_key_out}
 use Rattle.rules.proofs.SoundKept.{both_segments, perform_keeps}
 
@@ -58,11 +58,11 @@ probation_room R s h = (probation_evict R s (sound_is R s h)).few
 -- EXAMINED IS AT MOST TWICE THE ROWS HELD BEFORE THE CALL
 pub step_examined : (R : ℕ) (s : State) (q : Call) → examined_of (step R s q).answer ≤ 2 * length s.rows
 unfolding gives examined_of
-step_examined R s q = by-step R s q (λ (t : Step). examined_of t.answer ≤ 2 * length s.rows) (λ n. omega arith)
+step_examined R s q = by_step R s q (λ (t : Step). examined_of t.answer ≤ 2 * length s.rows) (λ n. omega arith)
     (λ l. let h = sound_is R s l.sound in omega (arith, (perform_keeps R s q l).seen, both_segments s.seq s.rows h.each))
 
 -- A CALL RAISES seq BY LESS THAN 4,096
 pub step_stamps : (R : ℕ) (s : State) (q : Call) → (step R s q).state.seq < s.seq + stamps_of_call
 unfolding gives
-step_stamps R s q = by-step R s q (λ (t : Step). t.state.seq < s.seq + stamps_of_call) (λ n. omega arith)
+step_stamps R s q = by_step R s q (λ (t : Step). t.state.seq < s.seq + stamps_of_call) (λ n. omega arith)
     (λ l. let h = sound_is R s l.sound in let g = perform_keeps R s q l in omega (arith, g.stamps, g.seen, h.small, h.space, h.mains, h.probations))

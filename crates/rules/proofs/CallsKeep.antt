@@ -27,7 +27,7 @@ use Rattle.rules.specs.Refusals.{Step, bad_path, gives, hinted, key_in_main, no_
 use Rattle.rules.specs.Lists.{Event}
 use Rattle.rules.specs.Demand.{account_after, accounts_after, expiry_of, must_spare, names_other, not_past, verified_until_of, within_funding}
 use Rattle.rules.proofs.Addresses.{contradiction, same_false, same_true}
-use Rattle.rules.proofs.RowLists.{Core, Found, by_cond, by-maybe, core, cores, every-all, every_at, every-both, every_keep, every_map, find_at, find_none, look, look_keep, of_cores, rising_unique, to_cores}
+use Rattle.rules.proofs.RowLists.{Core, Found, by_cond, by_maybe, core, cores, every_all, every_at, every_both, every_keep, every_map, find_at, find_none, look, look_keep, of_cores, rising_unique, to_cores}
 use Rattle.rules.proofs.Limits.{limits_of, probation_of, ttl_of}
 use Rattle.rules.proofs.SoundTest.{RowOk, Sound, and_left, and_right}
 use Rattle.rules.proofs.Walks.{room_roomed}
@@ -78,7 +78,7 @@ demand_same : (a : NodeAddr → ℕ) (s : State) (q : Call) (m : Answer) → Qui
 unfolding gives accounts_after within_funding
 demand_same a s q m e h = record {
   default_ttl = refl;
-  accounted = every_map (λ y z. by-maybe (λ n. n ≡ charge y) (key_named q) (λ d. z) (λ k d. by_cond (λ n. n ≡ charge y) (same_addr y.key k) (λ t. e.account (a y.key) ∙ z) (λ t. z))) (cores s.rows) h;
+  accounted = every_map (λ y z. by_maybe (λ n. n ≡ charge y) (key_named q) (λ d. z) (λ k d. by_cond (λ n. n ≡ charge y) (same_addr y.key k) (λ t. e.account (a y.key) ∙ z) (λ t. z))) (cores s.rows) h;
   funded = subst (λ n. covers (funding_of q) n ≡ true) (sym e.charge) (covers_zero (funding_of q));
   spared = λ ttl v x d e s. s;
 }
@@ -110,7 +110,7 @@ demand_named : (a : NodeAddr → ℕ) (s : State) (q : Call) (t : Step) (k : Nod
 unfolding accounts_after must_spare names_other
 demand_named a s q t k named notRefused leaves own paid h = record {
   default_ttl = ap ttl_of leaves.limits;
-  accounted = every-both (λ y f g. rw named (by_cond (λ n. n ≡ charge y) (same_addr y.key k)
+  accounted = every_both (λ y f g. rw named (by_cond (λ n. n ≡ charge y) (same_addr y.key k)
       (λ e. let z = same_true y.key k e in rw z (sym (g z)))
       (λ e. f (same_false y.key k e))))
       (cores t.state.rows) (leaves.others (λ y. a y.key ≡ charge y) (every_map (λ y e z. e) (cores s.rows) h)) own;
@@ -159,7 +159,7 @@ taken_out R k now i s h g = record { sound = take_out_sound R i s h; leaves = ta
 
 pub without_key_out : (R : ℕ) (k : NodeAddr) (now : ℕ) (s : State) → Sound R s → Out R k now s (without_key k s)
 unfolding without_key
-without_key_out R k now s h = by-maybe (Out R k now s) (find k s.rows)
+without_key_out R k now s h = by_maybe (Out R k now s) (find k s.rows)
     (λ e. record { sound = h; leaves = leaves_refl s; gone = find_none k s.rows e; rows = omega arith; mains = omega arith; limits = refl; seq = refl })
     (λ i e. taken_out R k now i s h (find_at k s.rows i e))
 
@@ -193,7 +193,7 @@ verified_free R k p now s h f = go (key_in_main k s) refl (leb (main_limit R s) 
 
 verified_is : (k : NodeAddr) (p : Path) (now : ℕ) (mtu : Option ℕ) (s : State) → from_verified (verified_entry k p now mtu s) ≡ true
 unfolding verified_entry mark_verified set_mtu
-verified_is k p now mtu s = by-maybe (λ (e : Entry). from_verified e ≡ true) mtu (λ e. refl) (λ m e. refl)
+verified_is k p now mtu s = by_maybe (λ (e : Entry). from_verified e ≡ true) mtu (λ e. refl) (λ m e. refl)
 
 pub verified_fixed : (k : NodeAddr) (p : Path) (now w : ℕ) (mtu : Option ℕ) (s : State) → Fixed s.default_ttl (record { key = k; path = p; time = now }) (record { key = k; entry = verified_entry k p now mtu s; weight = w; on_probation = false })
 unfolding verified_entry mark_verified new_entry update set_mtu expiry_of verified_until_of
@@ -306,12 +306,12 @@ mark_hint_hint e = refl
 
 touched_left : {R : ℕ} (k : NodeAddr) (now a : ℕ) (s : State) → Sound R s → Own k a s → Left R k now a s (touched k now s)
 unfolding touched
-touched_left {R} k now a s h o = by-maybe (Left R k now a s) (find k s.rows) (λ e. same_left s h o) (λ i e. let g = find_at k s.rows i e in
+touched_left {R} k now a s h o = by_maybe (Left R k now a s) (find k s.rows) (λ e. same_left s h o) (λ i e. let g = find_at k s.rows i e in
     by_cond (Left R k now a s) (expired now (row_at i s.rows).entry) (λ x. out_left s (take_out i s) (taken_out R k now i s h g)) (λ x. rewrite_left (refresh now s.default_ttl) i s h o g (refresh_ok s.seq now s.default_ttl (row_at i s.rows))))
 
 demoted_left : {R : ℕ} (k : NodeAddr) (now a : ℕ) (s : State) → Sound R s → Own k a s → Left R k now a s (demoted k s)
 unfolding demoted
-demoted_left {R} k now a s h o = by-maybe (Left R k now a s) (find k s.rows) (λ e. same_left s h o) (λ i e.
+demoted_left {R} k now a s h o = by_maybe (Left R k now a s) (find k s.rows) (λ e. same_left s h o) (λ i e.
     let g = find_at k s.rows i e in
     let r = row_at i s.rows in
     let ok = every_at (RowOk s.seq) i s.rows g.inside h.each in
@@ -321,7 +321,7 @@ demoted_left {R} k now a s h o = by-maybe (Left R k now a s) (find k s.rows) (λ
 
 clear_path_mtu_left : {R : ℕ} (k : NodeAddr) (now a : ℕ) (s : State) → Sound R s → Own k a s → Left R k now a s (clear_path_mtu k s)
 unfolding clear_path_mtu
-clear_path_mtu_left {R} k now a s h o = by-maybe (Left R k now a s) (find k s.rows) (λ e. same_left s h o) (λ i e. rewrite_left drop_mtu i s h o (find_at k s.rows i e) (drop_mtu_ok s.seq (row_at i s.rows)))
+clear_path_mtu_left {R} k now a s h o = by_maybe (Left R k now a s) (find k s.rows) (λ e. same_left s h o) (λ i e. rewrite_left drop_mtu i s h o (find_at k s.rows i e) (drop_mtu_ok s.seq (row_at i s.rows)))
 
 keeps_left : (R : ℕ) (a : NodeAddr → ℕ) (s d : State) (q : Call) (k : NodeAddr) (m : Answer) → key_named q ≡ some k → was_refused m ≡ false → Quiet q m → Left R k (clock q) (a k) s d → Accounted a s → CallKeeps R a s q (gives m d)
 keeps_left R a s d q k m named done e l c = keeps_done R a s d q k m named done e l.leaves l.own l.sound l.stamps c
@@ -347,7 +347,7 @@ keeps_sweep R a s q m named f h c =
             let w = sweep_matches q (as_written v.path) (expiry_of ttl v) in
             let e2 : not_past (verified_until_of v) q && not w ≡ true = rw named at e in
             let z : m x.entry ≡ false = f ttl v x d (not-true w (and_right (not_past (verified_until_of v) q) (not w) e2)) in
-            look_keep v.key x p s.rows (every-all (λ r g. subst (λ (u : Core). not (m u.entry) ≡ true) (sym g) (rw z)) s.rows) l;
+            look_keep v.key x p s.rows (every_all (λ r g. subst (λ (u : Core). not (m u.entry) ≡ true) (sym g) (rw z)) s.rows) l;
       };
       sound = keep_sound R s p h;
       stamps = omega arith;

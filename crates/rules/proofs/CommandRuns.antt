@@ -24,7 +24,7 @@ use Rattle.rules.specs.Refusals.{Asked, Request, refusal, serve}
 use Rattle.rules.specs.Answers.{refusal_of}
 use Rattle.rules.specs.Commands.{Code, Command, Decoded, Element, Elements, Funds, Line, Operands, Output, Plain, Requests, Session, WithPath, Writes, after_six, code, code_of, codes, decode, decode_in, element_reply, funded, kind_in, line, obey, obeyed, pended, read_as, reads, refused_six, reply, run_commands, takes_path}
 use Rattle.rules.proofs.Addresses.{contradiction}
-use Rattle.rules.proofs.RowLists.{by-maybe, cond-some}
+use Rattle.rules.proofs.RowLists.{by_maybe, cond_some}
 use Rattle.rules.proofs.SoundTest.{and_case}
 use Rattle.rules.proofs.Refused.{Iff, not_six, refusal_number}
 
@@ -34,7 +34,7 @@ use Rattle.rules.proofs.Refused.{Iff, not_six, refusal_number}
 pub code_found : (P : Code → Type 0) (b : ℕ) (cs : List Code) (c : Code) → Every P cs → code_of b cs ≡ some c → (b ≡ c.byte) × P c
 unfolding code_of
 code_found P b [] c h e = contradiction {b = true} refl (cc)
-code_found P b (x ∷ cs) c h e = cond-some (eqb b x.byte) e (λ t p. subst (λ (y : Code). (b ≡ y.byte) × P y) p (eqb-true b x.byte t, h.0)) (λ t p. code_found P b cs c h.1 p)
+code_found P b (x ∷ cs) c h e = cond_some (eqb b x.byte) e (λ t p. subst (λ (y : Code). (b ≡ y.byte) × P y) p (eqb-true b x.byte t, h.0)) (λ t p. code_found P b cs c h.1 p)
 
 -- a test of every code of a table, computed
 unfoldable pub all_codes : (Code → Bool) → List Code → Bool
@@ -61,7 +61,7 @@ pub record Taken (cs : List Code) (b : ℕ) (bs : List ℕ) (d : Decoded) : Type
 -- A COMMAND TAKES ITS OPERANDS AND NO MORE
 pub taken : (cs : List Code) (b : ℕ) (bs : List ℕ) (d : Decoded) → decode_in cs b bs ≡ some d → Taken cs b bs d
 unfolding decode_in
-taken cs b bs d = by-maybe (λ (o : Option Decoded). o ≡ some d → Taken cs b bs d) (code_of b cs) (λ e h. nothing h) (λ c e h. at c e (leb c.width (length bs)) refl (reads c (take c.width bs)) refl h)
+taken cs b bs d = by_maybe (λ (o : Option Decoded). o ≡ some d → Taken cs b bs d) (code_of b cs) (λ e h. nothing h) (λ c e h. at c e (leb c.width (length bs)) refl (reads c (take c.width bs)) refl h)
   where
     nothing : none ≡ some d → Taken cs b bs d
     nothing h = contradiction {b = true} refl (cc)
@@ -174,7 +174,7 @@ reply_number (ExpiryGiven none) = refl
 reply_number (ExpiryGiven (some t)) = refl
 
 pub answer_not_six : (R : ℕ) (s : State) (x : Request) → (reply (serve R s x).answer).refusal ≡ 6 → ⊥
-answer_not_six R s x = subst (λ (n : ℕ). n ≡ 6 → ⊥) (sym (reply_number (serve R s x).answer ∙ refusal_number R s x)) (by-maybe (λ (n : ℕ). n ≡ 6 → ⊥) (refusal R s x) (λ e h. let z : ⊥ = omega arith in z) (λ n e. not_six R s x n e))
+answer_not_six R s x = subst (λ (n : ℕ). n ≡ 6 → ⊥) (sym (reply_number (serve R s x).answer ∙ refusal_number R s x)) (by_maybe (λ (n : ℕ). n ≡ 6 → ⊥) (refusal R s x) (λ e h. let z : ⊥ = omega arith in z) (λ n e. not_six R s x n e))
 
 -- an element that is taken, or has no place
 pub element_not_six : (p : Path) (e : CoordEntry) → (element_reply (appended p e)).refusal ≡ 6 → ⊥

@@ -95,11 +95,11 @@ insert_verified_with_path_mtu k p t m = InsertVerifiedWithPathMtu k p t m
 
 -- a row in numbers: key, length, created_at, last_used, expires_at, MTU mark and value, source, verified_until, place, stamp, weight
 unfoldable pub row_numbers : Row → List ℕ
-row_numbers r = firstByte r.key.0 ∷ r.entry.path.len ∷ r.entry.created_at ∷ r.entry.last_used ∷ r.entry.expires_at ∷ r.entry.mtu_mark ∷ r.entry.mtu ∷ r.entry.source ∷ r.entry.verified_until ∷ r.place ∷ r.stamp_first ∷ r.stamp_seq ∷ r.weight ∷ []
+row_numbers r = first_byte r.key.0 ∷ r.entry.path.len ∷ r.entry.created_at ∷ r.entry.last_used ∷ r.entry.expires_at ∷ r.entry.mtu_mark ∷ r.entry.mtu ∷ r.entry.source ∷ r.entry.verified_until ∷ r.place ∷ r.stamp_first ∷ r.stamp_seq ∷ r.weight ∷ []
   where
-    firstByte : List ℕ → ℕ
-    firstByte [] = 0
-    firstByte (b ∷ bs) = b
+    first_byte : List ℕ → ℕ
+    first_byte [] = 0
+    first_byte (b ∷ bs) = b
 
 -- what is seen of a list of calls: its answers, and the state after it in numbers
 pub record Seen : Type 0 where

@@ -14,8 +14,8 @@ use Rattle.rules.specs.Records.{Entry, empty_entry, with_mtu, with_path, with_so
 use Rattle.rules.specs.Layout.{address_size, byte_size, coord_entry_size, created_at_offset, entry_size, expires_at_offset, last_used_offset, length_offset, mtu_mark_offset, mtu_offset, mtu_size, number_size, path_size, places_offset, places_size, source_offset, verified_until_offset}
 use Rattle.rules.specs.Memory.{coord_entries_bytes, coord_entries_of, cut, entry_bytes, entry_of, le_bytes, mtu_bytes, path_bytes, path_of, source_bytes, used_bytes}
 use Rattle.rules.specs.Lent.{Bytes, CoordEntryFits, PathFits, Small}
-use Rattle.rules.proofs.RowLists.{every_append, every-copy, every_take}
-use Rattle.rules.proofs.MemoryLaws.{bytes_append, bytes_drop, cut_front, cut_small, drop_take_add, elements_length, elements_of_fit, elements_of_length, elements_view, elems_memory, entries_bytes, field, last-kept, last_number, le_bytes_lem, length_le, number, number-kept, number_then}
+use Rattle.rules.proofs.RowLists.{every_append, every_copy, every_take}
+use Rattle.rules.proofs.MemoryLaws.{bytes_append, bytes_drop, cut_front, cut_small, drop_take_add, elements_length, elements_of_fit, elements_of_length, elements_view, elems_memory, entries_bytes, field, last_kept, last_number, le_bytes_lem, length_le, number, number_kept, number_then}
 
 pub record EntryFits (e : Entry) : Type 0 where
   pub len : Small byte_size e.path.len
@@ -64,7 +64,7 @@ entry_memory c b h =
     let entries : (t : List ℕ) → t ≡ drop created_at_offset c → coord_entries_bytes (coord_entries_of path_places (drop places_offset c)) ++ t ≡ drop places_offset c =
     λ t e. ap (λ (u : List ℕ). coord_entries_bytes (coord_entries_of path_places (drop places_offset c)) ++ u) (e ∙ sym (drop-drop places_size places_offset c)) ∙ elems_memory path_places (drop places_offset c) d (bytes_drop places_offset c b) in
     fields (entry_of c)
-    ∙ number-kept c b length_offset byte_size _ (omega arith) (entries _ (number-kept c b created_at_offset number_size _ (omega arith) (number-kept c b last_used_offset number_size _ (omega arith) (number-kept c b expires_at_offset number_size _ (omega arith) (number-kept c b mtu_mark_offset byte_size _ (omega arith) (number-kept c b mtu_offset mtu_size _ (omega arith) (number-kept c b source_offset byte_size _ (omega arith) (last-kept c b verified_until_offset number_size h))))))))
+    ∙ number_kept c b length_offset byte_size _ (omega arith) (entries _ (number_kept c b created_at_offset number_size _ (omega arith) (number_kept c b last_used_offset number_size _ (omega arith) (number_kept c b expires_at_offset number_size _ (omega arith) (number_kept c b mtu_mark_offset byte_size _ (omega arith) (number_kept c b mtu_offset mtu_size _ (omega arith) (number_kept c b source_offset byte_size _ (omega arith) (last_kept c b verified_until_offset number_size h))))))))
 
 -- what is read of bytes fits
 pub entry_fits_of : (c : List ℕ) → length c ≡ entry_size → Bytes c → EntryFits (entry_of c)
@@ -94,10 +94,10 @@ entry_bytes_lem e h =
 
 zero_fits : CoordEntryFits zero_entry
 unfolding zero_entry
-zero_fits = record { address = record { size = refl; bytes = every-copy (λ b. b < 256) address_size (omega arith) }; sequence = omega arith; timestamp = omega arith }
+zero_fits = record { address = record { size = refl; bytes = every_copy (λ b. b < 256) address_size (omega arith) }; sequence = omega arith; timestamp = omega arith }
 
 pub zeros_fit : (n : ℕ) → Every CoordEntryFits (replicate n zero_entry)
-zeros_fit n = every-copy CoordEntryFits n zero_fits
+zeros_fit n = every_copy CoordEntryFits n zero_fits
 
 -- what is written fits where what is given does
 pub written_fits : (p : Path) → PathFits p → p.len ≤ path_places → PathFits (as_written p)
@@ -150,8 +150,8 @@ module _ (k w : ℕ) (vs c d : List ℕ) (s : Stored k vs c d) (e : length vs �
   before : (a m : ℕ) → a + m ≤ k → cut a m c ≡ cut a m d
   before a m h = sym (cut_front a m k c h) ∙ ap (cut a m) s.before ∙ cut_front a m k d h
 
-  before-path : path_size ≤ k → path_of c ≡ path_of d
-  before-path h = path_front c ∙ ap path_of (sym (take-take path_size k c h) ∙ ap (take path_size) s.before ∙ take-take path_size k d h) ∙ sym (path_front d)
+  before_path : path_size ≤ k → path_of c ≡ path_of d
+  before_path h = path_front c ∙ ap path_of (sym (take-take path_size k c h) ∙ ap (take path_size) s.before ∙ take-take path_size k d h) ∙ sym (path_front d)
 
   rest : drop (k + w) c ≡ drop (k + w) d
   rest = sym (drop-drop w k c) ∙ ap (drop w) s.from ∙ drop_at vs (drop (k + length vs) d) w e ∙ ap (λ (n : ℕ). drop (k + n) d) e
@@ -186,7 +186,7 @@ times_read c d used expires u x s =
     let n1 = number expires_at_offset number_size expires c r n0.on x in
     let a = before last_used_offset (mtu_mark_offset - last_used_offset) _ c d s w in
     let b = behind last_used_offset (mtu_mark_offset - last_used_offset) _ c d s w in
-    rw (before-path last_used_offset (mtu_mark_offset - last_used_offset) _ c d s w (omega arith), a created_at_offset number_size (omega arith), n0.is, n1.is, b mtu_mark_offset byte_size (omega arith), b mtu_offset mtu_size (omega arith), b source_offset byte_size (omega arith), b verified_until_offset number_size (omega arith))
+    rw (before_path last_used_offset (mtu_mark_offset - last_used_offset) _ c d s w (omega arith), a created_at_offset number_size (omega arith), n0.is, n1.is, b mtu_mark_offset byte_size (omega arith), b mtu_offset mtu_size (omega arith), b source_offset byte_size (omega arith), b verified_until_offset number_size (omega arith))
 
 pub mtu_read : (c d : List ℕ) (mark m : ℕ) → Small byte_size mark → Small mtu_size m → Stored mtu_mark_offset (mtu_bytes (with_mtu mark m (empty_entry 0))) c d → entry_of c ≡ with_mtu mark m (entry_of d)
 unfolding entry_of
@@ -197,7 +197,7 @@ mtu_read c d mark m k v s =
     let n1 = number mtu_offset mtu_size m c r n0.on v in
     let a = before mtu_mark_offset (source_offset - mtu_mark_offset) _ c d s w in
     let b = behind mtu_mark_offset (source_offset - mtu_mark_offset) _ c d s w in
-    rw (before-path mtu_mark_offset (source_offset - mtu_mark_offset) _ c d s w (omega arith), a created_at_offset number_size (omega arith), a last_used_offset number_size (omega arith), a expires_at_offset number_size (omega arith), n0.is, n1.is, b source_offset byte_size (omega arith), b verified_until_offset number_size (omega arith))
+    rw (before_path mtu_mark_offset (source_offset - mtu_mark_offset) _ c d s w (omega arith), a created_at_offset number_size (omega arith), a last_used_offset number_size (omega arith), a expires_at_offset number_size (omega arith), n0.is, n1.is, b source_offset byte_size (omega arith), b verified_until_offset number_size (omega arith))
 
 pub source_read : (c d : List ℕ) (source until : ℕ) → Small byte_size source → Small number_size until → Stored source_offset (source_bytes (with_source source until (empty_entry 0))) c d → entry_of c ≡ with_source source until (entry_of d)
 unfolding entry_of
@@ -207,4 +207,4 @@ source_read c d source until k u s =
     let n0 = number source_offset byte_size source c (le_bytes number_size until ++ r) (s.from ∙ append_assoc (le_bytes byte_size source) (le_bytes number_size until) r) k in
     let n1 = number verified_until_offset number_size until c r n0.on u in
     let a = before source_offset (entry_size - source_offset) _ c d s w in
-    rw (before-path source_offset (entry_size - source_offset) _ c d s w (omega arith), a created_at_offset number_size (omega arith), a last_used_offset number_size (omega arith), a expires_at_offset number_size (omega arith), a mtu_mark_offset byte_size (omega arith), a mtu_offset mtu_size (omega arith), n0.is, n1.is)
+    rw (before_path source_offset (entry_size - source_offset) _ c d s w (omega arith), a created_at_offset number_size (omega arith), a last_used_offset number_size (omega arith), a expires_at_offset number_size (omega arith), a mtu_mark_offset byte_size (omega arith), a mtu_offset mtu_size (omega arith), n0.is, n1.is)

@@ -26,13 +26,13 @@ use Rattle.rules.specs.Calls.{Call, Clear, ClearPathMtu, Demote, Get, GetAndTouc
 use Rattle.rules.specs.Refusals.{Step, bad_path, fresh, gives, hinted, last_seq, perform, seq_spent, step, sweeps, verifies}
 use Rattle.rules.specs.Lent.{AddrFits, Bytes, PathFits, Small, Typed, WriteFits}
 use Rattle.rules.proofs.Addresses.{contradiction}
-use Rattle.rules.proofs.RowLists.{by_cond, by-maybe, every_at, find_at}
+use Rattle.rules.proofs.RowLists.{by_cond, by_maybe, every_at, find_at}
 use Rattle.rules.proofs.SoundTest.{Sound, sound_is}
 use Rattle.rules.proofs.MemoryLaws.{bytes_append}
 use Rattle.rules.proofs.EntryLaws.{EntryFits, empty_fits, mtu_fits, path_fits, source_fits, times_fit}
 use Rattle.rules.proofs.ViewLaws.{Fits}
 use Rattle.rules.proofs.Others.{PathOk, take_out_seq}
-use Rattle.rules.proofs.Refused.{Allowed, by-step}
+use Rattle.rules.proofs.Refused.{Allowed, by_step}
 use Rattle.rules.proofs.CallsKeep.{path_ok}
 use Rattle.rules.proofs.SoundKept.{perform_keeps}
 use Rattle.rules.proofs.Sizes.{Lasting, Sized, change_sized, file_sized, fits_sized, keep_sized, only_sized, probation_sized, refile_sized, room_sized, sized_fits, small8, small8_less, sum_small, take_out_sized, zero_bytes, zero_length}
@@ -84,31 +84,31 @@ module _ (R B : ℕ) (l : R * row_size ≤ B) (k : NodeAddr) (kf : AddrFits k) w
   filed : (s : State) (e : Entry) (w p : ℕ) → EntryFits e → Sized B s → Sound R (file_new k e w p s) → Sized B (file_new k e w p s)
   filed s e w p f h g = file_sized R B k e w p s l kf f h g
 
-  probation-keeps : (s : State) (e : Entry) (w : ℕ) (b : Bool) (n : ℕ) → EntryFits e → Sized B s → KeepsSize (new_in_probation k e w b n s)
+  probation_keeps : (s : State) (e : Entry) (w : ℕ) (b : Bool) (n : ℕ) → EntryFits e → Sized B s → KeepsSize (new_in_probation k e w b n s)
   unfolding new_in_probation place_result
-  probation-keeps s e w b n f h g = filed (make_probation_room s).state e w probation f (probation_sized B s h) g
+  probation_keeps s e w b n f h g = filed (make_probation_room s).state e w probation f (probation_sized B s h) g
 
-  without-keeps : (g : Funding) (e : Entry) (w : ℕ) (m : Room) → EntryFits e → Sized B m.state → KeepsSize (new_without_room g k e w m)
+  without_keeps : (g : Funding) (e : Entry) (w : ℕ) (m : Room) → EntryFits e → Sized B m.state → KeepsSize (new_without_room g k e w m)
   unfolding new_without_room rejected place_result
-  without-keeps Uncharged e w m f h g = h
-  without-keeps (Upto n) e w m f h g = probation-keeps m.state e w false m.examined f h g
+  without_keeps Uncharged e w m f h g = h
+  without_keeps (Upto n) e w m f h g = probation_keeps m.state e w false m.examined f h g
 
   module _ (p : Path) (now ttl : ℕ) (fu : Funding) (po : PathOk p) (pf : PathFits p) (ns : Small number_size now) where
-    placeNew-keeps : (s : State) → Sized B s → KeepsSize (place_new k p now ttl fu s)
+    place_new_keeps : (s : State) → Sized B s → KeepsSize (place_new k p now ttl fu s)
     unfolding place_new place_result
-    placeNew-keeps s h =
+    place_new_keeps s h =
         let w = path_weight p in
         let e = new_entry p now ttl in
         let m = make_room now w s in
         let f = new_fits p now ttl po pf ns in
         let hm = room_sized B now w s h in
         by_cond KeepsSize (covers fu w)
-        (λ x. by_cond KeepsSize m.made (λ y g. filed m.state e w by_use f hm g) (λ y. without-keeps fu e w m f hm))
-        (λ x. probation-keeps s e w true 0 f h)
+        (λ x. by_cond KeepsSize m.made (λ y g. filed m.state e w by_use f hm g) (λ y. without_keeps fu e w m f hm))
+        (λ x. probation_keeps s e w true 0 f h)
 
-    placeProbation-keeps : (s : State) (i : ℕ) → i < length s.rows → Sized B s → KeepsSize (place_probation k p now ttl fu i s)
+    place_probation_keeps : (s : State) (i : ℕ) → i < length s.rows → Sized B s → KeepsSize (place_probation k p now ttl fu i s)
     unfolding place_probation promote place_result
-    placeProbation-keeps s i il h =
+    place_probation_keeps s i il h =
         let r = row_at i s.rows in
         let w = max (path_weight p) r.weight in
         let e = update p now ttl r.entry in
@@ -119,9 +119,9 @@ module _ (R B : ℕ) (l : R * row_size ≤ B) (k : NodeAddr) (kf : AddrFits k) w
         (λ x. by_cond KeepsSize m.made (λ y g. filed m.state e w by_use f hm g) (λ y g. filed m.state e w probation f hm g))
         (λ x g. refile_sized B e w i s f h)
 
-    placeMain-keeps : (s : State) (st : Bool) (i : ℕ) → i < length s.rows → Sized B s → KeepsSize (place_main k p now ttl fu st i s)
+    place_main_keeps : (s : State) (st : Bool) (i : ℕ) → i < length s.rows → Sized B s → KeepsSize (place_main k p now ttl fu st i s)
     unfolding place_main grow place_result rejected
-    placeMain-keeps s st i il h =
+    place_main_keeps s st i il h =
         let r = row_at i s.rows in
         let w = path_weight p in
         let e = update p now ttl r.entry in
@@ -133,44 +133,44 @@ module _ (R B : ℕ) (l : R * row_size ≤ B) (k : NodeAddr) (kf : AddrFits k) w
         (λ y. by_cond KeepsSize (m.made || st) (λ z g. filed m.state e w by_use f hm g) (λ z g. filed m.state r.entry r.weight by_use (held_fits B i s h il) hm g))
         (λ y g. h))
 
-    placeHint-keeps : (s : State) (st : Bool) → Sized B s → KeepsSize (place_hint k p now ttl fu st s)
+    place_hint_keeps : (s : State) (st : Bool) → Sized B s → KeepsSize (place_hint k p now ttl fu st s)
     unfolding place_hint place_held rejected place_result
-    placeHint-keeps s st h = by-maybe KeepsSize (find k s.rows) (λ e. placeNew-keeps s h) (λ i e.
+    place_hint_keeps s st h = by_maybe KeepsSize (find k s.rows) (λ e. place_new_keeps s h) (λ i e.
         let g = find_at k s.rows i e in
-        by_cond KeepsSize (expired now (row_at i s.rows).entry) (λ x. placeNew-keeps (take_out i s) (take_out_sized B i s h))
+        by_cond KeepsSize (expired now (row_at i s.rows).entry) (λ x. place_new_keeps (take_out i s) (take_out_sized B i s h))
         (λ x. by_cond KeepsSize (stays_verified p now st (row_at i s.rows)) (λ y z. h)
-        (λ y. by_cond KeepsSize (in_main (row_at i s.rows)) (λ m. placeMain-keeps s st i g.inside h) (λ m. placeProbation-keeps s i g.inside h))))
+        (λ y. by_cond KeepsSize (in_main (row_at i s.rows)) (λ m. place_main_keeps s st i g.inside h) (λ m. place_probation_keeps s i g.inside h))))
 
-  withoutKey-sized : (s : State) → Sized B s → Sized B (without_key k s)
+  without_key_sized : (s : State) → Sized B s → Sized B (without_key k s)
   unfolding without_key
-  withoutKey-sized s h = by-maybe (Sized B) (find k s.rows) (λ e. h) (λ i e. take_out_sized B i s h)
+  without_key_sized s h = by_maybe (Sized B) (find k s.rows) (λ e. h) (λ i e. take_out_sized B i s h)
 
-  entry-fits : (p : Path) (now : ℕ) (mtu : Option ℕ) (s : State) → PathOk p → PathFits p → Small number_size now → ((m : ℕ) → mtu ≡ some m → Small mtu_size m) → Sized B s → EntryFits (verified_entry k p now mtu s)
+  entry_fits : (p : Path) (now : ℕ) (mtu : Option ℕ) (s : State) → PathOk p → PathFits p → Small number_size now → ((m : ℕ) → mtu ≡ some m → Small mtu_size m) → Sized B s → EntryFits (verified_entry k p now mtu s)
   unfolding verified_entry
-  entry-fits p now mtu s po pf ns ms h =
-      let base : EntryFits (maybe (find k s.rows) (new_entry p now s.default_ttl) (λ i. update p now s.default_ttl (row_at i s.rows).entry)) = by-maybe EntryFits (find k s.rows) (λ e. new_fits p now s.default_ttl po pf ns) (λ i e. update_fits p now s.default_ttl (row_at i s.rows).entry po pf ns (held_fits B i s h (find_at k s.rows i e).inside)) in
+  entry_fits p now mtu s po pf ns ms h =
+      let base : EntryFits (maybe (find k s.rows) (new_entry p now s.default_ttl) (λ i. update p now s.default_ttl (row_at i s.rows).entry)) = by_maybe EntryFits (find k s.rows) (λ e. new_fits p now s.default_ttl po pf ns) (λ i e. update_fits p now s.default_ttl (row_at i s.rows).entry po pf ns (held_fits B i s h (find_at k s.rows i e).inside)) in
       let v = verified_fits now _ base in
-      by-maybe EntryFits mtu (λ e. v) (λ m e. set_mtu_fits m _ (ms m e) v)
+      by_maybe EntryFits mtu (λ e. v) (λ m e. set_mtu_fits m _ (ms m e) v)
 
-  insertVerified-sized : (p : Path) (now : ℕ) (mtu : Option ℕ) (s : State) → PathOk p → PathFits p → Small number_size now → ((m : ℕ) → mtu ≡ some m → Small mtu_size m) → Sized B s → Sound R (insert_verified k p now mtu s).state → Sized B (insert_verified k p now mtu s).state
+  insert_verified_sized : (p : Path) (now : ℕ) (mtu : Option ℕ) (s : State) → PathOk p → PathFits p → Small number_size now → ((m : ℕ) → mtu ≡ some m → Small mtu_size m) → Sized B s → Sound R (insert_verified k p now mtu s).state → Sized B (insert_verified k p now mtu s).state
   unfolding insert_verified
-  insertVerified-sized p now mtu s po pf ns ms h g = filed (make_room now (path_weight p) (without_key k s)).state (verified_entry k p now mtu s) (path_weight p) by_use (entry-fits p now mtu s po pf ns ms h) (room_sized B now (path_weight p) (without_key k s) (withoutKey-sized s h)) g
+  insert_verified_sized p now mtu s po pf ns ms h g = filed (make_room now (path_weight p) (without_key k s)).state (verified_entry k p now mtu s) (path_weight p) by_use (entry_fits p now mtu s po pf ns ms h) (room_sized B now (path_weight p) (without_key k s) (without_key_sized s h)) g
 
-  rewrite-sized : (f : Entry → Entry) (i : ℕ) (s : State) → ((e : Entry) → EntryFits e → EntryFits (f e)) → Sized B s → Sized B (rewrite f i s)
+  rewrite_sized : (f : Entry → Entry) (i : ℕ) (s : State) → ((e : Entry) → EntryFits e → EntryFits (f e)) → Sized B s → Sized B (rewrite f i s)
   unfolding rewrite with_rows with_entry
-  rewrite-sized f i s g h = change_sized B s (rewrite f i s) (λ r. with_entry (f r.entry) r) i (λ o. record { key = o.key; entry = g _ o.entry; stamp_first = o.stamp_first }) refl refl h
+  rewrite_sized f i s g h = change_sized B s (rewrite f i s) (λ r. with_entry (f r.entry) r) i (λ o. record { key = o.key; entry = g _ o.entry; stamp_first = o.stamp_first }) refl refl h
 
-  touched-sized : (now : ℕ) (s : State) → Small number_size now → Sized B s → Sized B (touched k now s)
+  touched_sized : (now : ℕ) (s : State) → Small number_size now → Sized B s → Sized B (touched k now s)
   unfolding touched
-  touched-sized now s n h = by-maybe (Sized B) (find k s.rows) (λ e. h) (λ i e. by_cond (Sized B) (expired now (row_at i s.rows).entry) (λ x. take_out_sized B i s h) (λ x. rewrite-sized (refresh now s.default_ttl) i s (λ e. refresh_fits now s.default_ttl e n) h))
+  touched_sized now s n h = by_maybe (Sized B) (find k s.rows) (λ e. h) (λ i e. by_cond (Sized B) (expired now (row_at i s.rows).entry) (λ x. take_out_sized B i s h) (λ x. rewrite_sized (refresh now s.default_ttl) i s (λ e. refresh_fits now s.default_ttl e n) h))
 
-  demoted-sized : (s : State) → Sized B s → Sized B (demoted k s)
+  demoted_sized : (s : State) → Sized B s → Sized B (demoted k s)
   unfolding demoted
-  demoted-sized s h = by-maybe (Sized B) (find k s.rows) (λ e. h) (λ i e. by_cond (Sized B) (at_place parked (row_at i s.rows)) (λ x. refile_sized B (mark_hint (row_at i s.rows).entry) (row_at i s.rows).weight i s (hint_fits _ (held_fits B i s h (find_at k s.rows i e).inside)) h) (λ x. rewrite-sized mark_hint i s hint_fits h))
+  demoted_sized s h = by_maybe (Sized B) (find k s.rows) (λ e. h) (λ i e. by_cond (Sized B) (at_place parked (row_at i s.rows)) (λ x. refile_sized B (mark_hint (row_at i s.rows).entry) (row_at i s.rows).weight i s (hint_fits _ (held_fits B i s h (find_at k s.rows i e).inside)) h) (λ x. rewrite_sized mark_hint i s hint_fits h))
 
-  clearMtu-sized : (s : State) → Sized B s → Sized B (clear_path_mtu k s)
+  clear_mtu_sized : (s : State) → Sized B s → Sized B (clear_path_mtu k s)
   unfolding clear_path_mtu
-  clearMtu-sized s h = by-maybe (Sized B) (find k s.rows) (λ e. h) (λ i e. rewrite-sized drop_mtu i s drop_mtu_fits h)
+  clear_mtu_sized s h = by_maybe (Sized B) (find k s.rows) (λ e. h) (λ i e. rewrite_sized drop_mtu i s drop_mtu_fits h)
 
 -- ---- every call that is not refused
 
@@ -178,51 +178,51 @@ module _ (R B : ℕ) (l : R * row_size ≤ B) (s : State) (h : Sized B s) where
   abbrev StepKeepsSize : Step → Type 0
   StepKeepsSize t = Sound R t.state → Sized B t.state
 
-  hint-sized : (k : NodeAddr) (p : Path) (t ttl : ℕ) (f : Funding) (st : Bool) → WriteFits k p t → bad_path p ≡ false → StepKeepsSize (hinted (place_hint k p t ttl f st s))
+  hint_sized : (k : NodeAddr) (p : Path) (t ttl : ℕ) (f : Funding) (st : Bool) → WriteFits k p t → bad_path p ≡ false → StepKeepsSize (hinted (place_hint k p t ttl f st s))
   unfolding hinted gives
-  hint-sized k p t ttl f st w e = placeHint-keeps R B l k w.key p t ttl f (path_ok p e) w.path w.time s st h
+  hint_sized k p t ttl f st w e = place_hint_keeps R B l k w.key p t ttl f (path_ok p e) w.path w.time s st h
 
-  verify-sized : (k : NodeAddr) (p : Path) (t : ℕ) (mtu : Option ℕ) → WriteFits k p t → bad_path p ≡ false → ((m : ℕ) → mtu ≡ some m → Small mtu_size m) → StepKeepsSize (verifies k p t mtu s)
+  verify_sized : (k : NodeAddr) (p : Path) (t : ℕ) (mtu : Option ℕ) → WriteFits k p t → bad_path p ≡ false → ((m : ℕ) → mtu ≡ some m → Small mtu_size m) → StepKeepsSize (verifies k p t mtu s)
   unfolding verifies gives
-  verify-sized k p t mtu w e ms = insertVerified-sized R B l k w.key p t mtu s (path_ok p e) w.path w.time ms h
+  verify_sized k p t mtu w e ms = insert_verified_sized R B l k w.key p t mtu s (path_ok p e) w.path w.time ms h
 
-  sweep-sized : (m : Entry → Bool) → StepKeepsSize (sweeps m s)
+  sweep_sized : (m : Entry → Bool) → StepKeepsSize (sweeps m s)
   unfolding sweeps gives sweep
-  sweep-sized m g = keep_sized B (λ r. not (m r.entry)) s h
+  sweep_sized m g = keep_sized B (λ r. not (m r.entry)) s h
 
-  perform-sized : (q : Call) → Typed q → maybe (path_given q) false bad_path ≡ false → StepKeepsSize (perform s q)
+  perform_sized : (q : Call) → Typed q → maybe (path_given q) false bad_path ≡ false → StepKeepsSize (perform s q)
   unfolding perform gives path_given
-  perform-sized (Insert k p t) w e = hint-sized k p t s.default_ttl Uncharged false w e
-  perform-sized (InsertWithTtl k p t u) w e = hint-sized k p t u Uncharged false w e
-  perform-sized (InsertFunded k p t f) w e = hint-sized k p t s.default_ttl f false w e
-  perform-sized (InsertStated k p t f) w e = hint-sized k p t s.default_ttl f (starts_at k p) w e
-  perform-sized (InsertVerified k p t) w e = verify-sized k p t none w e (λ m e. contradiction {b = true} refl (cc))
-  perform-sized (InsertVerifiedWithPathMtu k p t m) w e = verify-sized k p t (some m) w.0 e (λ n e. let z : m ≡ n = cc in subst (Small mtu_size) z w.1)
-  perform-sized (Get k t) w e = λ g. h
-  perform-sized (GetAndTouch k t) w e = λ g. touched-sized R B l k w.0 t s w.1 h
-  perform-sized (Remove k) w e = λ g. withoutKey-sized R B l k w s h
-  perform-sized (Demote k) w e = λ g. demoted-sized R B l k w s h
-  perform-sized (ClearPathMtu k) w e = λ g. clearMtu-sized R B l k w s h
-  perform-sized (PurgeExpired t) w e = sweep-sized (expired t)
-  perform-sized Clear w e = λ g. only_sized B s [] h (omega arith) tt
-  perform-sized (InvalidateViaNode a) w e = sweep-sized (λ e. contains a e.path)
-  perform-sized (InvalidateOtherRoots a) w e = sweep-sized (λ e. not (same_addr (root_of e.path) a))
-  perform-sized (Stats t) w e = λ g. h
-  perform-sized NextExpiry w e = λ g. h
+  perform_sized (Insert k p t) w e = hint_sized k p t s.default_ttl Uncharged false w e
+  perform_sized (InsertWithTtl k p t u) w e = hint_sized k p t u Uncharged false w e
+  perform_sized (InsertFunded k p t f) w e = hint_sized k p t s.default_ttl f false w e
+  perform_sized (InsertStated k p t f) w e = hint_sized k p t s.default_ttl f (starts_at k p) w e
+  perform_sized (InsertVerified k p t) w e = verify_sized k p t none w e (λ m e. contradiction {b = true} refl (cc))
+  perform_sized (InsertVerifiedWithPathMtu k p t m) w e = verify_sized k p t (some m) w.0 e (λ n e. let z : m ≡ n = cc in subst (Small mtu_size) z w.1)
+  perform_sized (Get k t) w e = λ g. h
+  perform_sized (GetAndTouch k t) w e = λ g. touched_sized R B l k w.0 t s w.1 h
+  perform_sized (Remove k) w e = λ g. without_key_sized R B l k w s h
+  perform_sized (Demote k) w e = λ g. demoted_sized R B l k w s h
+  perform_sized (ClearPathMtu k) w e = λ g. clear_mtu_sized R B l k w s h
+  perform_sized (PurgeExpired t) w e = sweep_sized (expired t)
+  perform_sized Clear w e = λ g. only_sized B s [] h (omega arith) tt
+  perform_sized (InvalidateViaNode a) w e = sweep_sized (λ e. contains a e.path)
+  perform_sized (InvalidateOtherRoots a) w e = sweep_sized (λ e. not (same_addr (root_of e.path) a))
+  perform_sized (Stats t) w e = λ g. h
+  perform_sized NextExpiry w e = λ g. h
 
 -- ---- sequence numbers
 
 without_key_seq : (k : NodeAddr) (s : State) → (without_key k s).seq ≡ s.seq
 unfolding without_key
-without_key_seq k s = by-maybe (λ (d : State). d.seq ≡ s.seq) (find k s.rows) (λ e. refl) (λ i e. take_out_seq i s)
+without_key_seq k s = by_maybe (λ (d : State). d.seq ≡ s.seq) (find k s.rows) (λ e. refl) (λ i e. take_out_seq i s)
 
 touched_seq : (k : NodeAddr) (now : ℕ) (s : State) → (touched k now s).seq ≡ s.seq
 unfolding touched rewrite with_rows
-touched_seq k now s = by-maybe (λ (d : State). d.seq ≡ s.seq) (find k s.rows) (λ e. refl) (λ i e. by_cond (λ (d : State). d.seq ≡ s.seq) (expired now (row_at i s.rows).entry) (λ x. take_out_seq i s) (λ x. refl))
+touched_seq k now s = by_maybe (λ (d : State). d.seq ≡ s.seq) (find k s.rows) (λ e. refl) (λ i e. by_cond (λ (d : State). d.seq ≡ s.seq) (expired now (row_at i s.rows).entry) (λ x. take_out_seq i s) (λ x. refl))
 
 clear_mtu_seq : (k : NodeAddr) (s : State) → (clear_path_mtu k s).seq ≡ s.seq
 unfolding clear_path_mtu rewrite with_rows
-clear_mtu_seq k s = by-maybe (λ (d : State). d.seq ≡ s.seq) (find k s.rows) (λ e. refl) (λ i e. refl)
+clear_mtu_seq k s = by_maybe (λ (d : State). d.seq ≡ s.seq) (find k s.rows) (λ e. refl) (λ i e. refl)
 
 -- a call that draws no stamps leaves seq
 no_stamps : (s : State) (q : Call) → draws_stamps q ≡ false → (perform s q).state.seq ≡ s.seq
@@ -252,7 +252,7 @@ not_spent s h = omega (arith, ltb-false last_seq s.seq h)
 -- NO STAMP PASSES 2^64 − 1
 pub seq_bounded : (R : ℕ) (s : State) (q : Call) → s.seq < number_limit → (step R s q).state.seq < number_limit
 unfolding gives
-seq_bounded R s q l = by-step R s q (λ (t : Step). t.state.seq < number_limit) (λ n. l) (λ a. go a (draws_stamps q) refl (seq_spent s) refl a.stamps)
+seq_bounded R s q l = by_step R s q (λ (t : Step). t.state.seq < number_limit) (λ n. l) (λ a. go a (draws_stamps q) refl (seq_spent s) refl a.stamps)
   where
     go : Allowed R s q → (d : Bool) → draws_stamps q ≡ d → (w : Bool) → seq_spent s ≡ w → d && w ≡ false → (perform s q).state.seq < number_limit
     go a true e true f g = contradiction {b = true} refl g
@@ -262,11 +262,11 @@ seq_bounded R s q l = by-step R s q (λ (t : Step). t.state.seq < number_limit) 
 -- ---- every call keeps what fits
 
 perform_fits : (R L : ℕ) (s : State) (q : Call) → head_size ≤ L → R * row_size ≤ L - head_size → Typed q → Fits L s → Allowed R s q → (perform s q).state.seq < number_limit → Fits L (perform s q).state
-perform_fits R L s q a l g h o b = let k = perform_keeps R s q o in sized_fits R L (perform s q).state a k.sound (perform-sized R (L - head_size) l s (fits_sized L s h) q g o.path k.sound) (rw k.demand.default_ttl h.default_ttl) b
+perform_fits R L s q a l g h o b = let k = perform_keeps R s q o in sized_fits R L (perform s q).state a k.sound (perform_sized R (L - head_size) l s (fits_sized L s h) q g o.path k.sound) (rw k.demand.default_ttl h.default_ttl) b
 
 pub step_fits : (R L : ℕ) (s : State) (q : Call) → head_size ≤ L → R * row_size ≤ L - head_size → Typed q → Fits L s → Fits L (step R s q).state
 unfolding gives
-step_fits R L s q a l g h = by-step R s q (λ (t : Step). (t.state.seq < number_limit) → Fits L t.state) (λ n b. h) (λ o b. perform_fits R L s q a l g h o b) (seq_bounded R s q (small8_less s.seq h.seq))
+step_fits R L s q a l g h = by_step R s q (λ (t : Step). (t.state.seq < number_limit) → Fits L t.state) (λ n b. h) (λ o b. perform_fits R L s q a l g h o b) (seq_bounded R s q (small8_less s.seq h.seq))
 
 -- a fresh state fits
 pub fresh_fits : (R m ttl : ℕ) (tail : List ℕ) → Small number_size m → Small number_size ttl → Bytes tail → Fits (head_size + R * row_size + length tail) (fresh R m ttl tail)

@@ -23,7 +23,7 @@ use Rattle.rules.specs.Refusals.{Asked, Step, gives, perform, perform_request, r
 use Rattle.rules.specs.Memory.{capacity, coord_entries_bytes, coord_entries_of, coord_entry_of, cut, entry_of, held_rows, path_of, row_of, view, view_rows}
 use Rattle.rules.specs.Lent.{Bytes, Typed, call, found_part, got_part, lent, path_part}
 use Rattle.rules.proofs.Addresses.{contradiction, same_ne}
-use Rattle.rules.proofs.RowLists.{by_cond, by-maybe, cores, every_at, find_at, rising_unique, row_changed}
+use Rattle.rules.proofs.RowLists.{by_cond, by_maybe, cores, every_at, find_at, rising_unique, row_changed}
 use Rattle.rules.proofs.SoundTest.{RowOk, Sound, sound_is}
 use Rattle.rules.proofs.MemoryLaws.{bytes_cut, bytes_drop, bytes_take, cut_front, elem_memory, entries_cons, length_cut, no_entries}
 use Rattle.rules.proofs.ViewLaws.{held_fits}
@@ -95,7 +95,7 @@ answer_bytes (ExpiryGiven o) = []
 -- an unexpired key's row is held, and its length is legal
 unexpired_row_lem : (R : ℕ) (k : NodeAddr) (now : ℕ) (s : State) (i : ℕ) → Sound R s → unexpired_row k now s ≡ some i → (i < length s.rows) × ((row_at i s.rows).entry.path.len ≤ path_places)
 unfolding unexpired_row
-unexpired_row_lem R k now s i h = by-maybe (λ (o : Option ℕ). o ≡ some i → (i < length s.rows) × ((row_at i s.rows).entry.path.len ≤ path_places)) (find k s.rows) (λ e g. contradiction {b = true} refl (cc))
+unexpired_row_lem R k now s i h = by_maybe (λ (o : Option ℕ). o ≡ some i → (i < length s.rows) × ((row_at i s.rows).entry.path.len ≤ path_places)) (find k s.rows) (λ e g. contradiction {b = true} refl (cc))
     (λ j e. by_cond (λ (o : Option ℕ). o ≡ some i → (i < length s.rows) × ((row_at i s.rows).entry.path.len ≤ path_places)) (expired now (row_at j s.rows).entry) (λ x g. contradiction {b = true} refl (cc))
     (λ x g. let z : j ≡ i = cc in let l = (find_at k s.rows j e).inside in subst (λ (n : ℕ). (n < length s.rows) × ((row_at n s.rows).entry.path.len ≤ path_places)) z (l, (every_at (RowOk s.seq) j s.rows l h.each).short)))
 
@@ -181,14 +181,14 @@ get_refreshed k now s i h e l x =
 -- a touched key is found as it was, and nothing is found where nothing was
 get_touched : (R : ℕ) (k : NodeAddr) (now : ℕ) (s : State) → Sound R s → now ≤ last_time → get k now (touched k now s) ≡ get k now s
 unfolding touched
-get_touched R k now s h l = by-maybe (λ (d : State). get k now d ≡ get k now s) (find k s.rows) (λ e. refl)
+get_touched R k now s h l = by_maybe (λ (d : State). get k now d ≡ get k now s) (find k s.rows) (λ e. refl)
     (λ i e. let g = find_at k s.rows i e in
     by_cond (λ (d : State). get k now d ≡ get k now s) (expired now (row_at i s.rows).entry)
-    (λ x. get_none k now (take_out i s) (find_gone k (take_out i s).rows (take_out_gone k i s (rising_unique (cores s.rows) h.rising) g.inside g.key)) ∙ sym (expired-none i e x))
+    (λ x. get_none k now (take_out i s) (find_gone k (take_out i s).rows (take_out_gone k i s (rising_unique (cores s.rows) h.rising) g.inside g.key)) ∙ sym (expired_none i e x))
     (λ x. get_refreshed k now s i l e g.inside x))
   where
-    expired-none : (i : ℕ) → find k s.rows ≡ some i → expired now (row_at i s.rows).entry ≡ true → get k now s ≡ none
-    expired-none i e x = get_some k now s i e ∙ rw x
+    expired_none : (i : ℕ) → find k s.rows ≡ some i → expired now (row_at i s.rows).entry ≡ true → get k now s ≡ none
+    expired_none i e x = get_some k now s i e ∙ rw x
 
 -- get and get_and_touch are refused alike
 same_refusal : (R : ℕ) (k : NodeAddr) (now : ℕ) (s : State) → refusal R s (Asked (Get k now)) ≡ refusal R s (Asked (GetAndTouch k now))

@@ -21,7 +21,7 @@ use Rattle.rules.proofs.Addresses.{contradiction}
 use Rattle.rules.proofs.SoundTest.{sound_is}
 use Rattle.rules.proofs.MemoryLaws.{bytes_drop}
 use Rattle.rules.proofs.ViewLaws.{Fits, memory_length, memory_view, view_memory}
-use Rattle.rules.proofs.Refused.{by-serve, by-step, done_perform, fresh_allowed, given_exactly}
+use Rattle.rules.proofs.Refused.{by_serve, by_step, done_perform, fresh_allowed, given_exactly}
 use Rattle.rules.proofs.SoundKept.{fresh_sound, step_sound}
 use Rattle.rules.proofs.ThirdDemand.{third_demand}
 use Rattle.rules.proofs.Fitting.{fresh_fits, step_fits}
@@ -51,7 +51,7 @@ sound_fits l b h = let s = sound_is (capacity l) (view l) h in view_fits l (head
 
 call_leaves : (l : List ℕ) (q : Call) → Bytes l → Typed q → Leaves l (step (capacity l) (view l) q)
 unfolding gives was_refused
-call_leaves l q b g = by-step (capacity l) (view l) q (λ (t : Step). (sound (capacity l) (view l) ≡ true → Fits (length l) t.state) → Leaves l t) (λ n f. (b, refl, refl)) (λ o f. leaves_done l (perform (view l) q) (done_perform (view l) q) (f o.sound))
+call_leaves l q b g = by_step (capacity l) (view l) q (λ (t : Step). (sound (capacity l) (view l) ≡ true → Fits (length l) t.state) → Leaves l t) (λ n f. (b, refl, refl)) (λ o f. leaves_done l (perform (view l) q) (done_perform (view l) q) (f o.sound))
     (λ h. let s = sound_is (capacity l) (view l) h in step_fits (capacity l) (length l) (view l) q (head_fits l (omega (arith, s.space))) (rows_fit l) g (sound_fits l b h))
 
 -- what stays past the R rows
@@ -77,7 +77,7 @@ size_allowed R m h = go (ltb max_rows R) (ltb R (m + probation_bound m)) refl h
 
 fresh_leaves : (l : List ℕ) (m ttl : ℕ) → Bytes l → Small number_size m → Small number_size ttl → Leaves l (serve (capacity l) (view l) (Fresh m ttl))
 unfolding gives was_refused perform_request
-fresh_leaves l m ttl b hm ht = by-serve (capacity l) (view l) (Fresh m ttl) (Leaves l) (λ n e. (b, refl, refl))
+fresh_leaves l m ttl b hm ht = by_serve (capacity l) (view l) (Fresh m ttl) (Leaves l) (λ n e. (b, refl, refl))
     (λ e. let h = head_fits l (omega (arith, size_allowed (capacity l) m (fresh_allowed (capacity l) m ttl (view l) e))) in
     leaves_done l (perform_request (capacity l) (view l) (Fresh m ttl)) refl (subst (λ (L : ℕ). Fits L (fresh (capacity l) m ttl (tail_of l))) (fresh_size_lem l h) (fresh_fits (capacity l) m ttl (tail_of l) hm ht (tail_bytes l b))))
 
@@ -140,7 +140,7 @@ reads_same s NextExpiry h = refl
 -- A READ LEAVES THE BYTES, done or refused
 pub read_leaves : (l : List ℕ) (q : Call) → Bytes l → reads q ≡ true → (call l q).memory ≡ l
 unfolding lent gives was_refused
-read_leaves l q b h = by-step (capacity l) (view l) q (λ (t : Step). cond (was_refused t.answer) l (memory t.state) ≡ l) (λ n. refl)
+read_leaves l q b h = by_step (capacity l) (view l) q (λ (t : Step). cond (was_refused t.answer) l (memory t.state) ≡ l) (λ n. refl)
     (λ o. let s = sound_is (capacity l) (view l) o.sound in rw (done_perform (view l) q, reads_same (view l) q h) (view_memory l (head_fits l (omega (arith, s.space))) b))
 
 -- ---- lists of calls
@@ -177,7 +177,7 @@ calls_run l (q ∷ qs) b g =
 
 fresh_done : (l : List ℕ) (m ttl : ℕ) → was_refused (lent l (Fresh m ttl)).answer ≡ false → (bad_size (capacity l) m ≡ false) × ((serve (capacity l) (view l) (Fresh m ttl)).state ≡ fresh (capacity l) m ttl (tail_of l))
 unfolding lent gives was_refused perform_request
-fresh_done l m ttl = by-serve (capacity l) (view l) (Fresh m ttl) (λ (t : Step). was_refused t.answer ≡ false → (bad_size (capacity l) m ≡ false) × (t.state ≡ fresh (capacity l) m ttl (tail_of l)))
+fresh_done l m ttl = by_serve (capacity l) (view l) (Fresh m ttl) (λ (t : Step). was_refused t.answer ≡ false → (bad_size (capacity l) m ≡ false) × (t.state ≡ fresh (capacity l) m ttl (tail_of l)))
     (λ n e h. contradiction {b = true} refl h) (λ e h. (fresh_allowed (capacity l) m ttl (view l) e, refl))
 
 -- the memory after a done fresh is that of a fresh state

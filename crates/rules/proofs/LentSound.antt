@@ -13,7 +13,7 @@ use Rattle.rules.specs.Refusals.{Request, Step, Fresh, Asked, bad_size, refusal,
 use Rattle.rules.specs.Answers.{refusal_of}
 use Rattle.rules.specs.Lent.{Bytes, Small, Typed, TypedRequest, lent, call}
 use Rattle.rules.specs.Commands.{reply}
-use Rattle.rules.proofs.Refused.{by-serve, fresh_refusal}
+use Rattle.rules.proofs.Refused.{by_serve, fresh_refusal}
 use Rattle.rules.proofs.SoundKept.{step_sound}
 use Rattle.rules.proofs.LentMemory.{lent_request, refused_leaves, capacity_same, freshened}
 use Rattle.rules.proofs.Public.{fresh_refused, unsound_one}
@@ -23,7 +23,7 @@ use Rattle.rules.specs.Layout.{number_size}
 
 pub number_reply : (l : List ℕ) (x : Request) → ((perform_request (capacity l) (view l) x).answer ≡ Done) → reply (lent l x).answer ≡ refuses (refusal_of (lent l x).answer)
 unfolding lent gives reply refusal_of refuses says
-number_reply l x d = by-serve (capacity l) (view l) x (λ (t : Step). reply t.answer ≡ refuses (refusal_of t.answer)) (λ n e. refl) (λ e. go (perform_request (capacity l) (view l) x).answer d)
+number_reply l x d = by_serve (capacity l) (view l) x (λ (t : Step). reply t.answer ≡ refuses (refusal_of t.answer)) (λ n e. refl) (λ e. go (perform_request (capacity l) (view l) x).answer d)
   where
     go : (a : Answer) → a ≡ Done → reply a ≡ refuses (refusal_of a)
     go a e = rw e

@@ -63,12 +63,12 @@ module _ (c : List ℕ) (b : Bytes c) where
   pub part : (k w : ℕ) (t : List ℕ) → t ≡ drop (k + w) c → cut k w c ++ t ≡ drop k c
   part k w t e = ap (λ (u : List ℕ). cut k w c ++ u) (e ∙ sym (drop-drop w k c)) ∙ take-append-drop w (drop k c)
 
-  pub number-kept : (k w : ℕ) (t : List ℕ) → k + w ≤ length c → t ≡ drop (k + w) c → le_bytes w (le_number (cut k w c)) ++ t ≡ drop k c
-  number-kept k w t h e = ap (λ (u : List ℕ). u ++ t) (rw (length_cut k w c h) at (le_num (cut k w c) (bytes_cut k w c b))) ∙ part k w t e
+  pub number_kept : (k w : ℕ) (t : List ℕ) → k + w ≤ length c → t ≡ drop (k + w) c → le_bytes w (le_number (cut k w c)) ++ t ≡ drop k c
+  number_kept k w t h e = ap (λ (u : List ℕ). u ++ t) (rw (length_cut k w c h) at (le_num (cut k w c) (bytes_cut k w c b))) ∙ part k w t e
 
   -- the last field
-  pub last-kept : (k w : ℕ) → length c ≡ k + w → le_bytes w (le_number (cut k w c)) ≡ drop k c
-  last-kept k w h = (rw (length_cut k w c (omega arith)) at (le_num (cut k w c) (bytes_cut k w c b))) ∙ take_all w (drop k c) (rw length-drop (omega arith))
+  pub last_kept : (k w : ℕ) → length c ≡ k + w → le_bytes w (le_number (cut k w c)) ≡ drop k c
+  last_kept k w h = (rw (length_cut k w c (omega arith)) at (le_num (cut k w c) (bytes_cut k w c b))) ∙ take_all w (drop k c) (rw length-drop (omega arith))
 
 entry_first : (x : CoordEntry) (xs : List CoordEntry) (t : List ℕ) → coord_entries_bytes (x ∷ xs) ++ t ≡ (addr_bytes x.node_addr ++ (le_bytes number_size x.sequence ++ le_bytes number_size x.timestamp)) ++ (coord_entries_bytes xs ++ t)
 unfolding coord_entries_bytes
@@ -88,7 +88,7 @@ entries_cons x xs = simp append_assoc
 
 pub elem_memory : (c : List ℕ) → Bytes c → length c ≡ coord_entry_size → addr_bytes (coord_entry_of c).node_addr ++ (le_bytes number_size (coord_entry_of c).sequence ++ le_bytes number_size (coord_entry_of c).timestamp) ≡ c
 unfolding coord_entry_of
-elem_memory c b k = part c b 0 address_size _ (number-kept c b sequence_offset number_size _ (omega arith) (last-kept c b timestamp_offset number_size k))
+elem_memory c b k = part c b 0 address_size _ (number_kept c b sequence_offset number_size _ (omega arith) (last_kept c b timestamp_offset number_size k))
 
 pub elems_memory : (n : ℕ) (l : List ℕ) → n * coord_entry_size ≤ length l → Bytes l → coord_entries_bytes (coord_entries_of n l) ++ drop (n * coord_entry_size) l ≡ l
 unfolding coord_entries_of

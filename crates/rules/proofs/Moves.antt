@@ -16,7 +16,7 @@ use Rattle.rules.specs.Rows.{at_place, change_row, count_rows, in_main, in_proba
 use Rattle.rules.specs.Sound.{from_verified}
 use Rattle.rules.specs.Room.{Walk, evict_below, file_new, make_probation_room, make_room, probation_visits, raised, refile, refiled, restamp, stale, stamp, take_out, take_up}
 use Rattle.rules.proofs.Addresses.{contradiction}
-use Rattle.rules.proofs.RowLists.{Core, Rising, by_cond, by-maybe, change_cores, core, cores, every_at, every_insert, every_keep, every_map, every_turned, every_without, length_change, look, look_at, look_without, lowest_at, lowest_none, of_cores, rising_change, rising_insert, rising_keep, rising_unique, rising_without, to_cores, total_change, total_insert, total_keep_le, total_le, total_twice, total_without, total_without_le}
+use Rattle.rules.proofs.RowLists.{Core, Rising, by_cond, by_maybe, change_cores, core, cores, every_at, every_insert, every_keep, every_map, every_turned, every_without, length_change, look, look_at, look_without, lowest_at, lowest_none, of_cores, rising_change, rising_insert, rising_keep, rising_unique, rising_without, to_cores, total_change, total_insert, total_keep_le, total_le, total_twice, total_without, total_without_le}
 use Rattle.rules.proofs.Limits.{limits_of, max_of, probation_of}
 use Rattle.rules.proofs.SoundTest.{RowOk, Sound}
 use Rattle.rules.proofs.Walks.{Ready, room_roomed}
@@ -172,9 +172,9 @@ unfolding probation_visits
 visits_of r b p q = rw (p, q)
 
 module _ (R : ℕ) (s : State) where
-  evict-restamp : (w : Walk) (i : ℕ) → ProbationEvicted R s w → i < length w.state.rows → at_place probation (row_at i w.state.rows) ≡ true → stale (row_at i w.state.rows) ≡ true → ProbationEvicted R s (take_up restamp i w)
+  evict_restamp : (w : Walk) (i : ℕ) → ProbationEvicted R s w → i < length w.state.rows → at_place probation (row_at i w.state.rows) ≡ true → stale (row_at i w.state.rows) ≡ true → ProbationEvicted R s (take_up restamp i w)
   unfolding take_up restamp stamp with_rows raised
-  evict-restamp w i h l p a =
+  evict_restamp w i h l p a =
       let rs = w.state.rows in
       let r = row_at i rs in
       let q = w.state.seq + 1 in
@@ -189,9 +189,9 @@ module _ (R : ℕ) (s : State) where
         stamps = omega (arith, h.stamps);
       }
 
-  evict-out : (w : Walk) (i : ℕ) → ProbationEvicted R s w → i < length w.state.rows → at_place probation (row_at i w.state.rows) ≡ true → stale (row_at i w.state.rows) ≡ false → ProbationEvicted R s (take_up take_out i w)
+  evict_out : (w : Walk) (i : ℕ) → ProbationEvicted R s w → i < length w.state.rows → at_place probation (row_at i w.state.rows) ≡ true → stale (row_at i w.state.rows) ≡ false → ProbationEvicted R s (take_up take_out i w)
   unfolding take_up take_out with_only_rows
-  evict-out w i h l p a =
+  evict_out w i h l p a =
       let rs = w.state.rows in
       let r = row_at i rs in
       record {
@@ -239,12 +239,12 @@ unfolding evict_below take_up
 evict_evicted R b s zero w z e h = record { evicted = h; few = omega (arith, total_le (λ r. cond (in_probation r) 1 0) probation_visits probation_le w.state.rows) }
 evict_evicted R b s (suc n) w z e h = by_cond (EvictedBelow R b s) (ltb (probation_count w.state) b)
     (λ d. record { evicted = h; few = ltb-true (probation_count w.state) b d })
-    (λ d. by-maybe (EvictedBelow R b s) (lowest_stamp probation w.state.rows)
+    (λ d. by_maybe (EvictedBelow R b s) (lowest_stamp probation w.state.rows)
     (λ f. record { evicted = h; few = omega (arith, none_count w.state.rows (lowest_none probation w.state.rows f)) })
     (λ i f. let g = lowest_at probation w.state.rows i f in
     by_cond (λ (act : ℕ → State → State). EvictedBelow R b s (evict_below b n (take_up act i w))) (stale (row_at i w.state.rows))
-    (λ a. let k = evict-restamp R s w i h g.inside g.there a in evict_evicted R b s n (take_up restamp i w) z (less (take_up restamp i w) (up restamp i w) k) k)
-    (λ a. let k = evict-out R s w i h g.inside g.there a in evict_evicted R b s n (take_up take_out i w) z (less (take_up take_out i w) (up take_out i w) k) k)))
+    (λ a. let k = evict_restamp R s w i h g.inside g.there a in evict_evicted R b s n (take_up restamp i w) z (less (take_up restamp i w) (up restamp i w) k) k)
+    (λ a. let k = evict_out R s w i h g.inside g.there a in evict_evicted R b s n (take_up take_out i w) z (less (take_up take_out i w) (up take_out i w) k) k)))
   where
     less : (x : Walk) → x.examined ≡ w.examined + 1 → ProbationEvicted R s x → n ≡ total probation_visits x.state.rows
     less x u k = omega (arith, h.done, k.done)

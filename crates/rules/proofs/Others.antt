@@ -26,7 +26,7 @@ use Rattle.rules.specs.Room.{Room, Walk, file_new, make_probation_room, make_roo
 use Rattle.rules.specs.Placement.{PlaceResult, grow, held_outcome, new_in_probation, new_without_room, place_held, place_hint, place_main, place_new, place_probation, place_result, promote, rejected, stays_verified}
 use Rattle.rules.specs.Demand.{account_placed}
 use Rattle.rules.proofs.Addresses.{contradiction}
-use Rattle.rules.proofs.RowLists.{Core, Unique, by_cond, by-maybe, core, cores, every_at, every_change, every_insert, every_map, every_without, find_at, find_none, look, look_change, look_insert, look_without, of_cores, rising_unique, to_cores, total_without, total_without_le, without_gone}
+use Rattle.rules.proofs.RowLists.{Core, Unique, by_cond, by_maybe, core, cores, every_at, every_change, every_insert, every_map, every_without, find_at, find_none, look, look_change, look_insert, look_without, of_cores, rising_unique, to_cores, total_without, total_without_le, without_gone}
 use Rattle.rules.proofs.Limits.{limits_of, probation_of}
 use Rattle.rules.proofs.SoundTest.{RowOk, Sound}
 use Rattle.rules.proofs.Walks.{Roomed, main_small, room_roomed}
@@ -186,33 +186,33 @@ pub room_gone : {R : ℕ} (k : NodeAddr) (now w : ℕ) (s : State) → Sound R s
 room_gone k now w s h g = (room_roomed now w s (ready h)).keeps (λ y. y.key ≡ k → ⊥) g
 
 module _ {R : ℕ} {k : NodeAddr} {now : ℕ} {f : Funding} {a : ℕ} (c : State) where
-  filed-kept : (s : State) (n : ℕ) (o : HintOutcome) (added : ℕ) (g : Segment) (b : Bool) (e : Entry) (w p : ℕ) → LeavesOthers k now c s → n ≤ 2 * segment_rows c → s.seq ≤ c.seq + n → Gone k s → Sound R (file_new k e w p s) → cond (eqb p 2) 0 w ≡ account_placed o added a → covers f added ≡ true
+  filed_kept : (s : State) (n : ℕ) (o : HintOutcome) (added : ℕ) (g : Segment) (b : Bool) (e : Entry) (w p : ℕ) → LeavesOthers k now c s → n ≤ 2 * segment_rows c → s.seq ≤ c.seq + n → Gone k s → Sound R (file_new k e w p s) → cond (eqb p 2) 0 w ≡ account_placed o added a → covers f added ≡ true
       → Kept R k now f a c (place_result o added g b n (file_new k e w p s))
   unfolding place_result
-  filed-kept s n o added g b e w p near few q gone ok own paid = record { sound = ok; leaves = leaves_trans near (file_leaves k e w p s); own = file_own k e w p s (account_placed o added a) own gone; paid = paid; seen = few; stamps = omega (arith, file_new_seq k e w p s) }
+  filed_kept s n o added g b e w p near few q gone ok own paid = record { sound = ok; leaves = leaves_trans near (file_leaves k e w p s); own = file_own k e w p s (account_placed o added a) own gone; paid = paid; seen = few; stamps = omega (arith, file_new_seq k e w p s) }
 
-  refiled-kept : (o : HintOutcome) (added : ℕ) (g : Segment) (b : Bool) (e : Entry) (w i : ℕ) → (row_at i c.rows).key ≡ k → Sound R (refile e w i c) → (at_place probation (row_at i c.rows) ≡ false → w ≡ (row_at i c.rows).weight) → Own k a c → account_placed o added a ≡ a → covers f added ≡ true
+  refiled_kept : (o : HintOutcome) (added : ℕ) (g : Segment) (b : Bool) (e : Entry) (w i : ℕ) → (row_at i c.rows).key ≡ k → Sound R (refile e w i c) → (at_place probation (row_at i c.rows) ≡ false → w ≡ (row_at i c.rows).weight) → Own k a c → account_placed o added a ≡ a → covers f added ≡ true
       → Kept R k now f a c (place_result o added g b 0 (refile e w i c))
   unfolding place_result
-  refiled-kept o added g b e w i key ok kept own books paid = record { sound = ok; leaves = refile_leaves k e w i c key; own = rw books (refile_own k a e w i c kept own); paid = paid; seen = omega arith; stamps = omega (arith, refile_seq e w i c) }
+  refiled_kept o added g b e w i key ok kept own books paid = record { sound = ok; leaves = refile_leaves k e w i c key; own = rw books (refile_own k a e w i c kept own); paid = paid; seen = omega arith; stamps = omega (arith, refile_seq e w i c) }
 
-  rejected-kept : (s : State) (n : ℕ) (b : Bool) → From R k now c s n → Own k a s → Kept R k now f a c (rejected b n s)
+  rejected_kept : (s : State) (n : ℕ) (b : Bool) → From R k now c s n → Own k a s → Kept R k now f a c (rejected b n s)
   unfolding rejected place_result account_placed
-  rejected-kept s n b h o = record { sound = h.sound; leaves = h.leaves; own = o; paid = covers_zero f; seen = omega (arith, h.seen); stamps = omega (arith, h.stamps) }
+  rejected_kept s n b h o = record { sound = h.sound; leaves = h.leaves; own = o; paid = covers_zero f; seen = omega (arith, h.seen); stamps = omega (arith, h.stamps) }
 
-  probation-kept : (s : State) (n : ℕ) (b : Bool) (e : Entry) (w : ℕ) → From R k now c s n → Gone k s → from_verified e ≡ false → EntryOk e w → Kept R k now f a c (new_in_probation k e w b n s)
+  probation_kept : (s : State) (n : ℕ) (b : Bool) (e : Entry) (w : ℕ) → From R k now c s n → Gone k s → from_verified e ≡ false → EntryOk e w → Kept R k now f a c (new_in_probation k e w b n s)
   unfolding new_in_probation account_placed
-  probation-kept s n b e w h g v o =
+  probation_kept s n b e w h g v o =
       let q = make_probation_room s in
       let t = probation_evict R s h.sound in
       let u = t.evicted in
       let gone = u.keeps (λ y. y.key ≡ k → ⊥) g in
-      filed-kept q.state (n + q.examined) Inserted 0 Probation b e w probation (leaves_trans h.leaves (evict_leaves u)) (omega (arith, h.seen, probation_seen R s h.sound)) (omega (arith, h.stamps, u.stamps)) gone (file_probation R k e w q.state u.sound gone t.few v o) refl (covers_zero f)
+      filed_kept q.state (n + q.examined) Inserted 0 Probation b e w probation (leaves_trans h.leaves (evict_leaves u)) (omega (arith, h.seen, probation_seen R s h.sound)) (omega (arith, h.stamps, u.stamps)) gone (file_probation R k e w q.state u.sound gone t.few v o) refl (covers_zero f)
 
-  without-kept : (g : Funding) (e : Entry) (w : ℕ) (m : Room) → g ≡ f → From R k now c m.state m.examined → Gone k m.state → from_verified e ≡ false → EntryOk e w → Kept R k now f a c (new_without_room g k e w m)
+  without_kept : (g : Funding) (e : Entry) (w : ℕ) (m : Room) → g ≡ f → From R k now c m.state m.examined → Gone k m.state → from_verified e ≡ false → EntryOk e w → Kept R k now f a c (new_without_room g k e w m)
   unfolding new_without_room
-  without-kept Uncharged e w m q h g v o = rejected-kept m.state m.examined false h (gone_own k a m.state g)
-  without-kept (Upto n) e w m q h g v o = probation-kept m.state m.examined false e w h g v o
+  without_kept Uncharged e w m q h g v o = rejected_kept m.state m.examined false h (gone_own k a m.state g)
+  without_kept (Upto n) e w m q h g v o = probation_kept m.state m.examined false e w h g v o
 
 -- ---- paths and entries
 
@@ -257,9 +257,9 @@ place_new_kept {R} k p now ttl f a c d po h near less q g =
     let gone = room_gone k now w d h g in
     by_cond (Kept R k now f a c) (covers f w)
     (λ x. by_cond (Kept R k now f a c) m.made
-    (λ y. filed-kept c m.state m.examined Inserted w Main false e w by_use from.leaves (omega (arith, from.seen)) from.stamps gone (file_main R k e w m.state from.sound gone (made_free d h now w y) o) refl x)
-    (λ y. without-kept c f e w m refl from gone (new_hint p now ttl) o))
-    (λ x. probation-kept c d 0 true e w (record { sound = h; leaves = near; seen = omega arith; stamps = omega arith }) g (new_hint p now ttl) o)
+    (λ y. filed_kept c m.state m.examined Inserted w Main false e w by_use from.leaves (omega (arith, from.seen)) from.stamps gone (file_main R k e w m.state from.sound gone (made_free d h now w y) o) refl x)
+    (λ y. without_kept c f e w m refl from gone (new_hint p now ttl) o))
+    (λ x. probation_kept c d 0 true e w (record { sound = h; leaves = near; seen = omega arith; stamps = omega arith }) g (new_hint p now ttl) o)
 
 -- ---- held keys
 
@@ -279,53 +279,53 @@ unfolding at_place in_main
 probation_main r l m = eq-eqb r.place 2 (omega (arith, ltb-false r.place 2 m))
 
 module _ {R : ℕ} (k : NodeAddr) (p : Path) (now ttl : ℕ) (f : Funding) (a i : ℕ) (s : State) (po : PathOk p) (h : Sound R s) (l : i < length s.rows) (key : (row_at i s.rows).key ≡ k) (own : Own k a s) where
-  held-ok : RowOk s.seq (row_at i s.rows)
-  held-ok = every_at (RowOk s.seq) i s.rows l h.each
+  held_ok : RowOk s.seq (row_at i s.rows)
+  held_ok = every_at (RowOk s.seq) i s.rows l h.each
 
-  out-sound : Sound R (take_out i s)
-  out-sound = take_out_sound R i s h
+  out_sound : Sound R (take_out i s)
+  out_sound = take_out_sound R i s h
 
-  out-gone : Gone k (take_out i s)
-  out-gone = take_out_gone k i s (rising_unique (cores s.rows) h.rising) l key
+  out_gone : Gone k (take_out i s)
+  out_gone = take_out_gone k i s (rising_unique (cores s.rows) h.rising) l key
 
-  out-from : (w : ℕ) → From R k now s (make_room now w (take_out i s)).state (make_room now w (take_out i s)).examined
-  out-from w = room_from s (take_out i s) w out-sound (take_out_leaves k i s key) (take_out_rows i s) (omega (arith, take_out_seq i s))
+  out_from : (w : ℕ) → From R k now s (make_room now w (take_out i s)).state (make_room now w (take_out i s)).examined
+  out_from w = room_from s (take_out i s) w out_sound (take_out_leaves k i s key) (take_out_rows i s) (omega (arith, take_out_seq i s))
 
   -- the row that was taken out left one free
-  free-probation : (w : ℕ) → at_place probation (row_at i s.rows) ≡ true → probation_count (make_room now w (take_out i s)).state < probation_limit (make_room now w (take_out i s)).state
+  free_probation : (w : ℕ) → at_place probation (row_at i s.rows) ≡ true → probation_count (make_room now w (take_out i s)).state < probation_limit (make_room now w (take_out i s)).state
   unfolding take_out with_only_rows
-  free-probation w t = let m = room_roomed now w (take_out i s) (ready out-sound) in
+  free_probation w t = let m = room_roomed now w (take_out i s) (ready out_sound) in
       let z : total (λ r. cond (in_probation r) 1 0) (without_row i s.rows) + 1 ≡ total (λ r. cond (in_probation r) 1 0) s.rows = rw t at (total_without (λ r. cond (in_probation r) 1 0) i s.rows l) in
       omega (arith, ap probation_of m.limits, m.probations, h.probations)
 
-  pub free-main : (w : ℕ) → in_main (row_at i s.rows) ≡ true → main_count (make_room now w (take_out i s)).state < main_limit R (make_room now w (take_out i s)).state
+  pub free_main : (w : ℕ) → in_main (row_at i s.rows) ≡ true → main_count (make_room now w (take_out i s)).state < main_limit R (make_room now w (take_out i s)).state
   unfolding take_out with_only_rows
-  free-main w t = let m = room_roomed now w (take_out i s) (ready out-sound) in
+  free_main w t = let m = room_roomed now w (take_out i s) (ready out_sound) in
       let z : total (λ r. cond (in_main r) 1 0) (without_row i s.rows) + 1 ≡ total (λ r. cond (in_main r) 1 0) s.rows = rw t at (total_without (λ r. cond (in_main r) 1 0) i s.rows l) in
       omega (arith, ap probation_of m.limits, m.mains, h.mains)
 
-  placeProbation-kept : in_main (row_at i s.rows) ≡ false → Kept R k now f a s (place_probation k p now ttl f i s)
+  place_probation_kept : in_main (row_at i s.rows) ≡ false → Kept R k now f a s (place_probation k p now ttl f i s)
   unfolding place_probation promote
-  placeProbation-kept m =
+  place_probation_kept m =
       let r = row_at i s.rows in
       let w = max (path_weight p) r.weight in
       let e = update p now ttl r.entry in
       let o = held_outcome p r in
       let x = make_room now w (take_out i s) in
-      let t = probation_main r held-ok.place m in
+      let t = probation_main r held_ok.place m in
       let z : a ≡ 0 = sym (rw t at (own_at k a i s l key own)) in
-      let ok = update_ok p now ttl w r.entry held-ok.mtu_mark po (omega arith) (omega (arith, weight_ok p po, held-ok.light)) in
-      let from = out-from w in
-      let gone = room_gone k now w (take_out i s) out-sound out-gone in
+      let ok = update_ok p now ttl w r.entry held_ok.mtu_mark po (omega arith) (omega (arith, weight_ok p po, held_ok.light)) in
+      let from = out_from w in
+      let gone = room_gone k now w (take_out i s) out_sound out_gone in
       by_cond (Kept R k now f a s) (covers f w)
       (λ q. by_cond (Kept R k now f a s) x.made
-      (λ d. filed-kept s x.state x.examined o w Main false e w by_use from.leaves (omega (arith, from.seen)) from.stamps gone (file_main R k e w x.state from.sound gone (made_free (take_out i s) out-sound now w d) ok) (rw (held_books p r w a) (omega arith)) q)
-      (λ d. filed-kept s x.state x.examined o 0 Probation false e w probation from.leaves (omega (arith, from.seen)) from.stamps gone (file_probation R k e w x.state from.sound gone (free-probation w t) (update_hint p now ttl r.entry) ok) (rw (held_books p r 0 a) (omega arith)) (covers_zero f)))
-      (λ q. refiled-kept s o 0 Probation false e w i key (refile_sound R e w i s h l ok (λ y. update_hint p now ttl r.entry) (λ y. contradiction y m)) (λ y. contradiction t y) own (rw (held_books p r 0 a) (omega arith)) (covers_zero f))
+      (λ d. filed_kept s x.state x.examined o w Main false e w by_use from.leaves (omega (arith, from.seen)) from.stamps gone (file_main R k e w x.state from.sound gone (made_free (take_out i s) out_sound now w d) ok) (rw (held_books p r w a) (omega arith)) q)
+      (λ d. filed_kept s x.state x.examined o 0 Probation false e w probation from.leaves (omega (arith, from.seen)) from.stamps gone (file_probation R k e w x.state from.sound gone (free_probation w t) (update_hint p now ttl r.entry) ok) (rw (held_books p r 0 a) (omega arith)) (covers_zero f)))
+      (λ q. refiled_kept s o 0 Probation false e w i key (refile_sound R e w i s h l ok (λ y. update_hint p now ttl r.entry) (λ y. contradiction y m)) (λ y. contradiction t y) own (rw (held_books p r 0 a) (omega arith)) (covers_zero f))
 
-  placeMain-kept : (st : Bool) → in_main (row_at i s.rows) ≡ true → Kept R k now f a s (place_main k p now ttl f st i s)
+  place_main_kept : (st : Bool) → in_main (row_at i s.rows) ≡ true → Kept R k now f a s (place_main k p now ttl f st i s)
   unfolding place_main grow rejected account_placed
-  placeMain-kept st m =
+  place_main_kept st m =
       let r = row_at i s.rows in
       let w = path_weight p in
       let e = update p now ttl r.entry in
@@ -333,28 +333,28 @@ module _ {R : ℕ} (k : NodeAddr) (p : Path) (now ttl : ℕ) (f : Funding) (a i 
       let x = make_room now w (take_out i s) in
       let t = main_probation r m in
       let z : r.weight ≡ a = rw t at (own_at k a i s l key own) in
-      let from = out-from w in
-      let gone = room_gone k now w (take_out i s) out-sound out-gone in
+      let from = out_from w in
+      let gone = room_gone k now w (take_out i s) out_sound out_gone in
       by_cond (Kept R k now f a s) (leb w r.weight)
-      (λ q. refiled-kept s o 0 Main false e r.weight i key (refile_sound R e r.weight i s h l (update_ok p now ttl r.weight r.entry held-ok.mtu_mark po (leb-true w r.weight q) held-ok.light) (λ y. update_hint p now ttl r.entry) (λ y. refl)) (λ y. refl) own (rw (held_books p r 0 a) (omega arith)) (covers_zero f))
+      (λ q. refiled_kept s o 0 Main false e r.weight i key (refile_sound R e r.weight i s h l (update_ok p now ttl r.weight r.entry held_ok.mtu_mark po (leb-true w r.weight q) held_ok.light) (λ y. update_hint p now ttl r.entry) (λ y. refl)) (λ y. refl) own (rw (held_books p r 0 a) (omega arith)) (covers_zero f))
       (λ q. by_cond (Kept R k now f a s) (covers f (w - r.weight))
       (λ d. by_cond (Kept R k now f a s) (x.made || st)
-      (λ y. filed-kept s x.state x.examined o (w - r.weight) Main false e w by_use from.leaves (omega (arith, from.seen)) from.stamps gone (file_main R k e w x.state from.sound gone (free-main w m) (update_ok p now ttl w r.entry held-ok.mtu_mark po (omega arith) (weight_ok p po))) (rw (held_books p r (w - r.weight) a) (omega (arith, leb-false w r.weight q))) d)
-      (λ y. filed-kept s x.state x.examined Rejected 0 Main false r.entry r.weight by_use from.leaves (omega (arith, from.seen)) from.stamps gone (file_main R k r.entry r.weight x.state from.sound gone (free-main w m) (own_ok s.seq r held-ok)) z (covers_zero f)))
-      (λ d. rejected-kept s s 0 true (from_here s h) own))
+      (λ y. filed_kept s x.state x.examined o (w - r.weight) Main false e w by_use from.leaves (omega (arith, from.seen)) from.stamps gone (file_main R k e w x.state from.sound gone (free_main w m) (update_ok p now ttl w r.entry held_ok.mtu_mark po (omega arith) (weight_ok p po))) (rw (held_books p r (w - r.weight) a) (omega (arith, leb-false w r.weight q))) d)
+      (λ y. filed_kept s x.state x.examined Rejected 0 Main false r.entry r.weight by_use from.leaves (omega (arith, from.seen)) from.stamps gone (file_main R k r.entry r.weight x.state from.sound gone (free_main w m) (own_ok s.seq r held_ok)) z (covers_zero f)))
+      (λ d. rejected_kept s s 0 true (from_here s h) own))
 
-  placeHeld-kept : (st : Bool) → Kept R k now f a s (place_held k p now ttl f st i s)
+  place_held_kept : (st : Bool) → Kept R k now f a s (place_held k p now ttl f st i s)
   unfolding place_held
-  placeHeld-kept st = by_cond (Kept R k now f a s) (stays_verified p now st (row_at i s.rows))
-      (λ q. rejected-kept s s 0 false (from_here s h) own)
-      (λ q. by_cond (Kept R k now f a s) (in_main (row_at i s.rows)) (λ m. placeMain-kept st m) (λ m. placeProbation-kept m))
+  place_held_kept st = by_cond (Kept R k now f a s) (stays_verified p now st (row_at i s.rows))
+      (λ q. rejected_kept s s 0 false (from_here s h) own)
+      (λ q. by_cond (Kept R k now f a s) (in_main (row_at i s.rows)) (λ m. place_main_kept st m) (λ m. place_probation_kept m))
 
 pub place_hint_kept : {R : ℕ} (k : NodeAddr) (p : Path) (now ttl : ℕ) (f : Funding) (st : Bool) (a : ℕ) (s : State) → PathOk p → Sound R s → Own k a s → Kept R k now f a s (place_hint k p now ttl f st s)
 unfolding place_hint
 place_hint_kept {R} k p now ttl f st a s po h own =
-    by-maybe (Kept R k now f a s) (find k s.rows)
+    by_maybe (Kept R k now f a s) (find k s.rows)
     (λ e. place_new_kept k p now ttl f a s s po h (leaves_refl s) (omega arith) (omega arith) (find_none k s.rows e))
     (λ i e. let g = find_at k s.rows i e in
     by_cond (Kept R k now f a s) (expired now (row_at i s.rows).entry)
     (λ x. place_new_kept k p now ttl f a s (take_out i s) po (take_out_sound R i s h) (take_out_leaves k i s g.key) (take_out_rows i s) (omega (arith, take_out_seq i s)) (take_out_gone k i s (rising_unique (cores s.rows) h.rising) g.inside g.key))
-    (λ x. placeHeld-kept k p now ttl f a i s po h g.inside g.key own st))
+    (λ x. place_held_kept k p now ttl f a i s po h g.inside g.key own st))

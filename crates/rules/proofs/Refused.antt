@@ -13,7 +13,7 @@ use Rattle.rules.specs.Calls.{Answer, Call, Clear, ClearPathMtu, Demote, Done, E
 use Rattle.rules.specs.Refusals.{Asked, Fresh, Reason, Request, Step, bad_path, bad_size, first_given, gives, hinted, no_place_for, perform, perform_request, reason, reasons, refusal, seq_spent, serve, step, sweeps, verifies}
 use Rattle.rules.specs.Answers.{refusal_of}
 use Rattle.rules.proofs.Addresses.{contradiction}
-use Rattle.rules.proofs.RowLists.{by-maybe, cond-some}
+use Rattle.rules.proofs.RowLists.{by_maybe, cond_some}
 
 -- ---- what holds of a call that is not refused
 
@@ -52,7 +52,7 @@ some_none p q = contradiction {b = true} refl (cc)
 given_listed : (n : ℕ) (rs : List Reason) → first_given rs ≡ some n → is_one_of n (numbers rs) ≡ true
 unfolding first_given
 given_listed n [] e = some_none {o = none} e refl
-given_listed n (r ∷ rs) e = cond-some r.given e (λ g z. rw (eq-eqb r.number n z)) (λ g f. rw (given_listed n rs f, or-true))
+given_listed n (r ∷ rs) e = cond_some r.given e (λ g z. rw (eq-eqb r.number n z)) (λ g f. rw (given_listed n rs f, or-true))
 
 first_number_lem : (n : ℕ) (rs : List Reason) → distinct (numbers rs) ≡ true → first_given rs ≡ some n → GivenFirst n rs
 unfolding first_given
@@ -163,18 +163,18 @@ unfolding perform_request gives was_refused
 done_request R s (Fresh m ttl) = refl
 done_request R s (Asked q) = done_perform s q
 
-pub by-serve {κ} : (R : ℕ) (s : State) (x : Request) (P : Step → Type κ) → ((n : ℕ) → refusal R s x ≡ some n → P (gives (Refused n) s)) → (refusal R s x ≡ none → P (perform_request R s x)) → P (serve R s x)
+pub by_serve {κ} : (R : ℕ) (s : State) (x : Request) (P : Step → Type κ) → ((n : ℕ) → refusal R s x ≡ some n → P (gives (Refused n) s)) → (refusal R s x ≡ none → P (perform_request R s x)) → P (serve R s x)
 unfolding serve
-by-serve R s x P f g = by-maybe P (refusal R s x) g f
+by_serve R s x P f g = by_maybe P (refusal R s x) g f
 
 -- a call is refused and leaves the state, or it is allowed and done
-pub by-step {κ} : (R : ℕ) (s : State) (q : Call) (P : Step → Type κ) → ((n : ℕ) → P (gives (Refused n) s)) → (Allowed R s q → P (perform s q)) → P (step R s q)
+pub by_step {κ} : (R : ℕ) (s : State) (q : Call) (P : Step → Type κ) → ((n : ℕ) → P (gives (Refused n) s)) → (Allowed R s q → P (perform s q)) → P (step R s q)
 unfolding perform_request
-by-step R s q P f g = by-serve R s (Asked q) P (λ n e. f n) (λ e. g (allowed R s q e))
+by_step R s q P f g = by_serve R s (Asked q) P (λ n e. f n) (λ e. g (allowed R s q e))
 
 refused_by_lem : (R : ℕ) (s : State) (x : Request) (n : ℕ) → (serve R s x).answer ≡ Refused n → refusal R s x ≡ some n
 unfolding gives was_refused
-refused_by_lem R s x n = by-serve R s x (λ (t : Step). t.answer ≡ Refused n → refusal R s x ≡ some n) (λ m e g. let z : m ≡ n = cc in e ∙ ap some z) (λ e g. contradiction (let w : was_refused (perform_request R s x).answer ≡ true = rw g in w) (done_request R s x))
+refused_by_lem R s x n = by_serve R s x (λ (t : Step). t.answer ≡ Refused n → refusal R s x ≡ some n) (λ m e g. let z : m ≡ n = cc in e ∙ ap some z) (λ e g. contradiction (let w : was_refused (perform_request R s x).answer ≡ true = rw g in w) (done_request R s x))
 
 gives_number : (R : ℕ) (s : State) (x : Request) (n : ℕ) → refusal R s x ≡ some n → (serve R s x).answer ≡ Refused n
 unfolding serve gives
@@ -183,12 +183,12 @@ gives_number R s x n e = rw e
 -- A REFUSAL LEAVES THE STATE AS IT WAS
 pub refused_left : (R : ℕ) (s : State) (x : Request) → was_refused (serve R s x).answer ≡ true → (serve R s x).state ≡ s
 unfolding gives
-refused_left R s x = by-serve R s x (λ (t : Step). was_refused t.answer ≡ true → t.state ≡ s) (λ n e g. refl) (λ e g. contradiction g (done_request R s x))
+refused_left R s x = by_serve R s x (λ (t : Step). was_refused t.answer ≡ true → t.state ≡ s) (λ n e g. refl) (λ e g. contradiction g (done_request R s x))
 
 -- A REFUSAL RETURNS ITS NUMBER ALONE
 pub refused_alone : (R : ℕ) (s : State) (x : Request) → was_refused (serve R s x).answer ≡ true → serve R s x ≡ gives (Refused (refusal_of (serve R s x).answer)) s
 unfolding gives refusal_of
-refused_alone R s x = by-serve R s x (λ (t : Step). was_refused t.answer ≡ true → t ≡ gives (Refused (refusal_of t.answer)) s) (λ n e g. refl) (λ e g. contradiction g (done_request R s x))
+refused_alone R s x = by_serve R s x (λ (t : Step). was_refused t.answer ≡ true → t ≡ gives (Refused (refusal_of t.answer)) s) (λ n e g. refl) (λ e g. contradiction g (done_request R s x))
 
 zero_if_done : (a : Answer) → was_refused a ≡ false → refusal_of a ≡ 0
 unfolding was_refused refusal_of

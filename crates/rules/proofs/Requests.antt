@@ -16,7 +16,7 @@ use Rattle.rules.specs.Demand.{KeepsPlace, must_spare}
 use Rattle.rules.specs.Memory.{capacity, view}
 use Rattle.rules.specs.Lent.{Bytes, Typed, TypedRequest, call, calls, lent, requests}
 use Rattle.rules.proofs.Addresses.{contradiction}
-use Rattle.rules.proofs.Refused.{by-step}
+use Rattle.rules.proofs.Refused.{by_step}
 use Rattle.rules.proofs.ThirdDemand.{kept_after}
 use Rattle.rules.proofs.Incident.{WriteBeside, second_write_spares_the_first}
 use Rattle.rules.proofs.LentMemory.{answer_is, calls_run, capacity_same, lent_request}
@@ -47,7 +47,7 @@ requests_run l (x ∷ xs) b g =
 
 done_sound : (R : ℕ) (s : State) (q : Call) → was_refused (step R s q).answer ≡ false → sound R s ≡ true
 unfolding gives was_refused
-done_sound R s q = by-step R s q (λ (t : Step). was_refused t.answer ≡ false → sound R s ≡ true) (λ n h. contradiction {b = true} refl h) (λ a h. a.sound)
+done_sound R s q = by_step R s q (λ (t : Step). was_refused t.answer ≡ false → sound R s ≡ true) (λ n h. contradiction {b = true} refl h) (λ a h. a.sound)
 
 -- a done verified insert keeps its place in the memory while every later event must spare it, from any memory of bytes on
 pub kept_on_bytes : (l : List ℕ) (q : Call) (v : VerifiedWrite) (qs : List Call) → Bytes l → Typed q → Every Typed qs → verified_write q ≡ some v → was_refused (call l q).answer ≡ false

@@ -19,18 +19,18 @@ pub by_cond {ℓ κ} : {A : Type ℓ} (P : A → Type κ) (b : Bool) {x y : A} �
 by_cond P true f g = f refl
 by_cond P false f g = g refl
 
-pub by-maybe {ℓ κ μ} : {A : Type ℓ} {B : Type κ} (P : B → Type μ) (o : Option A) {d : B} {f : A → B} → (o ≡ none → P d) → ((a : A) → o ≡ some a → P (f a)) → P (maybe o d f)
-by-maybe P none f g = f refl
-by-maybe P (some a) f g = g a refl
+pub by_maybe {ℓ κ μ} : {A : Type ℓ} {B : Type κ} (P : B → Type μ) (o : Option A) {d : B} {f : A → B} → (o ≡ none → P d) → ((a : A) → o ≡ some a → P (f a)) → P (maybe o d f)
+by_maybe P none f g = f refl
+by_maybe P (some a) f g = g a refl
 
-pub none-unless {ℓ} : {A : Type ℓ} (o : Option A) → ((a : A) → o ≡ some a → ⊥) → o ≡ none
-none-unless none f = refl
-none-unless (some a) f = absurd (f a refl)
+pub none_unless {ℓ} : {A : Type ℓ} (o : Option A) → ((a : A) → o ≡ some a → ⊥) → o ≡ none
+none_unless none f = refl
+none_unless (some a) f = absurd (f a refl)
 
 -- a first match: at the head, or further on
-pub cond-some {ℓ κ} : {A : Type ℓ} {C : Type κ} (b : Bool) {a x : A} {o : Option A} → cond b (some a) o ≡ some x → (b ≡ true → a ≡ x → C) → (b ≡ false → o ≡ some x → C) → C
-cond-some true h f g = f refl (cc)
-cond-some false h f g = g refl h
+pub cond_some {ℓ κ} : {A : Type ℓ} {C : Type κ} (b : Bool) {a x : A} {o : Option A} → cond b (some a) o ≡ some x → (b ≡ true → a ≡ x → C) → (b ≡ false → o ≡ some x → C) → C
+cond_some true h f g = f refl (cc)
+cond_some false h f g = g refl h
 
 pub next_some : {C : Type 0} (o : Option ℕ) {i : ℕ} → next_index o ≡ some i → ((j : ℕ) → o ≡ some j → suc j ≡ i → C) → C
 unfolding next_index
@@ -74,17 +74,17 @@ pub every_map {ℓ} : {A : Type ℓ} {P Q : A → Type 0} → ((x : A) → P x �
 every_map f [] h = tt
 every_map f (x ∷ xs) h = (f x h.0, every_map f xs h.1)
 
-pub every-both {ℓ} : {A : Type ℓ} {P Q S : A → Type 0} → ((x : A) → P x → Q x → S x) → (xs : List A) → Every P xs → Every Q xs → Every S xs
-every-both f [] h g = tt
-every-both f (x ∷ xs) h g = (f x h.0 g.0, every-both f xs h.1 g.1)
+pub every_both {ℓ} : {A : Type ℓ} {P Q S : A → Type 0} → ((x : A) → P x → Q x → S x) → (xs : List A) → Every P xs → Every Q xs → Every S xs
+every_both f [] h g = tt
+every_both f (x ∷ xs) h g = (f x h.0 g.0, every_both f xs h.1 g.1)
 
-pub every-three {ℓ} : {A : Type ℓ} {P Q S T : A → Type 0} → ((x : A) → P x → Q x → S x → T x) → (xs : List A) → Every P xs → Every Q xs → Every S xs → Every T xs
-every-three f [] h g k = tt
-every-three f (x ∷ xs) h g k = (f x h.0 g.0 k.0, every-three f xs h.1 g.1 k.1)
+pub every_three {ℓ} : {A : Type ℓ} {P Q S T : A → Type 0} → ((x : A) → P x → Q x → S x → T x) → (xs : List A) → Every P xs → Every Q xs → Every S xs → Every T xs
+every_three f [] h g k = tt
+every_three f (x ∷ xs) h g k = (f x h.0 g.0 k.0, every_three f xs h.1 g.1 k.1)
 
-pub every-all {ℓ} : {A : Type ℓ} {P : A → Type 0} → ((x : A) → P x) → (xs : List A) → Every P xs
-every-all f [] = tt
-every-all f (x ∷ xs) = (f x, every-all f xs)
+pub every_all {ℓ} : {A : Type ℓ} {P : A → Type 0} → ((x : A) → P x) → (xs : List A) → Every P xs
+every_all f [] = tt
+every_all f (x ∷ xs) = (f x, every_all f xs)
 
 pub every_take {ℓ} : {A : Type ℓ} (P : A → Type 0) (n : ℕ) (xs : List A) → Every P xs → Every P (take n xs)
 every_take P zero xs h = tt
@@ -100,9 +100,9 @@ pub every_append {ℓ} : {A : Type ℓ} (P : A → Type 0) (xs ys : List A) → 
 every_append P [] ys h g = g
 every_append P (x ∷ xs) ys h g = (h.0, every_append P xs ys h.1 g)
 
-pub every-copy {ℓ} : {A : Type ℓ} (P : A → Type 0) (n : ℕ) {x : A} → P x → Every P (replicate n x)
-every-copy P zero p = tt
-every-copy P (suc n) p = (p, every-copy P n p)
+pub every_copy {ℓ} : {A : Type ℓ} (P : A → Type 0) (n : ℕ) {x : A} → P x → Every P (replicate n x)
+every_copy P zero p = tt
+every_copy P (suc n) p = (p, every_copy P n p)
 
 pub to_cores : (P : Core → Type 0) (rs : List Row) → Every (λ r. P (core r)) rs → Every P (cores rs)
 to_cores P [] h = tt
@@ -312,12 +312,12 @@ rising_insert r (x ∷ xs) n h = by_cond (λ u. Rising (cores u)) (addr_before r
 pub look_key : (k : NodeAddr) (x : Core) (xs : List Core) → look k xs ≡ some x → x.key ≡ k
 unfolding look
 look_key k x [] h = contradiction {b = true} refl (cc)
-look_key k x (y ∷ ys) h = cond-some (same_addr k y.key) h (λ e p. cc (same_true k y.key e)) (λ e p. look_key k x ys p)
+look_key k x (y ∷ ys) h = cond_some (same_addr k y.key) h (λ e p. cc (same_true k y.key e)) (λ e p. look_key k x ys p)
 
 pub look_keep : (k : NodeAddr) (x : Core) (p : Row → Bool) (rs : List Row) → Every (λ r. core r ≡ x → p r ≡ true) rs → look k (cores rs) ≡ some x → look k (cores (keep_rows p rs)) ≡ some x
 unfolding look keep_rows
 look_keep k x p [] f h = h
-look_keep k x p (r ∷ rs) f h = cond-some (same_addr k r.key) h
+look_keep k x p (r ∷ rs) f h = cond_some (same_addr k r.key) h
     (λ e q. by_cond (λ u. look k (cores u) ≡ some x) (p r) (λ t. rw e (ap some q)) (λ t. contradiction (f.0 q) t))
     (λ e q. by_cond (λ u. look k (cores u) ≡ some x) (p r) (λ t. rw e (look_keep k x p rs f.1 q)) (λ t. look_keep k x p rs f.1 q))
 
@@ -362,7 +362,7 @@ look_at (suc i) (r ∷ rs) l u = rw (same_ne (row_at i rs).key r.key (every_at (
 pub unique_look : (xs : List Core) → Unique xs → Every (λ y. look y.key xs ≡ some y) xs
 unfolding look
 unique_look [] u = tt
-unique_look (x ∷ xs) u = (rw (same_eq x.key x.key refl), every-both (λ (y : Core) (f : y.key ≡ x.key → ⊥) (g : look y.key xs ≡ some y). rw (same_ne y.key x.key f) g) xs u.0 (unique_look xs u.1))
+unique_look (x ∷ xs) u = (rw (same_eq x.key x.key refl), every_both (λ (y : Core) (f : y.key ≡ x.key → ⊥) (g : look y.key xs ≡ some y). rw (same_ne y.key x.key f) g) xs u.0 (unique_look xs u.1))
 
 -- the row that is found
 pub record Found (k : NodeAddr) (rs : List Row) (i : ℕ) : Type 0 where
@@ -373,7 +373,7 @@ pub record Found (k : NodeAddr) (rs : List Row) (i : ℕ) : Type 0 where
 pub find_at : (k : NodeAddr) (rs : List Row) (i : ℕ) → find k rs ≡ some i → Found k rs i
 unfolding find look
 find_at k [] i h = contradiction {b = true} refl (cc)
-find_at k (r ∷ rs) i h = cond-some (same_addr k r.key) h
+find_at k (r ∷ rs) i h = cond_some (same_addr k r.key) h
     (λ e q. subst (Found k (r ∷ rs)) q (record { inside = omega arith; key = sym (same_true k r.key e); looked = rw e }))
     (λ e q. next_some (find k rs) q (λ j f z. let g = find_at k rs j f in subst (Found k (r ∷ rs)) z (record { inside = omega (arith, g.inside); key = g.key; looked = rw e g.looked })))
 
@@ -395,7 +395,7 @@ pub record Looked (k : NodeAddr) (x : Core) (rs : List Row) : Type 0 where
 pub look_find : (k : NodeAddr) (x : Core) (rs : List Row) → look k (cores rs) ≡ some x → Looked k x rs
 unfolding look find next_index
 look_find k x [] h = contradiction {b = true} refl (cc)
-look_find k x (r ∷ rs) h = cond-some (same_addr k r.key) h
+look_find k x (r ∷ rs) h = cond_some (same_addr k r.key) h
     (λ e p. record { at = 0; there = simp e; inside = omega arith; same = p })
     (λ e p. let i = look_find k x rs p in record { at = suc i.at; there = simp (e, i.there); inside = omega (arith, i.inside); same = i.same })
 

@@ -15,7 +15,7 @@ use Rattle.rules.specs.Rows.{at_place, change_row, in_main, insert_in_order, kee
 use Rattle.rules.specs.Entries.{add_times, verified}
 use Rattle.rules.specs.Room.{Chosen, Sought, Walk, at_new_place, choose_victims, evict_below, file_new, has_room, make_probation_room, make_room, next_victim, park, parked_at, probation_visits, put_back, raised, refile, refiled, restamp, return_lapsed, seek, set_aside, settled, sought, stale, stamp, take_out, take_up, untouched, visits_left}
 use Rattle.rules.specs.Lent.{AddrFits, Bytes, Small}
-use Rattle.rules.proofs.RowLists.{by_cond, by-maybe, every-both, every_change, every-copy, every_insert, every_keep, every_map, every_mapped, every_without, length_change}
+use Rattle.rules.proofs.RowLists.{by_cond, by_maybe, every_both, every_change, every_copy, every_insert, every_keep, every_map, every_mapped, every_without, length_change}
 use Rattle.rules.proofs.SoundTest.{RowOk, Sound}
 use Rattle.rules.proofs.MemoryLaws.{bytes_append, bytes_drop}
 use Rattle.rules.proofs.EntryLaws.{EntryFits}
@@ -98,7 +98,7 @@ unfolding zero_rows
 zero_length n = length-replicate {A = ℕ} (n * row_size) 0
 
 pub copies_bytes : (n : ℕ) → Bytes (replicate n 0)
-copies_bytes n = every-copy (λ b. b < 256) n (omega arith)
+copies_bytes n = every_copy (λ b. b < 256) n (omega arith)
 
 pub zero_bytes : (n : ℕ) → Bytes (zero_rows n)
 unfolding zero_rows
@@ -133,32 +133,32 @@ refile_sized B e w i s f h = change_sized B s (refile e w i s) (refiled (s.seq +
 -- ---- room
 
 module _ (B now : ℕ) where
-  lapsed-sized : (n : ℕ) (w : Walk) → Sized B w.state → Sized B (return_lapsed n now w).state
+  lapsed_sized : (n : ℕ) (w : Walk) → Sized B w.state → Sized B (return_lapsed n now w).state
   unfolding return_lapsed take_up
-  lapsed-sized zero w h = h
-  lapsed-sized (suc n) w h = by-maybe (λ (x : Walk). Sized B x.state) (lowest_stamp parked w.state.rows) (λ e. h) (λ i e.
-      by_cond (λ (x : Walk). Sized B x.state) (ltb (row_at i w.state.rows).stamp_first now) (λ a. lapsed-sized n (take_up restamp i w) (restamp_sized B i w.state h)) (λ a. h))
+  lapsed_sized zero w h = h
+  lapsed_sized (suc n) w h = by_maybe (λ (x : Walk). Sized B x.state) (lowest_stamp parked w.state.rows) (λ e. h) (λ i e.
+      by_cond (λ (x : Walk). Sized B x.state) (ltb (row_at i w.state.rows).stamp_first now) (λ a. lapsed_sized n (take_up restamp i w) (restamp_sized B i w.state h)) (λ a. h))
 
-  seek-sized : (n : ℕ) (w : Walk) → Sized B w.state → Sized B (seek n now w).walk.state
+  seek_sized : (n : ℕ) (w : Walk) → Sized B w.state → Sized B (seek n now w).walk.state
   unfolding seek sought take_up untouched
-  seek-sized zero w h = h
-  seek-sized (suc n) w h = by-maybe (λ (x : Sought). Sized B x.walk.state) (lowest_stamp by_use w.state.rows) (λ e. h) (λ i e.
-      by_cond (λ (x : Sought). Sized B x.walk.state) (stale (row_at i w.state.rows)) (λ a. seek-sized n (take_up restamp i w) (restamp_sized B i w.state h))
-      (λ a. by_cond (λ (x : Sought). Sized B x.walk.state) (verified now (row_at i w.state.rows).entry) (λ b. seek-sized n (take_up park i w) (park_sized B i w.state h)) (λ b. h)))
+  seek_sized zero w h = h
+  seek_sized (suc n) w h = by_maybe (λ (x : Sought). Sized B x.walk.state) (lowest_stamp by_use w.state.rows) (λ e. h) (λ i e.
+      by_cond (λ (x : Sought). Sized B x.walk.state) (stale (row_at i w.state.rows)) (λ a. seek_sized n (take_up restamp i w) (restamp_sized B i w.state h))
+      (λ a. by_cond (λ (x : Sought). Sized B x.walk.state) (verified now (row_at i w.state.rows).entry) (λ b. seek_sized n (take_up park i w) (park_sized B i w.state h)) (λ b. h)))
 
-  next-sized : (w : Walk) → Sized B w.state → Sized B (next_victim now w).walk.state
+  next_sized : (w : Walk) → Sized B w.state → Sized B (next_victim now w).walk.state
   unfolding next_victim
-  next-sized w h = seek-sized (visits_left now (return_lapsed (visits_left now w) now w)) (return_lapsed (visits_left now w) now w) (lapsed-sized (visits_left now w) w h)
+  next_sized w h = seek_sized (visits_left now (return_lapsed (visits_left now w) now w)) (return_lapsed (visits_left now w) now w) (lapsed_sized (visits_left now w) w h)
 
-  aside-sized : (i : ℕ) (w : Walk) → Sized B w.state → Sized B (set_aside i w).state
+  aside_sized : (i : ℕ) (w : Walk) → Sized B w.state → Sized B (set_aside i w).state
   unfolding set_aside with_rows
-  aside-sized i w h = change_sized B w.state (set_aside i w).state (at_new_place aside) i (λ o. placed_lasts aside _ o) refl refl h
+  aside_sized i w h = change_sized B w.state (set_aside i w).state (at_new_place aside) i (λ o. placed_lasts aside _ o) refl refl h
 
-  choose-sized : (n w : ℕ) (v : Walk) → Sized B v.state → Sized B (choose_victims n now w v).walk.state
+  choose_sized : (n w : ℕ) (v : Walk) → Sized B v.state → Sized B (choose_victims n now w v).walk.state
   unfolding choose_victims
-  choose-sized zero w v h = h
-  choose-sized (suc n) w v h = by_cond (λ (c : Chosen). Sized B c.walk.state) (has_room w v.state) (λ e. h)
-      (λ e. by-maybe (λ (c : Chosen). Sized B c.walk.state) (next_victim now v).victim (λ d. next-sized v h) (λ i d. choose-sized n w (set_aside i (next_victim now v).walk) (aside-sized i (next_victim now v).walk (next-sized v h))))
+  choose_sized zero w v h = h
+  choose_sized (suc n) w v h = by_cond (λ (c : Chosen). Sized B c.walk.state) (has_room w v.state) (λ e. h)
+      (λ e. by_maybe (λ (c : Chosen). Sized B c.walk.state) (next_victim now v).victim (λ d. next_sized v h) (λ i d. choose_sized n w (set_aside i (next_victim now v).walk) (aside_sized i (next_victim now v).walk (next_sized v h))))
 
 settled_sized : (B : ℕ) (c : Chosen) → Sized B c.walk.state → Sized B (settled c).state
 unfolding settled
@@ -168,12 +168,12 @@ settled_sized B c h = by_cond (λ (rs : List Row). Sized B (with_only_rows rs c.
 
 pub room_sized : (B now w : ℕ) (s : State) → Sized B s → Sized B (make_room now w s).state
 unfolding make_room
-room_sized B now w s h = settled_sized B _ (choose-sized B now _ _ _ h)
+room_sized B now w s h = settled_sized B _ (choose_sized B now _ _ _ h)
 
 evict_sized : (B b n : ℕ) (w : Walk) → Sized B w.state → Sized B (evict_below b n w).state
 unfolding evict_below take_up
 evict_sized B b zero w h = h
-evict_sized B b (suc n) w h = by_cond (λ (x : Walk). Sized B x.state) (ltb (probation_count w.state) b) (λ e. h) (λ e. by-maybe (λ (x : Walk). Sized B x.state) (lowest_stamp probation w.state.rows) (λ d. h) (λ i d.
+evict_sized B b (suc n) w h = by_cond (λ (x : Walk). Sized B x.state) (ltb (probation_count w.state) b) (λ e. h) (λ e. by_maybe (λ (x : Walk). Sized B x.state) (lowest_stamp probation w.state.rows) (λ d. h) (λ i d.
     by_cond (λ (f : ℕ → State → State). Sized B (evict_below b n (take_up f i w)).state) (stale (row_at i w.state.rows)) (λ a. evict_sized B b n (take_up restamp i w) (restamp_sized B i w.state h)) (λ a. evict_sized B b n (take_up take_out i w) (take_out_sized B i w.state h))))
 
 pub probation_sized : (B : ℕ) (s : State) → Sized B s → Sized B (make_probation_room s).state
@@ -218,7 +218,7 @@ sized_fits R L s l h z t q = record {
   stored_weight = small8 s.stored_weight (omega (arith, h.stored_weight, light s.seq s.rows h.each, few_rows R s h, h.small));
   row_count = small8 s.row_count (omega (arith, h.counted, few_rows R s h, h.small));
   counted = h.counted;
-  rows = every-both {P = Lasting} {Q = RowOk s.seq} (λ r g o. record { key = g.key; entry = g.entry; place = small1 r.place (omega (arith, o.place)); stamp_first = g.stamp_first; stamp_seq = small8 r.stamp_seq (omega (arith, o.stamped)); weight = small1 r.weight (omega (arith, o.light)) }) s.rows z.lasting h.each;
+  rows = every_both {P = Lasting} {Q = RowOk s.seq} (λ r g o. record { key = g.key; entry = g.entry; place = small1 r.place (omega (arith, o.place)); stamp_first = g.stamp_first; stamp_seq = small8 r.stamp_seq (omega (arith, o.stamped)); weight = small1 r.weight (omega (arith, o.light)) }) s.rows z.lasting h.each;
   rest = z.rest;
   size = omega (arith, z.bulk);
 }

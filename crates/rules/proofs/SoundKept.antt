@@ -19,7 +19,7 @@ use Rattle.rules.proofs.Addresses.{contradiction}
 use Rattle.rules.proofs.RowLists.{cores, every_map, look, rising_unique, unique_look}
 use Rattle.rules.proofs.SoundTest.{RowOk, Sound, is_sound, sound_is}
 use Rattle.rules.proofs.Others.{charge}
-use Rattle.rules.proofs.Refused.{Allowed, by-step}
+use Rattle.rules.proofs.Refused.{Allowed, by_step}
 use Rattle.rules.proofs.CallsKeep.{Accounted, CallKeeps, keeps_perform}
 
 -- ---- each step, on any state
@@ -36,7 +36,7 @@ perform_keeps R s q l = let h = sound_is R s l.sound in keeps_perform R (fitting
 
 kept_sound : (R : ℕ) (s : State) (q : Call) → Sound R s → Sound R (step R s q).state
 unfolding gives
-kept_sound R s q h = by-step R s q (λ (t : Step). Sound R t.state) (λ n. h) (λ l. (perform_keeps R s q l).sound)
+kept_sound R s q h = by_step R s q (λ (t : Step). Sound R t.state) (λ n. h) (λ l. (perform_keeps R s q l).sound)
 
 -- EVERY CALL KEEPS A SOUND STATE SOUND
 pub step_sound : (R : ℕ) (s : State) (q : Call) → sound R s ≡ true → sound R (step R s q).state ≡ true

@@ -21,15 +21,15 @@ use Rattle.rules.specs.Refusals.{Step, fresh, gives, perform, step, verifies}
 use Rattle.rules.specs.Lists.{Event, run}
 use Rattle.rules.specs.Demand.{KeepsPlace, ThirdDemand, account, accounts_after, accounts_from, must_spare, within_funding}
 use Rattle.rules.proofs.Addresses.{contradiction}
-use Rattle.rules.proofs.RowLists.{Core, core, cores, every_at, every-both, every_map, look, look_entered, look_find, of_cores, total_same}
+use Rattle.rules.proofs.RowLists.{Core, core, cores, every_at, every_both, every_map, look, look_entered, look_find, of_cores, total_same}
 use Rattle.rules.proofs.SoundTest.{RowOk, Sound, sound_is}
 use Rattle.rules.proofs.Others.{charge, room_gone}
-use Rattle.rules.proofs.Refused.{by-step}
+use Rattle.rules.proofs.Refused.{by_step}
 use Rattle.rules.proofs.CallsKeep.{Accounted, DemandStep, Fixed, demand_refused, event, keeps_perform, verified_fixed, without_key_out}
 use Rattle.rules.proofs.SoundKept.{fitting, fitting_fits, perform_keeps, step_sound}
 
 step_demand : (R : ℕ) (a : NodeAddr → ℕ) (s : State) (q : Call) → Accounted a s → DemandStep a s q (step R s q)
-step_demand R a s q c = by-step R s q (DemandStep a s q) (λ n. demand_refused n a s q c) (λ l. (keeps_perform R a s q l (sound_is R s l.sound) c).demand)
+step_demand R a s q c = by_step R s q (DemandStep a s q) (λ n. demand_refused n a s q c) (λ l. (keeps_perform R a s q l (sound_is R s l.sound) c).demand)
 
 -- the head's stored weight is that of the rows, whose places are legal
 record Settled (s : State) : Type 0 where
@@ -38,7 +38,7 @@ record Settled (s : State) : Type 0 where
 
 settled_step : (R : ℕ) (s : State) (q : Call) → Settled s → Settled (step R s q).state
 unfolding gives
-settled_step R s q h = by-step R s q (λ (t : Step). Settled t.state) (λ n. h)
+settled_step R s q h = by_step R s q (λ (t : Step). Settled t.state) (λ n. h)
     (λ l. let g = (perform_keeps R s q l).sound in record { stored_weight = g.stored_weight; places = places (perform s q).state g })
   where
     places : (d : State) → Sound R d → Every (λ r. r.place ≤ 2) d.rows
@@ -60,7 +60,7 @@ load_charge r l = go (ltb r.place 2) refl (eqb r.place 2) refl
     go false e false f = absurd (let u = ltb-false r.place 2 e in let v = eqb-false r.place 2 f in let n : ⊥ = omega arith in n)
 
 stored_total : (a : NodeAddr → ℕ) (s : State) → Settled s → Accounted a s → s.stored_weight ≡ total (λ r. a r.key) s.rows
-stored_total a s h c = h.stored_weight ∙ total_same (λ r. cond (in_main r) r.weight 0) (λ r. a r.key) s.rows (every-both (λ r l e. load_charge r l ∙ sym e) s.rows h.places (of_cores (λ y. a y.key ≡ charge y) s.rows c))
+stored_total a s h c = h.stored_weight ∙ total_same (λ r. cond (in_main r) r.weight 0) (λ r. a r.key) s.rows (every_both (λ r l e. load_charge r l ∙ sym e) s.rows h.places (of_cores (λ y. a y.key ≡ charge y) s.rows c))
 
 run_accounted : (R : ℕ) (a : NodeAddr → ℕ) (s : State) (qs : List Call) → Accounted a s → Accounted (accounts_from (run R s qs).events a) (run R s qs).state
 unfolding run accounts_from
@@ -115,7 +115,7 @@ perform_made R s NextExpiry v h e = contradiction {b = true} refl (cc)
 
 step_made : (R : ℕ) (s : State) (q : Call) (v : VerifiedWrite) → verified_write q ≡ some v → was_refused (step R s q).answer ≡ false → Made s.default_ttl v (step R s q).state
 unfolding gives was_refused
-step_made R s q v e = by-step R s q (λ (t : Step). was_refused t.answer ≡ false → Made s.default_ttl v t.state) (λ n r. contradiction {b = true} refl r)
+step_made R s q v e = by_step R s q (λ (t : Step). was_refused t.answer ≡ false → Made s.default_ttl v t.state) (λ n r. contradiction {b = true} refl r)
     (λ l r. perform_made R s q v (sound_is R s l.sound) e)
 
 main_of : (r : Row) → r.place ≤ 2 → at_place probation r ≡ false → in_main r ≡ true

@@ -10,7 +10,7 @@ use Rattle.rules.specs.Records.{Row, State}
 use Rattle.rules.specs.Memory.{capacity, cut, entry_bytes, held_rows, le_bytes, le_number, memory, row_bytes, row_of, rows_bytes, rows_of, stamp_bytes, view, view_rows}
 use Rattle.rules.specs.Lent.{AddrFits, Bytes, Small}
 use Rattle.rules.specs.Layout.{address_size, byte_size, default_ttl_offset, entry_offset, entry_size, head_size, key_offset, max_entries_offset, number_size, place_offset, row_count_offset, row_size, seq_offset, stamp_first_offset, stamp_seq_offset, stored_weight_offset, weight_offset}
-use Rattle.rules.proofs.MemoryLaws.{bytes_cut, bytes_drop, bytes_take, field, last-kept, last_number, length_cut, length_le, number, number-kept, part}
+use Rattle.rules.proofs.MemoryLaws.{bytes_cut, bytes_drop, bytes_take, field, last_kept, last_number, length_cut, length_le, number, number_kept, part}
 use Rattle.rules.proofs.EntryLaws.{EntryFits, entry_length, entry_memory, entry_view}
 
 pub record RowFits (r : Row) : Type 0 where
@@ -101,7 +101,7 @@ row_memory : (c : List ℕ) → Bytes c → length c ≡ row_size → row_bytes 
 unfolding row_bytes row_of
 row_memory c b h =
     part c b key_offset address_size _ (ap (λ (u : List ℕ). u ++ stamp_bytes (row_of c)) (entry_memory (cut entry_offset entry_size c) (bytes_cut entry_offset entry_size c b) (length_cut entry_offset entry_size c (omega arith)))
-    ∙ part c b entry_offset entry_size _ (number-kept c b place_offset byte_size _ (omega arith) (number-kept c b stamp_first_offset number_size _ (omega arith) (number-kept c b stamp_seq_offset number_size _ (omega arith) (last-kept c b weight_offset byte_size h)))))
+    ∙ part c b entry_offset entry_size _ (number_kept c b place_offset byte_size _ (omega arith) (number_kept c b stamp_first_offset number_size _ (omega arith) (number_kept c b stamp_seq_offset number_size _ (omega arith) (last_kept c b weight_offset byte_size h)))))
 
 rows_memory : (n : ℕ) (l : List ℕ) → n * row_size ≤ length l → Bytes l → rows_bytes (rows_of n l) ++ drop (n * row_size) l ≡ l
 unfolding rows_of rows_bytes
@@ -124,4 +124,4 @@ view_memory l h b =
     let f = held_fits l h in
     let d : n * row_size ≤ length (drop head_size l) = rw length-drop (omega arith) in
     let r : rows_bytes (rows_of n (drop head_size l)) ++ drop (head_size + n * row_size) l ≡ drop head_size l = rw (← drop-drop (n * row_size) head_size l) (rows_memory n (drop head_size l) d (bytes_drop head_size l b)) in
-    number-kept l b max_entries_offset number_size _ (omega arith) (number-kept l b default_ttl_offset number_size _ (omega arith) (number-kept l b seq_offset number_size _ (omega arith) (number-kept l b stored_weight_offset number_size _ (omega arith) (number-kept l b row_count_offset number_size _ (omega arith) r))))
+    number_kept l b max_entries_offset number_size _ (omega arith) (number_kept l b default_ttl_offset number_size _ (omega arith) (number_kept l b seq_offset number_size _ (omega arith) (number_kept l b stored_weight_offset number_size _ (omega arith) (number_kept l b row_count_offset number_size _ (omega arith) r))))

@@ -16,7 +16,7 @@ use Rattle.rules.specs.Sound.{from_verified}
 use Rattle.rules.specs.Entries.{verified}
 use Rattle.rules.specs.Room.{Chosen, Room, Sought, Walk, at_new_place, choose_victims, has_room, main_visits, make_room, next_victim, park, parked_at, put_back, raised, refiled, restamp, return_lapsed, room_can_be_made, seek, set_aside, settled, sought, stale, stamp, take_up, untouched, verified_in_main, visits_left}
 use Rattle.rules.proofs.Addresses.{contradiction}
-use Rattle.rules.proofs.RowLists.{Core, Rising, by_cond, by-maybe, change_cores, core, cores, every-all, every_change, every_keep, every_kept, every_map, every_mapped, every-three, every_turned, look, look_keep, lowest_at, lowest_none, map_cores, of_cores, rising_keep, to_cores, total_change, total_keep_le, total_le, total_map, total_same, total_twice, total_zero}
+use Rattle.rules.proofs.RowLists.{Core, Rising, by_cond, by_maybe, change_cores, core, cores, every_all, every_change, every_keep, every_kept, every_map, every_mapped, every_three, every_turned, look, look_keep, lowest_at, lowest_none, map_cores, of_cores, rising_keep, to_cores, total_change, total_keep_le, total_le, total_map, total_same, total_twice, total_zero}
 use Rattle.rules.proofs.Limits.{limits_of, max_of}
 use Rattle.rules.proofs.SoundTest.{RowOk, and_both, and_case}
 
@@ -133,10 +133,10 @@ going_later now q q' r l g = let o = g.ok in
     record { ok = record { place = o.place; source = o.source; mtu_mark = o.mtu_mark; long = o.long; short = o.short; heavy = o.heavy; light = o.light; stamped = omega (arith, o.stamped); hinted = o.hinted; on_probation = o.on_probation; parked = o.parked }; spared = g.spared }
 
 module _ (now : ℕ) (s : State) where
-  led-turn : (w w' : Walk) (i : ℕ) (f : Row → Row) → Led now s w → i < length w.state.rows → Turn now w.state.seq w'.state.seq (row_at i w.state.rows) (f (row_at i w.state.rows))
+  led_turn : (w w' : Walk) (i : ℕ) (f : Row → Row) → Led now s w → i < length w.state.rows → Turn now w.state.seq w'.state.seq (row_at i w.state.rows) (f (row_at i w.state.rows))
       → limits_of w'.state ≡ limits_of w.state → w'.state.rows ≡ change_row f i w.state.rows → w.state.seq ≤ w'.state.seq → w'.state.seq ≤ w.state.seq + 1 → w'.examined ≡ w.examined + 1
       → Led now s w'
-  led-turn w w' i f h l t m e a b c =
+  led_turn w w' i f h l t m e a b c =
       let rs = w.state.rows in
       let r = row_at i rs in
       let keeps : (g : Row → ℕ) → g (f r) ≡ g r → total g w'.state.rows ≡ total g rs = λ g q. rw e (omega (arith, total_change g f i rs l)) in
@@ -153,25 +153,25 @@ module _ (now : ℕ) (s : State) where
       }
 
   -- the four ways in which a row is taken up
-  pub main-of : (p : ℕ) (r : Row) → p < 2 → at_place p r ≡ true → in_main r ≡ true
-  main-of p r l h = let e = place_is p r h in in_main_lem r (omega arith)
+  pub main_of : (p : ℕ) (r : Row) → p < 2 → at_place p r ≡ true → in_main r ≡ true
+  main_of p r l h = let e = place_is p r h in in_main_lem r (omega arith)
 
-  led-restamp : (w : Walk) (i : ℕ) → i < length w.state.rows → in_main (row_at i w.state.rows) ≡ true → main_visits now (row_at i w.state.rows) ≡ 2 → Led now s w → Led now s (take_up restamp i w)
+  led_restamp : (w : Walk) (i : ℕ) → i < length w.state.rows → in_main (row_at i w.state.rows) ≡ true → main_visits now (row_at i w.state.rows) ≡ 2 → Led now s w → Led now s (take_up restamp i w)
   unfolding take_up restamp stamp with_rows raised
-  led-restamp w i l m t h =
+  led_restamp w i l m t h =
       let r = row_at i w.state.rows in
       let q = w.state.seq in
-      led-turn w (take_up restamp i w) i (λ x. refiled (q + 1) x.entry x.weight x) h l (subst (Turn now q (q + 1) r) (sym (refiled_main (q + 1) r m)) (filed_turn now q r m t)) refl refl (omega arith) (omega arith) refl
+      led_turn w (take_up restamp i w) i (λ x. refiled (q + 1) x.entry x.weight x) h l (subst (Turn now q (q + 1) r) (sym (refiled_main (q + 1) r m)) (filed_turn now q r m t)) refl refl (omega arith) (omega arith) refl
 
-  led-park : (w : Walk) (i : ℕ) → i < length w.state.rows → at_place by_use (row_at i w.state.rows) ≡ true → main_visits now (row_at i w.state.rows) ≡ 1 → verified now (row_at i w.state.rows).entry ≡ true → Led now s w → Led now s (take_up park i w)
+  led_park : (w : Walk) (i : ℕ) → i < length w.state.rows → at_place by_use (row_at i w.state.rows) ≡ true → main_visits now (row_at i w.state.rows) ≡ 1 → verified now (row_at i w.state.rows).entry ≡ true → Led now s w → Led now s (take_up park i w)
   unfolding take_up park stamp with_rows raised
-  led-park w i l m t v h =
-      led-turn w (take_up park i w) i (parked_at (w.state.seq + 1)) h l (parked_turn now w.state.seq (row_at i w.state.rows) m t v) refl refl (omega arith) (omega arith) refl
+  led_park w i l m t v h =
+      led_turn w (take_up park i w) i (parked_at (w.state.seq + 1)) h l (parked_turn now w.state.seq (row_at i w.state.rows) m t v) refl refl (omega arith) (omega arith) refl
 
-  led-aside : (w : Walk) (i : ℕ) → i < length w.state.rows → at_place by_use (row_at i w.state.rows) ≡ true → main_visits now (row_at i w.state.rows) ≡ 1 → verified now (row_at i w.state.rows).entry ≡ false → Led now s w → Led now s (set_aside i (take_up untouched i w))
+  led_aside : (w : Walk) (i : ℕ) → i < length w.state.rows → at_place by_use (row_at i w.state.rows) ≡ true → main_visits now (row_at i w.state.rows) ≡ 1 → verified now (row_at i w.state.rows).entry ≡ false → Led now s w → Led now s (set_aside i (take_up untouched i w))
   unfolding take_up untouched set_aside with_rows
-  led-aside w i l m t v h =
-      led-turn w (set_aside i (take_up untouched i w)) i (at_new_place aside) h l (aside_turn now w.state.seq (row_at i w.state.rows) m t v) refl refl (omega arith) (omega arith) refl
+  led_aside w i l m t v h =
+      led_turn w (set_aside i (take_up untouched i w)) i (at_new_place aside) h l (aside_turn now w.state.seq (row_at i w.state.rows) m t v) refl refl (omega arith) (omega arith) refl
 
 -- the turns that are left to a row
 pub turns_stale : (now : ℕ) (r : Row) → at_place by_use r ≡ true → stale r ≡ true → main_visits now r ≡ 2
@@ -252,15 +252,15 @@ record Woken (now : ℕ) (s : State) (w x : Walk) : Type 0 where
 lapsed_led : (now : ℕ) (s : State) (n : ℕ) (w : Walk) → n ≡ visits_left now w → Led now s w → Woken now s w (return_lapsed n now w)
 unfolding return_lapsed
 lapsed_led now s zero w e h = record { led = h; calm = every_map (λ r z. (turns_none now r z).1) w.state.rows (total_zero (main_visits now) w.state.rows (sym e)); mains = refl; weights = refl }
-lapsed_led now s (suc n) w e h = by-maybe (Woken now s w) (lowest_stamp parked w.state.rows)
+lapsed_led now s (suc n) w e h = by_maybe (Woken now s w) (lowest_stamp parked w.state.rows)
     (λ d. record { led = h; calm = every_map (λ r a q. contradiction q a) w.state.rows (lowest_none parked w.state.rows d); mains = refl; weights = refl })
     (λ i d. let g = lowest_at parked w.state.rows i d in
     by_cond (Woken now s w) (ltb (row_at i w.state.rows).stamp_first now)
     (λ a.
     let t = turns_lapsed now (row_at i w.state.rows) g.there a in
-    let m = main-of now s parked (row_at i w.state.rows) (omega arith) g.there in
+    let m = main_of now s parked (row_at i w.state.rows) (omega arith) g.there in
     let x = next_restamp now w i g.inside m t in
-    let k = lapsed_led now s n (take_up restamp i w) (omega (arith, x.less)) (led-restamp now s w i g.inside m t h) in
+    let k = lapsed_led now s n (take_up restamp i w) (omega (arith, x.less)) (led_restamp now s w i g.inside m t h) in
     record { led = k.led; calm = k.calm; mains = k.mains ∙ x.mains; weights = k.weights ∙ x.weights })
     (λ a. record { led = h; calm = every_map (λ r f q. omega (arith, f q, ltb-false (row_at i w.state.rows).stamp_first now a)) w.state.rows g.least; mains = refl; weights = refl }))
 
@@ -299,28 +299,28 @@ aside_mains w i l h =
 seek_led : (now : ℕ) (s : State) (n : ℕ) (w : Walk) → n ≡ visits_left now w → Led now s w → Calm now w.state.rows → Ends now s w (seek n now w)
 unfolding seek sought
 seek_led now s zero w e h c = record { ended = λ q. record { led = h; none_by_use = every_map (λ r z. (turns_none now r z).0) w.state.rows (total_zero (main_visits now) w.state.rows (sym e)); calm = c; mains = refl; weights = refl }; yields = λ i q. contradiction {b = true} refl (cc) }
-seek_led now s (suc n) w e h c = by-maybe (Ends now s w) (lowest_stamp by_use w.state.rows)
+seek_led now s (suc n) w e h c = by_maybe (Ends now s w) (lowest_stamp by_use w.state.rows)
     (λ d. record { ended = λ q. record { led = h; none_by_use = lowest_none by_use w.state.rows d; calm = c; mains = refl; weights = refl }; yields = λ i q. contradiction {b = true} refl (cc) })
     (λ i d.
     let r = row_at i w.state.rows in
     let g = lowest_at by_use w.state.rows i d in
-    let m = main-of now s by_use r (omega arith) g.there in
+    let m = main_of now s by_use r (omega arith) g.there in
     by_cond (Ends now s w) (stale r)
     (λ a.
     let t = turns_stale now r g.there a in
     let x = next_restamp now w i g.inside m t in
-    let k = seek_led now s n (take_up restamp i w) (omega (arith, x.less)) (led-restamp now s w i g.inside m t h) (calm_restamp now w i m c) in
+    let k = seek_led now s n (take_up restamp i w) (omega (arith, x.less)) (led_restamp now s w i g.inside m t h) (calm_restamp now w i m c) in
     record { ended = λ q. let u = k.ended q in record { led = u.led; none_by_use = u.none_by_use; calm = u.calm; mains = u.mains ∙ x.mains; weights = u.weights ∙ x.weights }; yields = λ j q. ((k.yields j q).0, (k.yields j q).1 ∙ x.mains) })
     (λ a. let t = turns_last now r g.there a in
     by_cond (Ends now s w) (verified now r.entry)
     (λ b.
     let x = next_park now w i g.inside g.there t b in
-    let k = seek_led now s n (take_up park i w) (omega (arith, x.less)) (led-park now s w i g.inside g.there t b h) (calm_park now w i b c) in
+    let k = seek_led now s n (take_up park i w) (omega (arith, x.less)) (led_park now s w i g.inside g.there t b h) (calm_park now w i b c) in
     record { ended = λ q. let u = k.ended q in record { led = u.led; none_by_use = u.none_by_use; calm = u.calm; mains = u.mains ∙ x.mains; weights = u.weights ∙ x.weights }; yields = λ j q. ((k.yields j q).0, (k.yields j q).1 ∙ x.mains) })
     (λ b. record {
       ended = λ q. contradiction {b = true} refl (cc);
       yields = λ j q. let z : i ≡ j = cc in subst (λ (j : ℕ). Led now s (set_aside j (take_up untouched i w)) × (suc (main_count (set_aside j (take_up untouched i w)).state) ≡ main_count w.state)) z
-          (led-aside now s w i g.inside g.there t b h, aside_mains w i g.inside g.there);
+          (led_aside now s w i g.inside g.there t b h, aside_mains w i g.inside g.there);
     })))
 
 pub next_led : (now : ℕ) (s : State) (w : Walk) → Led now s w → Ends now s w (next_victim now w)
@@ -379,7 +379,7 @@ choose_led now w s (suc n) v h =
     let k = next_led now s v h in
     by_cond (Chose now w s (suc n) v) (has_room w v.state)
     (λ e. record { led = h; fits = λ q. e; exact = λ l. sym (roomy e) })
-    (λ e. by-maybe (Chose now w s (suc n) v) x.victim
+    (λ e. by_maybe (Chose now w s (suc n) v) x.victim
     (λ d. record { led = (k.ended d).led; fits = λ q. contradiction {b = false} q refl; exact = λ l. sym (sym (stuck x.walk (k.ended d)) ∙ e) })
     (λ i d. let y = k.yields i d in let c = choose_led now w s n (set_aside i x.walk) y.0 in
     record { led = c.led; fits = c.fits; exact = λ l. c.exact (omega (arith, y.1)) }))
@@ -390,7 +390,7 @@ choose_led now w s (suc n) v h =
 
     stuck : (x : Walk) → Stuck now s v x → ltb (main_count v.state) v.state.max_entries && leb (main_weight v.state + w) (weight_bound v.state.max_entries) ≡ room_test now w s
     stuck x u =
-        let firmly : Every (λ r. in_main r ≡ verified_in_main now r) x.state.rows = every-three (λ r g a b. main_verified now x.state.seq r g a b) x.state.rows u.led.each u.none_by_use u.calm in
+        let firmly : Every (λ r. in_main r ≡ verified_in_main now r) x.state.rows = every_three (λ r g a b. main_verified now x.state.seq r g a b) x.state.rows u.led.each u.none_by_use u.calm in
         let c : main_count v.state ≡ count_rows (verified_in_main now) s.rows = sym u.mains ∙ total_same (λ r. cond (in_main r) 1 0) (λ r. cond (verified_in_main now r) 1 0) x.state.rows (every_map (λ r e. ap (λ b. cond b 1 0) e) x.state.rows firmly) ∙ u.led.firms in
         let d : main_weight v.state ≡ weigh_rows (verified_in_main now) s.rows = sym u.weights ∙ total_same (λ r. cond (in_main r) r.weight 0) (λ r. cond (verified_in_main now r) r.weight 0) x.state.rows (every_map (λ r e. ap (λ b. cond b r.weight 0) e) x.state.rows firmly) ∙ u.led.loads in
         rw (c, d, ap max_of h.limits)
@@ -468,7 +468,7 @@ remains b rs = cond b (keep_rows stays rs) (map put_back rs)
 
 remains_visits : (b : Bool) (rs : List Row) → count_rows in_probation (remains b rs) ≤ count_rows in_probation rs
 remains_visits true rs = total_keep_le (λ r. cond (in_probation r) 1 0) stays rs
-remains_visits false rs = omega (arith, total_map (λ r. cond (in_probation r) 1 0) put_back rs, total_same (λ r. cond (in_probation (put_back r)) 1 0) (λ r. cond (in_probation r) 1 0) rs (every-all (λ r. ap (λ (y : Core). cond y.on_probation 1 0) (back_core r)) rs))
+remains_visits false rs = omega (arith, total_map (λ r. cond (in_probation r) 1 0) put_back rs, total_same (λ r. cond (in_probation (put_back r)) 1 0) (λ r. cond (in_probation r) 1 0) rs (every_all (λ r. ap (λ (y : Core). cond y.on_probation 1 0) (back_core r)) rs))
 
 remains_mains : (b : Bool) (rs : List Row) → count_rows in_main (remains b rs) ≤ count_rows (λ r. in_main (put_back r)) rs
 remains_mains true rs = omega (arith, total_keep_le (λ r. cond (in_main r) 1 0) stays rs, total_le (λ r. cond (in_main r) 1 0) (λ r. cond (in_main (put_back r)) 1 0) main_back rs)

@@ -90,26 +90,26 @@ pub record TwiceEight (l p x : List ℕ) : Type 0 where
 
 -- a and b are the numbers of the first eight bytes
 module _ {l m p q x y : List ℕ} {a b : ℕ} (i : TwiceEight l p x) (j : TwiceEight m q y) (u : NumberOf p a) (v : NumberOf q b) where
-  pub first-less : a < b → bytes_before l m ≡ true
-  first-less h =
+  pub first_less : a < b → bytes_before l m ≡ true
+  first_less h =
       let e : length p ≡ length q = i.first ∙ sym j.first in
       let z : goes_on 0 p < goes_on 0 q = omega (arith, u.value, v.value) in
       rw (i.whole, j.whole) (first_decides p q x y e (less_bytes p q 0 e u.bytes v.bytes z))
 
-  first-same : a ≡ b → p ≡ q
-  first-same h = same_bytes_lem p q 0 (i.first ∙ sym j.first) u.bytes v.bytes (sym u.value ∙ h ∙ v.value)
+  first_same : a ≡ b → p ≡ q
+  first_same h = same_bytes_lem p q 0 (i.first ∙ sym j.first) u.bytes v.bytes (sym u.value ∙ h ∙ v.value)
 
   -- they are equal, and c and d are the numbers of the last eight
   module _ {c d : ℕ} (h : a ≡ b) (s : NumberOf x c) (t : NumberOf y d) where
-    pub second-less : c < d → bytes_before l m ≡ true
-    second-less g =
+    pub second_less : c < d → bytes_before l m ≡ true
+    second_less g =
         let z : goes_on 0 x < goes_on 0 y = omega (arith, s.value, t.value) in
-        rw (i.whole, j.whole, first-same h) (second_decides q x y (less_bytes x y 0 (i.second ∙ sym j.second) s.bytes t.bytes z))
+        rw (i.whole, j.whole, first_same h) (second_decides q x y (less_bytes x y 0 (i.second ∙ sym j.second) s.bytes t.bytes z))
 
-    pub both-same : c ≡ d → l ≡ m
-    both-same g =
+    pub both_same : c ≡ d → l ≡ m
+    both_same g =
         let z = same_bytes_lem x y 0 (i.second ∙ sym j.second) s.bytes t.bytes (sym s.value ∙ g ∙ t.value) in
-        rw (i.whole, j.whole, first-same h, z)
+        rw (i.whole, j.whole, first_same h, z)
 
 -- ---- eight bytes, as the code reads them
 

@@ -15,32 +15,32 @@ use Rattle.search.specs.BigEndian.{NumberOf}
 use Rattle.search.specs.ByKey.{order_of}
 use Rattle.search.specs.declared.keys.Order.TheVariants.{Less, Equal, Greater}
 use Rattle.search.proofs.OrderLaws.{before_less, same_equal, behind_greater}
-use Rattle.search.proofs.BigEndianLaws.{held_halves, given_halves, first-less, second-less, both-same}
+use Rattle.search.proofs.BigEndianLaws.{held_halves, given_halves, first_less, second_less, both_same}
 
 -- ---- an address in memory against another, a and b the numbers of their first eight bytes
 
 module _ (at : ℕ) (l : List ℕ) (k : NodeAddr) (fits : at + address_size ≤ length l) (size : address_size ≡ length k.0) {a b : ℕ} (u : NumberOf (cut at 8 l) a) (v : NumberOf (cut 0 8 k.0) b) where
-  pub high-less : a < b → Less ≡ order_of (record { 0 = cut at address_size l }) k
+  pub high_less : a < b → Less ≡ order_of (record { 0 = cut at address_size l }) k
   unfolding addr_before
-  high-less h = sym (before_less _ _ (first-less (held_halves at l fits) (given_halves k.0 (sym size)) u v h))
+  high_less h = sym (before_less _ _ (first_less (held_halves at l fits) (given_halves k.0 (sym size)) u v h))
 
-  pub high-greater : b < a → Greater ≡ order_of (record { 0 = cut at address_size l }) k
+  pub high_greater : b < a → Greater ≡ order_of (record { 0 = cut at address_size l }) k
   unfolding addr_before
-  high-greater h = sym (behind_greater _ _ (first-less (given_halves k.0 (sym size)) (held_halves at l fits) v u h))
+  high_greater h = sym (behind_greater _ _ (first_less (given_halves k.0 (sym size)) (held_halves at l fits) v u h))
 
   -- these are equal, and c and d the numbers of the last eight bytes
   module _ (p : b ≤ a) (q : a ≤ b) {c d : ℕ} (s : NumberOf (cut (at + 8) 8 l) c) (t : NumberOf (cut 8 8 k.0) d) where
-    pub low-less : c < d → Less ≡ order_of (record { 0 = cut at address_size l }) k
+    pub low_less : c < d → Less ≡ order_of (record { 0 = cut at address_size l }) k
     unfolding addr_before
-    low-less h = sym (before_less _ _ (second-less (held_halves at l fits) (given_halves k.0 (sym size)) u v (omega arith) s t h))
+    low_less h = sym (before_less _ _ (second_less (held_halves at l fits) (given_halves k.0 (sym size)) u v (omega arith) s t h))
 
-    pub low-greater : d < c → Greater ≡ order_of (record { 0 = cut at address_size l }) k
+    pub low_greater : d < c → Greater ≡ order_of (record { 0 = cut at address_size l }) k
     unfolding addr_before
-    low-greater h = sym (behind_greater _ _ (second-less (given_halves k.0 (sym size)) (held_halves at l fits) v u (omega arith) t s h))
+    low_greater h = sym (behind_greater _ _ (second_less (given_halves k.0 (sym size)) (held_halves at l fits) v u (omega arith) t s h))
 
-    pub low-equal : d ≤ c → c ≤ d → Equal ≡ order_of (record { 0 = cut at address_size l }) k
-    low-equal g h =
-        let e = both-same (held_halves at l fits) (given_halves k.0 (sym size)) u v (omega arith) s t (omega arith) in
+    pub low_equal : d ≤ c → c ≤ d → Equal ≡ order_of (record { 0 = cut at address_size l }) k
+    low_equal g h =
+        let e = both_same (held_halves at l fits) (given_halves k.0 (sym size)) u v (omega arith) s t (omega arith) in
         sym (same_equal _ _ (same_eq _ _ (ap (λ (x : List ℕ). record { 0 = x }) e)))
 
 -- ---- the rows of the view

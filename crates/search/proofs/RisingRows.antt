@@ -78,21 +78,21 @@ halved_start k rs n e = record { ordered = omega arith; within = omega arith; be
 
 -- row m, of those that are left
 module _ {k : NodeAddr} {rs : List Row} {lo hi : ℕ} (d : Halved k rs lo hi) (a : ascends rs ≡ true) (m : ℕ) (p : lo ≤ m) (q : m < hi) where
-  pub halved-less : order_of (row_at m rs).key k ≡ Less → Halved k rs (m + 1) hi
-  halved-less e =
+  pub halved_less : order_of (row_at m rs).key k ≡ Less → Halved k rs (m + 1) hi
+  halved_less e =
       let b = less_before (row_at m rs).key k e in
       let lower : (j : ℕ) → j < m → addr_before (row_at j rs).key k ≡ true = λ j h. before_trans (row_at j rs).key (row_at m rs).key k (rising_at rs j m a h (omega arith)) b in
       record { ordered = omega arith; within = d.within; before = below_more _ m lower b; behind = d.behind }
 
-  pub halved-greater : order_of (row_at m rs).key k ≡ Greater → Halved k rs lo m
-  halved-greater e =
+  pub halved_greater : order_of (row_at m rs).key k ≡ Greater → Halved k rs lo m
+  halved_greater e =
       let b = greater_behind (row_at m rs).key k e in
       let higher : (j : ℕ) → m < j → j < length rs → addr_before k (row_at j rs).key ≡ true = λ j h l. before_trans k (row_at m rs).key (row_at j rs).key b (rising_at rs m j a h l) in
       record { ordered = p; within = omega arith; before = d.before; behind = λ j h l. ⊎_elim (λ u. rw u at b) (λ u. higher j u l) (eq-or-lt_of_le h) }
 
-  pub halved-equal : order_of (row_at m rs).key k ≡ Equal → At m ≡ searched k rs
+  pub halved_equal : order_of (row_at m rs).key k ≡ Equal → At m ≡ searched k rs
   unfolding searched
-  halved-equal e = rw (found_at k rs m a (omega arith) (equal_same (row_at m rs).key k e))
+  halved_equal e = rw (found_at k rs m a (omega arith) (equal_same (row_at m rs).key k e))
 
 pub halved_end : {k : NodeAddr} {rs : List Row} {lo hi : ℕ} → Halved k rs lo hi → hi ≤ lo → Absent lo ≡ searched k rs
 unfolding searched

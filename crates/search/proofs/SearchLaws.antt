@@ -14,7 +14,7 @@ use Rattle.rules.specs.Records.{Row}
 use Rattle.rules.specs.Rows.{find, insert_in_order, row_at, total}
 use Rattle.rules.specs.Sound.{ascends}
 use Rattle.rules.proofs.Addresses.{before_total, before_trans, contradiction}
-use Rattle.rules.proofs.RowLists.{by_cond, cores, find_at, find_none, none-unless}
+use Rattle.rules.proofs.RowLists.{by_cond, cores, find_at, find_none, none_unless}
 use Rattle.search.specs.ByKey.{rows_before, searched}
 use Rattle.search.specs.declared.outcome.Search.TheVariants.{At, Absent}
 use Rattle.search.proofs.RisingRows.{first_before, parted, rest_ascends}
@@ -35,7 +35,7 @@ at_found k rs i h = go (find k rs) refl
     go (some j) e = let z = sym (find_searched k rs j e) ∙ h in cc
 
 pub absent_none : (k : NodeAddr) (rs : List Row) (i : ℕ) → searched k rs ≡ Absent i → find k rs ≡ none
-absent_none k rs i h = none-unless (find k rs) (λ j e. contradiction {b = true} refl (let z = sym (find_searched k rs j e) ∙ h in cc))
+absent_none k rs i h = none_unless (find k rs) (λ j e. contradiction {b = true} refl (let z = sym (find_searched k rs j e) ∙ h in cc))
 
 pub at_inside : (k : NodeAddr) (rs : List Row) (i : ℕ) → searched k rs ≡ At i → i < length rs
 at_inside k rs i h = (find_at k rs i (at_found k rs i h)).inside

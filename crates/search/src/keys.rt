@@ -12,7 +12,7 @@ use raw::layout::{HEAD, ROW};
 use raw::numbers::wide;
 use types::node_addr::NodeAddr;
 
-#[derive(Drop)]
+#[derive(Clone, Copy)]
 pub enum Order {
     Less,
     Equal,

@@ -38,8 +38,8 @@ pub counted_start : {p : Row → Bool} {n : ℕ} {rs : List Row} → length rs �
 counted_start {p} {n} {rs} h = record { long = h; within = omega arith; few = omega arith; count = sym (sum_none (λ r. cond (p r) 1 0) n rs (omega arith)) }
 
 module _ {p : Row → Bool} {n i c : ℕ} {rs : List Row} (t : Counted p n i c rs) where
-  pub counted-turn : {b : Bool} → 0 < i → b ≡ p (row_at (i - 1) rs) → Counted p n (i - 1) (c + bool_byte b) rs
-  counted-turn {b} z q =
+  pub counted_turn : {b : Bool} → 0 < i → b ≡ p (row_at (i - 1) rs) → Counted p n (i - 1) (c + bool_byte b) rs
+  counted_turn {b} z q =
       let k = sum_down (λ r. cond (p r) 1 0) i (i - 1) rs (omega arith) (omega (arith, t.long, t.within)) in
       record {
         long = t.long;
@@ -48,8 +48,8 @@ module _ {p : Row → Bool} {n i c : ℕ} {rs : List Row} (t : Counted p n i c r
         count = omega (arith, t.count, k, as_count b ∙ ap (λ (x : Bool). cond x 1 0) q);
       }
 
-  pub counted-end : i ≤ 0 → c ≡ count_rows p rs
-  counted-end z = let e : i ≡ 0 = omega arith in subst (λ (j : ℕ). c ≡ count_rows p (drop j rs)) e t.count
+  pub counted_end : i ≤ 0 → c ≡ count_rows p rs
+  counted_end z = let e : i ≡ 0 = omega arith in subst (λ (j : ℕ). c ≡ count_rows p (drop j rs)) e t.count
 
 pub count_few : (p : Row → Bool) (rs : List Row) → count_rows p rs ≤ length rs
 unfolding total

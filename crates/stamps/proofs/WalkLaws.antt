@@ -14,7 +14,7 @@ use Rattle.rules.specs.Entries.{verified}
 use Rattle.rules.specs.Room.{Walk, main_visits, visits_left, take_up, restamp, park, stamp, raised, untouched, stale, return_lapsed, sought, next_victim}
 use Rattle.rules.specs.Memory.{view_rows}
 use Rattle.rules.specs.Layout.{head_size, number_limit, row_size}
-use Rattle.rules.proofs.RowLists.{by_cond, by-maybe, lowest_at, total_some}
+use Rattle.rules.proofs.RowLists.{by_cond, by_maybe, lowest_at, total_some}
 use Rattle.rules.proofs.Walks.{turns_last, turns_stale}
 use Rattle.rules.proofs.Loops.{waking, lapsed_lapsed, lapsed_none, lapsed_calm, seeking, seek_none, seek_stale, seek_verified, seek_yields}
 use Rattle.memory.proofs.RowLaws.{view_length}
@@ -83,15 +83,15 @@ module _ {now n e₀ e i : ℕ} {l m : List ℕ} (u : Found waking parked now n 
         × (waking now (walk_from (view_rows n m) e) ≡ waking now (take_up restamp i (walk_from (view_rows n m) e)))
     lapsed = lapsed_lapsed now (walk_from (view_rows n m) e) i u.lowest (lt-ltb (row_at i (view_rows n m).rows).stamp_first now h)
 
-    pub lapsed-left : 1 ≤ total (main_visits now) (view_rows n m).rows
-    lapsed-left = omega (arith, lapsed.0)
+    pub lapsed_left : 1 ≤ total (main_visits now) (view_rows n m).rows
+    lapsed_left = omega (arith, lapsed.0)
 
-    pub lapsed-turn : {x : List ℕ} → length x ≡ length m → view_rows n x ≡ restamp i (view_rows n m) → Turned waking now n e₀ e l m x
+    pub lapsed_turn : {x : List ℕ} → length x ≡ length m → view_rows n x ≡ restamp i (view_rows n m) → Turned waking now n e₀ e l m x
     unfolding take_up restamp stamp raised with_rows
-    lapsed-turn k q = turned u.going k (restamp i (view_rows n m)) q refl lapsed
+    lapsed_turn k q = turned u.going k (restamp i (view_rows n m)) q refl lapsed
 
-  pub lapsed-rests : now ≤ (row_at i (view_rows n m).rows).stamp_first → walk_from (view_rows n m) e ≡ waking now (walk_from (view_rows n l) e₀)
-  lapsed-rests h =
+  pub lapsed_rests : now ≤ (row_at i (view_rows n m).rows).stamp_first → walk_from (view_rows n m) e ≡ waking now (walk_from (view_rows n l) e₀)
+  lapsed_rests h =
       let w = walk_from (view_rows n m) e in
       sym (u.going.same ∙ lapsed_calm now (visits_left now w) w i u.lowest (le-ltb (row_at i (view_rows n m).rows).stamp_first now h))
 
@@ -111,7 +111,7 @@ restamps i w = (refl, refl)
 lapsed_paced : (now n : ℕ) (w : Walk) → Paced now w (return_lapsed n now w)
 unfolding return_lapsed
 lapsed_paced now zero w = record { keys = refl; stamps = refl }
-lapsed_paced now (suc n) w = by-maybe (Paced now w) (lowest_stamp parked w.state.rows)
+lapsed_paced now (suc n) w = by_maybe (Paced now w) (lowest_stamp parked w.state.rows)
     (λ d. record { keys = refl; stamps = refl })
     (λ i d. by_cond (Paced now w) (ltb (row_at i w.state.rows).stamp_first now)
     (λ a.
@@ -140,15 +140,15 @@ module _ {now n e₀ e i : ℕ} {l m : List ℕ} (u : Found seeking by_use now n
       once r true e a = omega (arith, turns_stale now r a e)
       once r false e a = omega (arith, turns_last now r a e)
 
-  pub stale-turn : {b : Bool} {x : List ℕ} → b ≡ stale (row_at i (view_rows n m).rows) → b ≡ true → length x ≡ length m → view_rows n x ≡ restamp i (view_rows n m) →
+  pub stale_turn : {b : Bool} {x : List ℕ} → b ≡ stale (row_at i (view_rows n m).rows) → b ≡ true → length x ≡ length m → view_rows n x ≡ restamp i (view_rows n m) →
       Turned seeking now n e₀ e l m x
   unfolding take_up restamp stamp raised with_rows
-  stale-turn h t k q = turned u.going k (restamp i (view_rows n m)) q refl (seek_stale now (walk_from (view_rows n m) e) i u.lowest (sym h ∙ t))
+  stale_turn h t k q = turned u.going k (restamp i (view_rows n m)) q refl (seek_stale now (walk_from (view_rows n m) e) i u.lowest (sym h ∙ t))
 
   module _ {b v : Bool} (h : b ≡ stale (row_at i (view_rows n m).rows)) (f : b ≡ false) (d : v ≡ verified now (row_at i (view_rows n m).rows).entry) where
-    pub park-turn : {x : List ℕ} → v ≡ true → length x ≡ length m → view_rows n x ≡ park i (view_rows n m) → Turned seeking now n e₀ e l m x
+    pub park_turn : {x : List ℕ} → v ≡ true → length x ≡ length m → view_rows n x ≡ park i (view_rows n m) → Turned seeking now n e₀ e l m x
     unfolding take_up park stamp raised with_rows
-    park-turn t k q = turned u.going k (park i (view_rows n m)) q refl (seek_verified now (walk_from (view_rows n m) e) i u.lowest (sym h ∙ f) (sym d ∙ t))
+    park_turn t k q = turned u.going k (park i (view_rows n m)) q refl (seek_verified now (walk_from (view_rows n m) e) i u.lowest (sym h ∙ f) (sym d ∙ t))
 
     pub yielded : (z : State) → v ≡ false → walk_from (view_rows n l) e₀ ≡ waking now (walk_from z 0) →
         sought_of (record { found = At i; examined = e + 1 }) (view_rows n m) ≡ next_victim now (walk_from z 0)

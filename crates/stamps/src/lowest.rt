@@ -7,28 +7,28 @@ ghost use Rattle.stamps.specs.Walked.{no_row, lower_best, lower_row, best_row, l
 use memory::codes::{BY_USE, PARKED, PROBATION};
 
 // The row with the lowest stamp so far, and that stamp; a row past the last where there is none. An enum is slow to copy for each row.
-#[derive(Drop)]
+#[derive(Clone, Copy)]
 struct Best {
     row: usize,
     first: u64,
     seq: u64,
 }
 
-#[derive(Drop)]
+#[derive(Clone, Copy)]
 pub enum Lowest {
     At(usize),
     Nothing,
 }
 
 // The row with the lowest stamp of a place, and how many rows are at that place.
-#[derive(Drop)]
+#[derive(Clone, Copy)]
 pub struct LowestStamp {
     pub row: Lowest,
     pub count: u64,
 }
 
 // The rows of main with the lowest stamps, of those parked and of those in ByUse, and how many rows main has.
-#[derive(Drop)]
+#[derive(Clone, Copy)]
 pub struct LowestOfMain {
     pub parked: Lowest,
     pub by_use: Lowest,

@@ -13,14 +13,14 @@ use entries::times::is_verified;
 use memory::codes::BY_USE;
 
 // How many parked rows returned, and the row that the walk takes up next, if any.
-#[derive(Drop)]
+#[derive(Clone, Copy)]
 struct Returned {
     rows: u64,
     next: Lowest,
 }
 
 // The victim that a walk yields, and the keys that it took up.
-#[derive(Drop)]
+#[derive(Clone, Copy)]
 pub struct Victim {
     pub found: Lowest,
     pub examined: u64,

@@ -21,22 +21,22 @@ use Rattle.state.specs.Parts.{head_sound, rows_sound, tallied}
 -- ---- the rows from row i on
 
 module _ (rs : List Row) (i : ℕ) (h : i < length rs) where
-  all-turn : (p : Row → Bool) → all p (drop i rs) ≡ (p (row_at i rs) && all p (drop (i + 1) rs))
+  all_turn : (p : Row → Bool) → all p (drop i rs) ≡ (p (row_at i rs) && all p (drop (i + 1) rs))
   unfolding all
-  all-turn p = ap (all p) (uncons rs i blank_row h)
+  all_turn p = ap (all p) (uncons rs i blank_row h)
 
-  ascends-turn : ascends (drop i rs) ≡ (leads (row_at i rs) (drop (i + 1) rs) && ascends (drop (i + 1) rs))
+  ascends_turn : ascends (drop i rs) ≡ (leads (row_at i rs) (drop (i + 1) rs) && ascends (drop (i + 1) rs))
   unfolding ascends
-  ascends-turn = ap ascends (uncons rs i blank_row h)
+  ascends_turn = ap ascends (uncons rs i blank_row h)
 
 module _ (rs : List Row) (i : ℕ) (h : length rs ≤ i) where
   all_end : (p : Row → Bool) → all p (drop i rs) ≡ true
   unfolding all
   all_end p = rw (drop_of_length-le rs h)
 
-  ascends-end : ascends (drop i rs) ≡ true
+  ascends_end : ascends (drop i rs) ≡ true
   unfolding ascends
-  ascends-end = rw (drop_of_length-le rs h)
+  ascends_end = rw (drop_of_length-le rs h)
 
 -- ---- the pass
 
@@ -61,13 +61,13 @@ at_most true w = omega arith
 at_most false w = omega arith
 
 module _ (q : ℕ) (rs : List Row) (t : Totals) (i : ℕ) (p : Passing q rs t i) (h : i < length rs) where
-  pub row-stops : (M Q w : ℕ) {x : Bool} → x ≡ row_sound q (row_at i rs) → not x ≡ true → false ≡ rows_sound M Q q w rs
+  pub row_stops : (M Q w : ℕ) {x : Bool} → x ≡ row_sound q (row_at i rs) → not x ≡ true → false ≡ rows_sound M Q q w rs
   unfolding rows_sound
-  row-stops M Q w {x} e f = rw (p.each, all-turn rs i h (row_sound q), ← e, not-true x f) (simp and-false)
+  row_stops M Q w {x} e f = rw (p.each, all_turn rs i h (row_sound q), ← e, not-true x f) (simp and-false)
 
-  pub key-stops : (M Q w : ℕ) {x : Bool} → x ≡ leads (row_at i rs) (drop (i + 1) rs) → not x ≡ true → false ≡ rows_sound M Q q w rs
+  pub key_stops : (M Q w : ℕ) {x : Bool} → x ≡ leads (row_at i rs) (drop (i + 1) rs) → not x ≡ true → false ≡ rows_sound M Q q w rs
   unfolding rows_sound
-  key-stops M Q w {x} e f = rw (p.keys, ascends-turn rs i h, ← e, not-true x f) (simp and-false)
+  key_stops M Q w {x} e f = rw (p.keys, ascends_turn rs i h, ← e, not-true x f) (simp and-false)
 
   turn : row_sound q (row_at i rs) ≡ true → leads (row_at i rs) (drop (i + 1) rs) ≡ true → (row_at i rs).weight < 256
       → Passing q rs (tallied t (row_at i rs).place (row_at i rs).weight) (i + 1)
@@ -85,8 +85,8 @@ module _ (q : ℕ) (rs : List Row) (t : Totals) (i : ℕ) (p : Passing q rs t i)
       let v0 = p.weights in
       record {
         within = omega arith;
-        each = p.each ∙ all-turn rs i h (row_sound q) ∙ simp a;
-        keys = p.keys ∙ ascends-turn rs i h ∙ simp b;
+        each = p.each ∙ all_turn rs i h (row_sound q) ∙ simp a;
+        keys = p.keys ∙ ascends_turn rs i h ∙ simp b;
         mains = omega arith;
         probations = omega arith;
         weights = omega arith;
@@ -95,9 +95,9 @@ module _ (q : ℕ) (rs : List Row) (t : Totals) (i : ℕ) (p : Passing q rs t i)
         light = omega arith;
       }
 
-  pub passing-turn : {x y : Bool} {k w : ℕ} → x ≡ row_sound q (row_at i rs) → not x ≡ false → y ≡ leads (row_at i rs) (drop (i + 1) rs) → not y ≡ false
+  pub passing_turn : {x y : Bool} {k w : ℕ} → x ≡ row_sound q (row_at i rs) → not x ≡ false → y ≡ leads (row_at i rs) (drop (i + 1) rs) → not y ≡ false
       → k ≡ (row_at i rs).place → w ≡ (row_at i rs).weight → w < 256 → Passing q rs (tallied t k w) (i + 1)
-  passing-turn {x} {y} {k} {w} a a1 b b1 ek ew z = rw (ek, ew) (turn (sym a ∙ not-false x a1) (sym b ∙ not-false y b1) (omega arith))
+  passing_turn {x} {y} {k} {w} a a1 b b1 ek ew z = rw (ek, ew) (turn (sym a ∙ not-false x a1) (sym b ∙ not-false y b1) (omega arith))
 
 pub passing_end : (q M Q w : ℕ) (rs : List Row) (t : Totals) (i : ℕ) → Passing q rs t i → length rs ≤ i
     → (leb t.main M && (leb t.probation Q && eqb w t.weight)) ≡ rows_sound M Q q w rs
@@ -106,7 +106,7 @@ passing_end q M Q w rs t i p h =
     let a : t.main ≡ count_rows in_main rs = omega (arith, p.mains, total_end (λ s. cond (in_main s) 1 0) i rs h) in
     let b : t.probation ≡ count_rows in_probation rs = omega (arith, p.probations, total_end (λ s. cond (in_probation s) 1 0) i rs h) in
     let c : t.weight ≡ weigh_rows in_main rs = omega (arith, p.weights, total_end (λ s. cond (in_main s) s.weight 0) i rs h) in
-    rw (p.each, p.keys, all_end rs i h (row_sound q), ascends-end rs i h, a, b, c) (simp and-true)
+    rw (p.each, p.keys, all_end rs i h (row_sound q), ascends_end rs i h, a, b, c) (simp and-true)
 
 -- ---- the head, and both together
 
@@ -157,11 +157,11 @@ held_all l h = let e : (view_rows 0 l).row_count ≡ held_rows l = omega arith i
 
 -- by what the check reads of a memory
 module _ (l : List ℕ) {R m n : ℕ} {x : Bool} (er : R ≡ capacity l) (em : m ≡ (view_rows 0 l).max_entries) (en : n ≡ (view_rows 0 l).row_count) (ex : x ≡ head_sound R m n) where
-  pub head-stops : not x ≡ true → false ≡ sound (capacity l) (view l)
-  head-stops e = rw (sound_parts l, ← er, ← em, ← en, ← ex, not-true x e)
+  pub head_stops : not x ≡ true → false ≡ sound (capacity l) (view l)
+  head_stops e = rw (sound_parts l, ← er, ← em, ← en, ← ex, not-true x e)
 
-  pub rows-decide : {q w Q : ℕ} {y : Bool} → not x ≡ false → q ≡ (view_rows 0 l).seq → w ≡ (view_rows 0 l).stored_weight → Q ≡ probation_bound m → y ≡ rows_sound (R - Q) Q q w (view_rows n l).rows → y ≡ sound (capacity l) (view l)
-  rows-decide {q} {w} {Q} {y} e eq ew eQ ey =
+  pub rows_decide : {q w Q : ℕ} {y : Bool} → not x ≡ false → q ≡ (view_rows 0 l).seq → w ≡ (view_rows 0 l).stored_weight → Q ≡ probation_bound m → y ≡ rows_sound (R - Q) Q q w (view_rows n l).rows → y ≡ sound (capacity l) (view l)
+  rows_decide {q} {w} {Q} {y} e eq ew eQ ey =
       let t : head_sound R m n ≡ true = sym ex ∙ not-false x e in
       let v : view_rows n l ≡ view l = rw en (held_all l (omega (arith, (head_facts t).there))) in
       rw (ey, sound_parts l, ← v, ← er, ← em, ← en, ← ex, not-false x e, eq, ew, eQ)

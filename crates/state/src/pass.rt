@@ -10,7 +10,7 @@ use crate::row::row_is_sound;
 use memory::codes::PROBATION;
 
 // Over the rows passed: main rows, probation rows, the weight of the main rows.
-#[derive(Drop)]
+#[derive(Clone, Copy)]
 pub struct Totals {
     pub main: u64,
     pub probation: u64,

@@ -57,9 +57,9 @@ plus_fits : (i q x : ℕ) → i ≤ max_rows → q ≤ i * 4294967295 → x ≤ 
 plus_fits i q x h g k = omega arith
 
 module _ {n i q r t T : ℕ} (m : Mean n i q r t T) where
-  mean-turn : (a u : ℕ) → n ≤ max_rows → i < n → a ≤ largest_number → t ≡ a + u → Mean n (i + 1) (q + a / half) (r + a % half) u T
+  mean_turn : (a u : ℕ) → n ≤ max_rows → i < n → a ≤ largest_number → t ≡ a + u → Mean n (i + 1) (q + a / half) (r + a % half) u T
   unfolding AtMost
-  mean-turn a u k h b e =
+  mean_turn a u k h b e =
       record {
         some_rows = m.some_rows;
         within = omega arith;
@@ -75,9 +75,9 @@ module _ {n i q r t T : ℕ} (m : Mean n i q r t T) where
   pub high_fits : i ≡ n → q / n ≤ 4294967295
   high_fits e = div-le_of_le-mul n (omega (arith, m.high, e, mul_comm n 4294967295))
 
-  pub mean-fits : i ≡ n → q / n * half + (q % n * half + r) / n ≤ largest_number
+  pub mean_fits : i ≡ n → q / n * half + (q % n * half + r) / n ≤ largest_number
   unfolding AtMost
-  mean-fits e =
+  mean_fits e =
       let d : q * half + r ≤ n * largest_number = rw e at m.bounded in
       let o = over n q r in
       subst (λ (x : ℕ). x ≤ largest_number) (mul-add-div_right m.some_rows (q / n * half) (q % n * half + r)) (div-le_of_le-mul n (omega (arith, d, o)))
@@ -99,17 +99,17 @@ abbrev pub Ages : List ℕ → ℕ → ℕ → ℕ → ℕ → ℕ → Type 0
 Ages l n time i q r = Mean n i q r (total (age time) (drop i (view_rows n l).rows)) (total (age time) (view_rows n l).rows)
 
 module _ (l : List ℕ) (n time i q r : ℕ) (m : Ages l n time i q r) where
-  pub age-turn : (a : ℕ) → n ≤ max_rows → i < n → time < number_limit → a ≡ time - (row_at i (view_rows n l).rows).entry.created_at
+  pub age_turn : (a : ℕ) → n ≤ max_rows → i < n → time < number_limit → a ≡ time - (row_at i (view_rows n l).rows).entry.created_at
       → Ages l n time (i + 1) (q + a / half) (r + a % half)
-  age-turn a k h b e =
+  age_turn a k h b e =
       let rs = (view_rows n l).rows in
       let t : total (age time) (drop i rs) ≡ a + total (age time) (drop (i + 1) rs) =
       total_next (age time) i rs (omega (arith, view_length n l)) ∙ ap (λ (x : ℕ). x + total (age time) (drop (i + 1) rs)) (sym e) in
-      mean-turn m a (total (age time) (drop (i + 1) rs)) k h (omega arith) t
+      mean_turn m a (total (age time) (drop (i + 1) rs)) k h (omega arith) t
 
-  pub ages-end : i ≡ n → q / n * half + (q % n * half + r) / n ≡ mean (total_age time (view_rows n l).rows) n
+  pub ages_end : i ≡ n → q / n * half + (q % n * half + r) / n ≡ mean (total_age time (view_rows n l).rows) n
   unfolding total_age
-  ages-end e =
+  ages_end e =
       let rs = (view_rows n l).rows in
       let w : Ages l n time n q r = subst (λ (x : ℕ). Ages l n time x q r) e m in
       mean_end n q r (total (age time) rs) (subst (λ (x : ℕ). Mean n n q r x (total (age time) rs)) (total_end (age time) n rs (omega (arith, view_length n l))) w)

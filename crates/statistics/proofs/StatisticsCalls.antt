@@ -18,16 +18,16 @@ use Rattle.refusals.proofs.SoundCalls.{done_rows, not_refused}
 
 -- the rows that were counted answer, and the memory is left
 module _ (l : List ℕ) (n : ℕ) (h : sound (capacity l) (view l) ≡ true) (k : n ≡ (view_rows 0 l).row_count) (b : Bytes l) where
-  pub stats-done : (time : ℕ) (c : CacheStats) → c ≡ stats time (view_rows n l)
+  pub stats_done : (time : ℕ) (c : CacheStats) → c ≡ stats time (view_rows n l)
       → (stats_said (StatsAnswer.Stats c) ≡ (call l (Stats time)).answer) × (l ≡ (call l (Stats time)).memory)
   unfolding perform gives stats_said path_given verified_write draws_stamps
-  stats-done time c e =
+  stats_done time c e =
       let d = done_rows (sound_memory l n h k) (Stats time) l n (not_refused l (Stats time) h refl refl refl) b refl refl in
       (ap StatsGiven e ∙ d.answer, d.memory)
 
-  pub expiry-done : (r : ExpiryAnswer) → expiry_said r ≡ ExpiryGiven (next_expiry (view_rows n l).rows)
+  pub expiry_done : (r : ExpiryAnswer) → expiry_said r ≡ ExpiryGiven (next_expiry (view_rows n l).rows)
       → (expiry_said r ≡ (call l NextExpiry).answer) × (l ≡ (call l NextExpiry).memory)
   unfolding perform gives path_given verified_write draws_stamps
-  expiry-done r e =
+  expiry_done r e =
       let d = done_rows (sound_memory l n h k) NextExpiry l n (not_refused l NextExpiry h refl refl refl) b refl refl in
       (e ∙ d.answer, d.memory)

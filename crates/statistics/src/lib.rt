@@ -1,4 +1,6 @@
 // stats, and the next expiry.
+#![tactic(auto)]
+
 ghost use Rattle.std.specs.Prelude.{◌≡◌, true, ◌+◌, ◌*◌, ◌-◌, ◌≤◌, ◌<◌, min, length};
 ghost use Rattle.rules.specs.Rows.{row_at, count_rows};
 ghost use Rattle.rules.specs.Entries.{expired};

@@ -32,13 +32,13 @@ abbrev said : Code → List ℕ → Option Decoded
 said c bs = maybe (reads c (take c.width bs)) none (λ q. some (record { command = q; left = drop c.width bs }))
 
 module _ (cs : List Code) (b : ℕ) (bs : List ℕ) where
-  decode-at : (c : Code) → code_of b cs ≡ some c → decode_in cs b bs ≡ cond (leb c.width (length bs)) (said c bs) none
+  decode_at : (c : Code) → code_of b cs ≡ some c → decode_in cs b bs ≡ cond (leb c.width (length bs)) (said c bs) none
   unfolding decode_in
-  decode-at c e = rw e
+  decode_at c e = rw e
 
-  operands-at : (c : Code) → code_of b cs ≡ some c → operands_in cs b bs ≡ min c.width (length bs)
+  operands_at : (c : Code) → code_of b cs ≡ some c → operands_in cs b bs ≡ min c.width (length bs)
   unfolding operands_in width_in
-  operands-at c e = rw e
+  operands_at c e = rw e
 
   cut_at : (c : Code) → code_of b cs ≡ some c → cut_short_in cs b bs ≡ ltb (length bs) c.width
   unfolding cut_short_in width_in
@@ -59,7 +59,7 @@ takes_operands cs b bs d e =
     let w = r.code.width in
     record {
       not_cut = cut_at cs b bs r.code r.known ∙ le-ltb (length bs) w r.there;
-      left = t.left ∙ ap (λ (n : ℕ). drop n bs) (let z : w ≡ operands_in cs b bs = omega (arith, operands-at cs b bs r.code r.known, r.there) in z);
+      left = t.left ∙ ap (λ (n : ℕ). drop n bs) (let z : w ≡ operands_in cs b bs = omega (arith, operands_at cs b bs r.code r.known, r.there) in z);
       reads = r;
     }
 
@@ -88,8 +88,8 @@ more_same cs b bs more h = go (code_of b cs) refl
     at : (c : Code) → code_of b cs ≡ some c → c.width ≤ length bs → decode_in cs b (bs ++ more) ≡ and_more more (decode_in cs b bs)
     at c e w =
         let w2 : c.width ≤ length (bs ++ more) = omega (arith, length-append bs more) in
-        let x : decode_in cs b (bs ++ more) ≡ said c (bs ++ more) = decode-at cs b (bs ++ more) c e ∙ ap (λ (a : Bool). cond a (said c (bs ++ more)) none) (le-leb c.width (length (bs ++ more)) w2) in
-        let y : decode_in cs b bs ≡ said c bs = decode-at cs b bs c e ∙ ap (λ (a : Bool). cond a (said c bs) none) (le-leb c.width (length bs) w) in
+        let x : decode_in cs b (bs ++ more) ≡ said c (bs ++ more) = decode_at cs b (bs ++ more) c e ∙ ap (λ (a : Bool). cond a (said c (bs ++ more)) none) (le-leb c.width (length (bs ++ more)) w2) in
+        let y : decode_in cs b bs ≡ said c bs = decode_at cs b bs c e ∙ ap (λ (a : Bool). cond a (said c bs) none) (le-leb c.width (length bs) w) in
         let z : said c (bs ++ more) ≡ and_more more (said c bs) = rw (take-append-le c.width bs more w, drop-append-le c.width bs more w) (read c (reads c (take c.width bs)) (drop c.width bs)) in
         x ∙ z ∙ ap (and_more more) (sym y)
 
@@ -112,8 +112,8 @@ own_bytes cs b bs d e =
     let n : length own ≡ c.width = length-take-le c.width bs r.there in
     let x : take c.width own ≡ own = subst (λ (k : ℕ). take k own ≡ own) n (take-length own) in
     let y : drop c.width own ≡ [] = subst (λ (k : ℕ). drop k own ≡ []) n (drop-length own) in
-    let z : operands_in cs b bs ≡ c.width = omega (arith, operands-at cs b bs c r.known, r.there) in
-    rw (z, decode-at cs b own c r.known, le-leb c.width (length own) (omega (arith, n)), x, y, r.says)
+    let z : operands_in cs b bs ≡ c.width = omega (arith, operands_at cs b bs c r.known, r.there) in
+    rw (z, decode_at cs b own c r.known, le-leb c.width (length own) (omega (arith, n)), x, y, r.says)
 
 -- ---- number 6
 

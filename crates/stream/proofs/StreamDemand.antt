@@ -118,13 +118,13 @@ replies_shown_lem (suc n) h (b ∷ bs) = go (decode b bs) refl (λ k l. replies_
 
 -- ---- its requests are of their types
 
-every-join {ℓ} : {A : Type ℓ} (P : A → Type 0) (xs ys : List A) → Every P xs → Every P ys → Every P (xs ++ ys)
-every-join P [] ys f g = g
-every-join P (x ∷ xs) ys f g = (f.0, every-join P xs ys f.1 g)
+every_join {ℓ} : {A : Type ℓ} (P : A → Type 0) (xs ys : List A) → Every P xs → Every P ys → Every P (xs ++ ys)
+every_join P [] ys f g = g
+every_join P (x ∷ xs) ys f g = (f.0, every_join P xs ys f.1 g)
 
-every-split {ℓ} : {A : Type ℓ} (P : A → Type 0) (xs ys : List A) → Every P (xs ++ ys) → Every P xs × Every P ys
-every-split P [] ys f = (tt, f)
-every-split P (x ∷ xs) ys f = let k = every-split P xs ys f.1 in ((f.0, k.0), k.1)
+every_split {ℓ} : {A : Type ℓ} (P : A → Type 0) (xs ys : List A) → Every P (xs ++ ys) → Every P xs × Every P ys
+every_split P [] ys f = (tt, f)
+every_split P (x ∷ xs) ys f = let k = every_split P xs ys f.1 in ((f.0, k.0), k.1)
 
 asked_fits : (k : Sender) (c : Command) → SenderFits k → Fitting k c → Every TypedRequest (asked k c) × SenderFits (sender_after k c)
 unfolding asked sender_after
@@ -144,7 +144,7 @@ requests_fit (suc n) k (b ∷ bs) f y = go (decode b bs) refl (λ q l g z. reque
     go none e ih = tt
     go (some d) e ih =
         let a = asked_fits k d.command f (decoded_fits b bs d k e y.1 f) in
-        every-join TypedRequest (asked k d.command) (requests_from n (sender_after k d.command) d.left) a.0 (ih (sender_after k d.command) d.left a.1 (left_bytes b bs d e y.1))
+        every_join TypedRequest (asked k d.command) (requests_from n (sender_after k d.command) d.left) a.0 (ih (sender_after k d.command) d.left a.1 (left_bytes b bs d e y.1))
 
 -- ---- since the last done fresh
 
@@ -176,7 +176,7 @@ since_holds l m ttl qs (Fresh n u ∷ xs) y hm ht done g t =
     fresh_next c.memory (record { ttl = ttl; events = c.events }) n u xs (λ e. since_holds l m ttl qs xs y hm ht done g t.1) (λ e. since_holds c.memory n u [] xs z t.0.0 t.0.1 e tt t.1)
 since_holds l m ttl qs (Asked q ∷ xs) y hm ht done g t =
     let k = call_last (lent l (Fresh m ttl)).memory qs q in
-    rw (k.0, k.1) at (since_holds l m ttl (qs ++ (q ∷ [])) xs y hm ht done (every-join Typed qs (q ∷ []) g (t.0, tt)) t.1)
+    rw (k.0, k.1) at (since_holds l m ttl (qs ++ (q ∷ [])) xs y hm ht done (every_join Typed qs (q ∷ []) g (t.0, tt)) t.1)
 
 -- THE THIRD DEMAND OF REQUESTS, fresh at any place among them: of the calls since the last done fresh
 pub third_demand_of_requests : (l : List ℕ) (m ttl : ℕ) (xs : List Request) → Bytes l → Small 8 m → Small 8 ttl → Every TypedRequest xs → was_refused (lent l (Fresh m ttl)).answer ≡ false
@@ -227,7 +227,7 @@ pub third_demand_after_fresh : (h : Session) (bs : List ℕ) (before after : Lis
 unfolding requests
 third_demand_after_fresh h bs before after m ttl f y e done =
     let g = requests_fit (length bs) h.sender bs f.sender y in
-    let t = every-split TypedRequest before (Fresh m ttl ∷ after) (subst (Every TypedRequest) e g) in
+    let t = every_split TypedRequest before (Fresh m ttl ∷ after) (subst (Every TypedRequest) e g) in
     let k = (requests h.memory before).memory in
     let z = (requests_run h.memory before f.bytes t.0).bytes in
     let w : (to_end h bs).session.memory ≡ (requests (lent k (Fresh m ttl)).memory after).memory = memory_after (length bs) h bs ∙ ap (λ (xs : List Request). (requests h.memory xs).memory) e ∙ requests_join h.memory before (Fresh m ttl ∷ after) in

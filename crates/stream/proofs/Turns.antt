@@ -211,11 +211,11 @@ module _ {e : RunEnd} {last : Bool} {i o : List ℕ} {t : Tally} {at put : ℕ} 
         done = subst (λ (x : List ℕ). SoFar e (run_part (suc k.0) last (length o - put) (session m p) x) o t at put counts o') c (subst (λ (n : ℕ). SoFar e (run_part n last (length o - put) (session m p) (drop at i)) o t at put counts o') k.1 g.done);
       }
 
-  pub stops-full : next_is (length o - put) last (get_or i at 0) (drop (at + 1) i) ≡ Full → SoFar e (stopped Stop.Full (session m p)) o t at put counts o'
-  stops-full n = subst (λ (x : RunEnd). SoFar e x o t at put counts o') (part_full front.turns last (length o - put) (session m p) (get_or i at 0) (drop (at + 1) i) n) front.done
+  pub stops_full : next_is (length o - put) last (get_or i at 0) (drop (at + 1) i) ≡ Full → SoFar e (stopped Stop.Full (session m p)) o t at put counts o'
+  stops_full n = subst (λ (x : RunEnd). SoFar e x o t at put counts o') (part_full front.turns last (length o - put) (session m p) (get_or i at 0) (drop (at + 1) i) n) front.done
 
-  pub stops-cut : next_is (length o - put) last (get_or i at 0) (drop (at + 1) i) ≡ Cut → SoFar e (stopped Stop.Cut (session m p)) o t at put counts o'
-  stops-cut n = subst (λ (x : RunEnd). SoFar e x o t at put counts o') (part_cut front.turns last (length o - put) (session m p) (get_or i at 0) (drop (at + 1) i) n) front.done
+  pub stops_cut : next_is (length o - put) last (get_or i at 0) (drop (at + 1) i) ≡ Cut → SoFar e (stopped Stop.Cut (session m p)) o t at put counts o'
+  stops_cut n = subst (λ (x : RunEnd). SoFar e x o t at put counts o') (part_cut front.turns last (length o - put) (session m p) (get_or i at 0) (drop (at + 1) i) n) front.done
 
 -- before the command at `at`, whose operands are w bytes: a byte is left, and a command with room for its line stands next
 pub record Turn (e : RunEnd) (last : Bool) (i o : List ℕ) (t : Tally) (at put : ℕ) (p : Sender) (counts : Tally) (m o' : List ℕ) (w : ℕ) : Type 0 where
@@ -255,8 +255,8 @@ module _ {e : RunEnd} {last : Bool} {i o : List ℕ} {t : Tally} {at put : ℕ} 
         let q : SoFar e (and_then (line b r.reply) (1 + operands b bs) (cond (eqb r.reply.refusal 6) (stopped Stop.Six (session m' r.sender)) (run_part here.turns last (length o - put - length (line_text (line b r.reply))) (session m' r.sender) (drop (operands b bs) bs)))) o t at put counts o' = rw (u, a.says) s in
         advanced e _ (line b r.reply) (1 + operands b bs) o t at put (at + (1 + w)) put' counts counts' o' o'' q (omega (arith, goes.width)) ep (omega (arith, ample, short)) eo ec
 
-    pub stops-six : r.reply.refusal ≡ 6 → SoFar e (stopped Stop.Six (session m' r.sender)) o t (at + (1 + w)) put' counts' o''
-    stops-six x = simp x at after_line
+    pub stops_six : r.reply.refusal ≡ 6 → SoFar e (stopped Stop.Six (session m' r.sender)) o t (at + (1 + w)) put' counts' o''
+    stops_six x = simp x at after_line
 
     pub goes_on : (r.reply.refusal ≡ 6 → ⊥) → Going e last i o t (at + (1 + w)) put' r.sender counts' m' o''
     goes_on x =

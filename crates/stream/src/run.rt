@@ -11,7 +11,7 @@ use replies::line::{LINE, put_line};
 use types::reply::Tally;
 use types::sender::Sender;
 
-#[derive(Drop)]
+#[derive(Clone, Copy)]
 pub struct Ran {
     // How many bytes of the input were used.
     pub used: usize,
@@ -24,7 +24,7 @@ pub struct Ran {
 
 // What stands at the front of the input: no room for its line, too few bytes, or a command and the number of its operands'
 // bytes. One that is unknown, or cut at the very end of the input, counts as a command: it is refused by 6.
-#[derive(Drop)]
+#[derive(Clone, Copy)]
 enum Next {
     Full,
     Cut,

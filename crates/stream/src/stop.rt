@@ -1,5 +1,5 @@
 // A run over a stream of commands: why it ended.
-#[derive(Drop)]
+#[derive(Clone, Copy)]
 pub enum Stop {
     // Every byte was used.
     End,

@@ -1,5 +1,7 @@
 // The command stream for a driver in another language: runs as the crate `stream` proves them, with what the sender has (the pending
 // path) as bytes and the run's end as numbers. Thin; the calls have the contracts.
+#![tactic(auto)]
+
 use raw::layout::{BYTE, ELEMENT, PATH};
 use stream::stop::Stop;
 use types::coord::{PLACES, Path, zero_entry};

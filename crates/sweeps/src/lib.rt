@@ -1,4 +1,6 @@
 // The calls that sweep: purge_expired, invalidate_via_node, invalidate_other_roots, clear.
+#![tactic(auto)]
+
 ghost use Rattle.std.specs.Prelude.{◌≡◌, true, ◌-◌};
 ghost use Rattle.rules.specs.Sound.{sound};
 ghost use Rattle.rules.specs.Calls.{Clear, PurgeExpired, InvalidateViaNode, InvalidateOtherRoots};

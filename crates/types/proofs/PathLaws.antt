@@ -27,17 +27,17 @@ module _ (x y : List ℕ) (i : ℕ) (hx : i < length x) (hy : i < length y) wher
   unfolding same_bytes
   same_stop n = rw (uncons x i 0 hx, uncons y i 0 hy, ne_eqb _ _ n)
 
-  pub same-go : get_or x i 0 ≡ get_or y i 0 → same_bytes (drop i x) (drop i y) ≡ same_bytes (drop (i + 1) x) (drop (i + 1) y)
+  pub same_go : get_or x i 0 ≡ get_or y i 0 → same_bytes (drop i x) (drop i y) ≡ same_bytes (drop (i + 1) x) (drop (i + 1) y)
   unfolding same_bytes
-  same-go e = rw (uncons x i 0 hx, uncons y i 0 hy, eq-eqb _ _ e)
+  same_go e = rw (uncons x i 0 hx, uncons y i 0 hy, eq-eqb _ _ e)
 
-  pub before-stop : (get_or x i 0 ≡ get_or y i 0 → ⊥) → bytes_before (drop i x) (drop i y) ≡ ltb (get_or x i 0) (get_or y i 0)
+  pub before_stop : (get_or x i 0 ≡ get_or y i 0 → ⊥) → bytes_before (drop i x) (drop i y) ≡ ltb (get_or x i 0) (get_or y i 0)
   unfolding bytes_before
-  before-stop n = rw (uncons x i 0 hx, uncons y i 0 hy, ne_eqb _ _ n, or-false)
+  before_stop n = rw (uncons x i 0 hx, uncons y i 0 hy, ne_eqb _ _ n, or-false)
 
-  pub before-go : get_or x i 0 ≡ get_or y i 0 → bytes_before (drop i x) (drop i y) ≡ bytes_before (drop (i + 1) x) (drop (i + 1) y)
+  pub before_go : get_or x i 0 ≡ get_or y i 0 → bytes_before (drop i x) (drop i y) ≡ bytes_before (drop (i + 1) x) (drop (i + 1) y)
   unfolding bytes_before
-  before-go e =
+  before_go e =
       let l : get_or y i 0 ≤ get_or x i 0 = omega arith in
       rw (uncons x i 0 hx, uncons y i 0 hy, le-ltb _ _ l, eq-eqb _ _ e)
 
@@ -46,9 +46,9 @@ module _ (x y : List ℕ) (i : ℕ) (hx : length x ≤ i) (hy : length y ≤ i) 
   unfolding same_bytes
   same_end = rw (drop_of_length-le x hx, drop_of_length-le y hy)
 
-  pub before-end : bytes_before (drop i x) (drop i y) ≡ false
+  pub before_end : bytes_before (drop i x) (drop i y) ≡ false
   unfolding bytes_before
-  before-end = rw (drop_of_length-le x hx, drop_of_length-le y hy)
+  before_end = rw (drop_of_length-le x hx, drop_of_length-le y hy)
 
 -- ---- the elements of a path
 
@@ -66,21 +66,21 @@ element_at p i h = get_or-take p.len p.entries i no_entry (omega (arith, length-
 pub element : (p : Path) (i : ℕ) → i < length (elements p) → drop i (elements p) ≡ entry_at p i ∷ drop (i + 1) (elements p)
 element p i h = rw (uncons (elements p) i no_entry h, element_at p i h)
 
-pub among-turn :
+pub among_turn :
     (a : NodeAddr) (p : Path) (i : ℕ) → i < length (elements p)
     → among a (drop i (elements p)) ≡ (same_addr a (entry_at p i).node_addr || among a (drop (i + 1) (elements p)))
 unfolding among
-among-turn a p i h = rw (element p i h)
+among_turn a p i h = rw (element p i h)
 
 pub among_end : (a : NodeAddr) (xs : List CoordEntry) (i : ℕ) → length xs ≤ i → among a (drop i xs) ≡ false
 unfolding among
 among_end a xs i h = rw (drop_of_length-le xs h)
 
-pub entries-turn :
+pub entries_turn :
     (p q : Path) (i : ℕ) → i < length (elements p) → i < length (elements q)
     → same_entries (drop i (elements p)) (drop i (elements q)) ≡ (same_entry (entry_at p i) (entry_at q i) && same_entries (drop (i + 1) (elements p)) (drop (i + 1) (elements q)))
 unfolding same_entries
-entries-turn p q i hp hq = rw (element p i hp, element q i hq)
+entries_turn p q i hp hq = rw (element p i hp, element q i hq)
 
 pub entries_end : (xs ys : List CoordEntry) (i : ℕ) → length xs ≤ i → length ys ≤ i → same_entries (drop i xs) (drop i ys) ≡ true
 unfolding same_entries

@@ -4,21 +4,21 @@ use crate::placed::{Placed, VerifiedInsert};
 use crate::stats::CacheStats;
 
 // insert, insert_with_ttl, insert_funded, insert_stated
-#[derive(Drop)]
+#[derive(Clone, Copy)]
 pub enum HintAnswer {
     Refused(u8),
     Placed(Placed),
 }
 
 // insert_verified, insert_verified_with_path_mtu
-#[derive(Drop)]
+#[derive(Clone, Copy)]
 pub enum VerifiedAnswer {
     Refused(u8),
     Done(VerifiedInsert),
 }
 
 // touch: the length of the path found
-#[derive(Drop)]
+#[derive(Clone, Copy)]
 pub enum TouchAnswer {
     Refused(u8),
     Found(u64),
@@ -26,34 +26,34 @@ pub enum TouchAnswer {
 }
 
 // demote: whether the key is held
-#[derive(Drop)]
+#[derive(Clone, Copy)]
 pub enum DemoteAnswer {
     Refused(u8),
     Held(bool),
 }
 
 // sweeps: how many rows were removed
-#[derive(Drop)]
+#[derive(Clone, Copy)]
 pub enum SweepAnswer {
     Refused(u8),
     Removed(u64),
 }
 
-#[derive(Drop)]
+#[derive(Clone, Copy)]
 pub enum StatsAnswer {
     Refused(u8),
     Stats(CacheStats),
 }
 
 // the next expiry, if a row is held
-#[derive(Drop)]
+#[derive(Clone, Copy)]
 pub enum ExpiryAnswer {
     Refused(u8),
     At(u64),
     Never,
 }
 
-#[derive(Drop)]
+#[derive(Clone, Copy)]
 pub enum Removal {
     Refused(u8),
     Removed,
@@ -61,7 +61,7 @@ pub enum Removal {
 }
 
 // remove: the entry counts where it was removed, and is blank else (an enum may not hold its array)
-#[derive(Drop)]
+#[derive(Clone, Copy)]
 pub struct RemoveAnswer {
     pub removal: Removal,
     pub entry: CacheEntry,

@@ -6,7 +6,7 @@ ghost use Rattle.types.specs.Paths.{zero_entry};
 use crate::node_addr::{ADDRESS_BYTES, NodeAddr};
 
 // A node on a path, with the sequence number and the timestamp of its declaration.
-#[derive(Drop)]
+#[derive(Clone, Copy)]
 pub struct CoordEntry {
     pub node_addr: NodeAddr,
     pub sequence: u64,
@@ -20,14 +20,14 @@ pub const PLACES: usize = 32;
 pub const ADDRS_PER_ENTRY: u64 = 16;
 
 // Places and a length: element 0 is the node, the last one up to the length is the root.
-#[derive(Drop)]
+#[derive(Clone, Copy)]
 pub struct Path {
     pub entries: [CoordEntry; PLACES],
     pub len: usize,
 }
 
 // A path with one element more, or the path as it was and the number of the refusal.
-#[derive(Drop)]
+#[derive(Clone, Copy)]
 pub struct Appended {
     pub refusal: u8,
     pub path: Path,

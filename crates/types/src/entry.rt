@@ -5,20 +5,20 @@ ghost use Rattle.types.specs.Values.{source_of};
 use crate::coord::Path;
 
 // Where a path came from.
-#[derive(Drop)]
+#[derive(Clone, Copy)]
 pub enum CoordSource {
     Verified,
     Hint,
 }
 
 // The path MTU that a lookup found, if one is held.
-#[derive(Drop)]
+#[derive(Clone, Copy)]
 pub enum PathMtu {
     Unknown,
     Known(u16),
 }
 
-#[derive(Drop)]
+#[derive(Clone, Copy)]
 pub struct CacheEntry {
     pub path: Path,
     pub created_at: u64,

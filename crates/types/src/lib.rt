@@ -1,5 +1,7 @@
 // Addresses, path elements and paths; what calls take and answer (the original's node_addr.rs, coord.rs, entry.rs, mod.rs); what a
 // sender of commands has.
+#![tactic(auto)]
+
 pub mod answers;
 pub mod coord;
 pub mod entry;

@@ -4,7 +4,7 @@ ghost use Rattle.types.specs.Addresses.{same_addr};
 
 pub const ADDRESS_BYTES: usize = 16;
 
-#[derive(Drop)]
+#[derive(Clone, Copy)]
 pub struct NodeAddr(pub [u8; ADDRESS_BYTES]);
 
 impl NodeAddr {

@@ -5,7 +5,7 @@ ghost use Rattle.types.specs.Values.{covers, outcome_code, segment_code, placed_
 use crate::reply::{Reply, says};
 
 // What the writer of a hint can pay, in units of weight.
-#[derive(Drop)]
+#[derive(Clone, Copy)]
 pub enum Funding {
     // Covers charges up to this many.
     Upto(u64),
@@ -14,13 +14,13 @@ pub enum Funding {
 }
 
 // The part of the cache that a key stands in.
-#[derive(Drop)]
+#[derive(Clone, Copy)]
 pub enum Segment {
     Main,
     Probation,
 }
 
-#[derive(Drop)]
+#[derive(Clone, Copy)]
 pub enum HintOutcome {
     // No entry was held; the hint was stored.
     Inserted,
@@ -32,7 +32,7 @@ pub enum HintOutcome {
     Rejected,
 }
 
-#[derive(Drop)]
+#[derive(Clone, Copy)]
 pub struct Placed {
     pub outcome: HintOutcome,
     // What the write added to the main segment, and its writer pays.
@@ -46,7 +46,7 @@ pub struct Placed {
 }
 
 // A verified insert that was done.
-#[derive(Drop)]
+#[derive(Clone, Copy)]
 pub struct VerifiedInsert {
     pub weight: u64,
     pub examined: u64,

@@ -5,7 +5,7 @@ ghost use Rattle.types.specs.Values.{largest_number, says, refuses, tallied};
 // The largest number of 64 bits.
 pub const LARGEST_NUMBER: u64 = 18446744073709551615;
 
-#[derive(Drop)]
+#[derive(Clone, Copy)]
 pub struct Reply {
     pub refusal: u8,
     pub values: [u64; 5],
@@ -32,7 +32,7 @@ pub fn refused(n: u8) -> Reply
 }
 
 // A run's tally: commands done, and commands refused. Each stops at the largest number.
-#[derive(Drop)]
+#[derive(Clone, Copy)]
 pub struct Tally {
     pub done: u64,
     pub refused: u64,

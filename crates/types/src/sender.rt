@@ -4,7 +4,7 @@ ghost use Rattle.types.specs.Senders.{new_sender, with_pending, emptied};
 
 use crate::coord::Path;
 
-#[derive(Drop)]
+#[derive(Clone, Copy)]
 pub struct Sender {
     pub pending: Path,
 }

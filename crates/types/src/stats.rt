@@ -4,7 +4,7 @@ ghost use Rattle.types.specs.Values.{stats_reply};
 
 use crate::reply::{Reply, says};
 
-#[derive(Drop)]
+#[derive(Clone, Copy)]
 pub struct CacheStats {
     pub entries: u64,
     pub max_entries: u64,

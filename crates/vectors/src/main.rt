@@ -1,5 +1,7 @@
 // Recorded streams of commands, read from `stdin`, run again: the replies, the head and the rows that a stream leaves are held to
 // what the original replied and held. `stdin` says how it was made and what its lines are; 65,536 bytes of it are read.
+#![tactic(auto)]
+
 mod compare;
 mod print;
 mod session;

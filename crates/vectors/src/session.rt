@@ -16,7 +16,7 @@ pub const REST: u8 = 5;
 
 const MOST: usize = memory::bounds::MAX_ROWS as usize;
 
-#[derive(Drop)]
+#[derive(Clone, Copy)]
 pub struct Session {
     // The byte that the line before began with, comments aside.
     pub before: u8,

@@ -2,7 +2,7 @@
 ghost use Rattle.std.specs.Prelude.{◌≤◌, ◌<◌, length};
 
 // The number that is being read, and how many words came before it.
-#[derive(Drop)]
+#[derive(Clone, Copy)]
 struct Reading {
     value: u64,
     words: usize,

@@ -62,12 +62,12 @@ module _ (R : ℕ) (s : State) (v : VerifiedWrite) {a : Bool} (e : a ≡ key_in_
   held_place h = rw (sym e ∙ h)
 
   module _ {c b : ℕ} (h : a ≡ false) (ec : c ≡ main_count s) (eb : b ≡ main_limit R s) where
-    pub free-place : c < b → false ≡ no_place_for R s v
+    pub free_place : c < b → false ≡ no_place_for R s v
     unfolding no_place_for
-    free-place l = rw (sym e ∙ h, ← ec, ← eb, lt-leb b c l)
+    free_place l = rw (sym e ∙ h, ← ec, ← eb, lt-leb b c l)
 
-    pub made-place : {r : Bool} {w : ℕ} → b ≤ c → w ≡ path_weight v.path → r ≡ room_can_be_made v.time w s → not r ≡ no_place_for R s v
+    pub made_place : {r : Bool} {w : ℕ} → b ≤ c → w ≡ path_weight v.path → r ≡ room_can_be_made v.time w s → not r ≡ no_place_for R s v
     unfolding no_place_for
-    made-place l ew er =
+    made_place l ew er =
         let m = sym e ∙ h in
         rw (m, ← ec, ← eb, le-leb b c l, closed_without_key v.time (path_weight v.path) v.key s m, ← ew, ← er)

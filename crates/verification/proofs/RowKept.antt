@@ -20,7 +20,7 @@ use Rattle.search.specs.declared.outcome.Search.TheVariants.{At}
 use Rattle.search.specs.ByKey.{searched}
 use Rattle.room.proofs.RoomSettled.{room_there}
 use Rattle.filing.proofs.FiledInRoom.{rows_there}
-use Rattle.verification.proofs.VerifiedRows.{out-held}
+use Rattle.verification.proofs.VerifiedRows.{out_held}
 
 -- what the test said
 pub room_told : (i : ℕ) (p : Path) (s : State) {w : ℕ} {b : Bool} → w ≡ path_weight p → b ≡ in_main (row_at i s.rows) && has_room (min w (weight_bound s.max_entries)) (take_out i s)
@@ -40,16 +40,16 @@ room_kept R i t w s d h =
 module _ (k : NodeAddr) (p : Path) (t : ℕ) (mtu : Option ℕ) {R i w : ℕ} {s : State} (d : Sound R s) (f : searched k s.rows ≡ At i)
     (h : has_room (min (path_weight p) (weight_bound s.max_entries)) (take_out i s) ≡ true) (ew : w ≡ path_weight p) where
   kept : ◌≡◌ {A = Room} (record { made = true; state = take_out i s; examined = 0 }) (make_room t (path_weight p) (without_key k s))
-  kept = room_kept R i t (path_weight p) s d h ∙ ap (make_room t (path_weight p)) (out-held k s (sym f) refl refl)
+  kept = room_kept R i t (path_weight p) s d h ∙ ap (make_room t (path_weight p)) (out_held k s (sym f) refl refl)
 
-  pub kept-said : ◌≡◌ {A = VerifiedInsert} (record { weight = w; examined = 0 }) (record { weight = path_weight p; examined = (insert_verified k p t mtu s).examined })
+  pub kept_said : ◌≡◌ {A = VerifiedInsert} (record { weight = w; examined = 0 }) (record { weight = path_weight p; examined = (insert_verified k p t mtu s).examined })
   unfolding insert_verified
-  kept-said = rw (ew, ← kept)
+  kept_said = rw (ew, ← kept)
 
-  kept-state : file_new k (verified_entry k p t mtu s) (path_weight p) 0 (take_out i s) ≡ (insert_verified k p t mtu s).state
+  kept_state : file_new k (verified_entry k p t mtu s) (path_weight p) 0 (take_out i s) ≡ (insert_verified k p t mtu s).state
   unfolding insert_verified
-  kept-state = ap (λ (m : Room). file_new k (verified_entry k p t mtu s) (path_weight p) 0 m.state) kept
+  kept_state = ap (λ (m : Room). file_new k (verified_entry k p t mtu s) (path_weight p) 0 m.state) kept
 
-  pub kept-left : (n : ℕ) (z : List ℕ) → view_rows n z ≡ file_new k (verified_entry k p t mtu s) w 0 (take_out i s)
+  pub kept_left : (n : ℕ) (z : List ℕ) → view_rows n z ≡ file_new k (verified_entry k p t mtu s) w 0 (take_out i s)
       → view_rows (length (insert_verified k p t mtu s).state.rows) z ≡ (insert_verified k p t mtu s).state
-  kept-left n z e = rows_there n z (insert_verified k p t mtu s).state (e ∙ rw ew kept-state)
+  kept_left n z e = rows_there n z (insert_verified k p t mtu s).state (e ∙ rw ew kept_state)

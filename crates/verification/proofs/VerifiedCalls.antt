@@ -65,33 +65,33 @@ pub record Underway (k : NodeAddr) (p : Path) (t n : ℕ) (b : Bool) (l : List �
 
 module _ {k : NodeAddr} {p : Path} {t n : ℕ} {b : Bool} {l : List ℕ} (u : Underway k p t n b l) where
   -- number 4, over the rows that the code meets
-  four-of : (mtu : PathMtu) → maybe (verified_write (verified_call k p t mtu)) false (no_place_for (capacity l) (view l)) ≡ b
-  four-of mtu = rw ((form k p t mtu).write, ← (sound_memory l n u.sound u.counted).same, ← u.full)
+  four_of : (mtu : PathMtu) → maybe (verified_write (verified_call k p t mtu)) false (no_place_for (capacity l) (view l)) ≡ b
+  four_of mtu = rw ((form k p t mtu).write, ← (sound_memory l n u.sound u.counted).same, ← u.full)
 
-  pub refused-by-four : (mtu : PathMtu) → b ≡ true → (Refused 4 ≡ (call l (verified_call k p t mtu)).answer) × (l ≡ (call l (verified_call k p t mtu)).memory)
-  refused-by-four mtu y =
+  pub refused_by_four : (mtu : PathMtu) → b ≡ true → (Refused 4 ≡ (call l (verified_call k p t mtu)).answer) × (l ≡ (call l (verified_call k p t mtu)).memory)
+  refused_by_four mtu y =
       let q = verified_call k p t mtu in
-      said l q 4 (refused_four (capacity l) (view l) q u.sound (rw (form k p t mtu).path u.passed.path) u.passed.stamps (four-of mtu ∙ y))
+      said l q 4 (refused_four (capacity l) (view l) q u.sound (rw (form k p t mtu).path u.passed.path) u.passed.stamps (four_of mtu ∙ y))
 
   -- what filing asks
-  pub insert-asked : b ≡ false → (sound (capacity l) (view_rows n l) ≡ true) × Writable p × ((view_rows n l).seq ≤ last_seq)
+  pub insert_asked : b ≡ false → (sound (capacity l) (view_rows n l) ≡ true) × Writable p × ((view_rows n l).seq ≤ last_seq)
       × (no_place_for (capacity l) (view_rows n l) (record { key = k; path = p; time = t }) ≡ false)
   unfolding seq_spent
-  insert-asked y =
+  insert_asked y =
       let g = path_ok p u.passed.path in
       let s = (sound_memory l n u.sound u.counted).same in
       (rw s u.sound, record { long = g.long; short = g.short }, rw s (ltb-false last_seq (view l).seq u.passed.stamps), sym u.full ∙ y)
 
   -- the call is done
-  pub insert-done : (mtu : PathMtu) (m : List ℕ) (v : VerifiedInsert) → b ≡ false → Bytes m → length m ≡ length l
+  pub insert_done : (mtu : PathMtu) (m : List ℕ) (v : VerifiedInsert) → b ≡ false → Bytes m → length m ≡ length l
       → v ≡ record { weight = path_weight p; examined = (insert_verified k p t (mtu_of mtu) (view_rows n l)).examined }
       → view_rows (length (insert_verified k p t (mtu_of mtu) (view_rows n l)).state.rows) m ≡ (insert_verified k p t (mtu_of mtu) (view_rows n l)).state
       → (VerifiedDone v ≡ (call l (verified_call k p t mtu)).answer) × (m ≡ (call l (verified_call k p t mtu)).memory)
   unfolding verifies gives
-  insert-done mtu m v y bytes size ev em =
+  insert_done mtu m v y bytes size ev em =
       let q = verified_call k p t mtu in
       let f = form k p t mtu in
-      let a = write_allowed (capacity l) (view l) q u.sound (rw f.path u.passed.path) u.passed.stamps (four-of mtu ∙ y) in
+      let a = write_allowed (capacity l) (view l) q u.sound (rw f.path u.passed.path) u.passed.stamps (four_of mtu ∙ y) in
       let e = f.does (view_rows n l) in
       let d = done_rows (sound_memory l n u.sound u.counted) q m _ a bytes size (em ∙ ap (λ (x : Step). x.state) (sym e)) in
       (ap VerifiedDone ev ∙ ap (λ (x : Step). x.answer) (sym e) ∙ d.answer, d.memory)

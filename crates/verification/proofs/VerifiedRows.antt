@@ -33,7 +33,7 @@ use Rattle.room.specs.Rooms.{Without, without_victim}
 use Rattle.room.proofs.RoomToFile.{shown, Reached, reached_without}
 use Rattle.filing.specs.InRoom.{Takes}
 use Rattle.filing.proofs.FiledInRoom.{rows_there}
-use Rattle.filing.proofs.RoomSought.{Sought, room_asks, left-state, room-examined, free-main, takes}
+use Rattle.filing.proofs.RoomSought.{Sought, room_asks, left_state, room_examined, free_main, takes}
 use Rattle.verification.specs.Mtu.{mtu_of}
 use Rattle.verification.specs.Searches.{Within}
 
@@ -49,32 +49,32 @@ found_within n l k (Absent i) e = tt
 -- ---- the entry
 
 module _ (k : NodeAddr) (p : Path) (t : ℕ) (s : State) {i ttl : ℕ} {a : Search} {x y : Entry} (f : a ≡ searched k s.rows) (et : ttl ≡ s.default_ttl) where
-  pub entry-held : a ≡ At i → x ≡ update p t ttl (row_at i s.rows).entry → y ≡ mark_verified t x → y ≡ verified_entry k p t none s
+  pub entry_held : a ≡ At i → x ≡ update p t ttl (row_at i s.rows).entry → y ≡ mark_verified t x → y ≡ verified_entry k p t none s
   unfolding verified_entry
-  entry-held g ex ey = ey ∙ rw (ex, et, found k s.rows i a f g)
+  entry_held g ex ey = ey ∙ rw (ex, et, found k s.rows i a f g)
 
   pub entry_new : a ≡ Absent i → x ≡ new_entry p t ttl → y ≡ mark_verified t x → y ≡ verified_entry k p t none s
   unfolding verified_entry
   entry_new g ex ey = ey ∙ rw (ex, et, missing k s.rows i a f g)
 
 module _ (k : NodeAddr) (p : Path) (t : ℕ) (s : State) {mtu : PathMtu} {x : Entry} (h : x ≡ verified_entry k p t none s) where
-  pub entry-plain : mtu ≡ Unknown → x ≡ verified_entry k p t (mtu_of mtu) s
-  entry-plain e = rw e h
+  pub entry_plain : mtu ≡ Unknown → x ≡ verified_entry k p t (mtu_of mtu) s
+  entry_plain e = rw e h
 
-  pub entry-with-mtu : {m : ℕ} {y : Entry} → mtu ≡ Known m → y ≡ set_mtu m x → y ≡ verified_entry k p t (mtu_of mtu) s
+  pub entry_with_mtu : {m : ℕ} {y : Entry} → mtu ≡ Known m → y ≡ set_mtu m x → y ≡ verified_entry k p t (mtu_of mtu) s
   unfolding verified_entry
-  entry-with-mtu e g = g ∙ rw (e, h)
+  entry_with_mtu e g = g ∙ rw (e, h)
 
 -- ---- the key's row out
 
 module _ (k : NodeAddr) (s : State) {i : ℕ} {a : Search} (f : a ≡ searched k s.rows) where
-  pub out-held : {x : State} → a ≡ At i → x ≡ take_out i s → x ≡ without_key k s
+  pub out_held : {x : State} → a ≡ At i → x ≡ take_out i s → x ≡ without_key k s
   unfolding without_key
-  out-held g e = e ∙ rw (found k s.rows i a f g)
+  out_held g e = e ∙ rw (found k s.rows i a f g)
 
-  pub out-absent : a ≡ Absent i → s ≡ without_key k s
+  pub out_absent : a ≡ Absent i → s ≡ without_key k s
   unfolding without_key
-  out-absent g = rw (missing k s.rows i a f g)
+  out_absent g = rw (missing k s.rows i a f g)
 
 -- ---- room, and the row filed
 
@@ -91,37 +91,37 @@ module _ {k : NodeAddr} {p : Path} {n r w : ℕ} {l m : List ℕ} (o : KeyOut k 
   without : Without k r m
   without = reached_without k l m r (without_key k (view_rows n l)) o.reached out.sound out.gone
 
-  seq-out : (view_rows n l).seq ≤ last_seq → (view_rows r m).seq ≤ last_seq
-  seq-out q = omega (arith, ap (λ (x : State). x.seq) o.reached.state, out.seq)
+  seq_out : (view_rows n l).seq ≤ last_seq → (view_rows r m).seq ≤ last_seq
+  seq_out q = omega (arith, ap (λ (x : State). x.seq) o.reached.state, out.seq)
 
   -- what seeking room asks
-  pub room-asked : (view_rows n l).seq ≤ last_seq → (head_size + r * row_size ≤ length m) × (sound (capacity m) (view_rows r m) ≡ true)
+  pub room_asked : (view_rows n l).seq ≤ last_seq → (head_size + r * row_size ≤ length m) × (sound (capacity m) (view_rows r m) ≡ true)
       × ((view_rows r m).seq + total (main_visits t) (view_rows r m).rows < number_limit)
-  room-asked q = room_asks t r m without.sound (seq-out q)
+  room_asked q = room_asks t r m without.sound (seq_out q)
 
-  main-free : no_place_for (capacity l) (view_rows n l) (record { key = k; path = p; time = t }) ≡ false
+  main_free : no_place_for (capacity l) (view_rows n l) (record { key = k; path = p; time = t }) ≡ false
       → main_count (make_room t w (view_rows r m)).state < main_limit (capacity m) (make_room t w (view_rows r m)).state
-  main-free f = rw (o.weight, capacity_same l m o.reached.size, o.reached.state) (verified_free (capacity l) k p t (view_rows n l) (shown n l o.sound) f)
+  main_free f = rw (o.weight, capacity_same l m o.reached.size, o.reached.state) (verified_free (capacity l) k p t (view_rows n l) (shown n l o.sound) f)
 
   -- a, and memory z, tell the room that was sought
   module _ {z : List ℕ} {a : RoomAnswer} (so : Sought m z r t w a) where
     -- what the row that is filed asks
-    pub row-asked : (view_rows n l).seq ≤ last_seq → no_place_for (capacity l) (view_rows n l) (record { key = k; path = p; time = t }) ≡ false
+    pub row_asked : (view_rows n l).seq ≤ last_seq → no_place_for (capacity l) (view_rows n l) (record { key = k; path = p; time = t }) ≡ false
         → Takes k a.victim a.stored a.rows z
-    row-asked q f = takes k r m z t w a without so (free-main k r m z t w a without so (main-free f)) (seq-out q)
+    row_asked q f = takes k r m z t w a without so (free_main k r m z t w a without so (main_free f)) (seq_out q)
 
     -- what is answered
-    pub insert-said : (mtu : Option ℕ) → ◌≡◌ {A = VerifiedInsert} (record { weight = w; examined = a.examined })
+    pub insert_said : (mtu : Option ℕ) → ◌≡◌ {A = VerifiedInsert} (record { weight = w; examined = a.examined })
         (record { weight = path_weight p; examined = (insert_verified k p t mtu (view_rows n l)).examined })
     unfolding insert_verified
-    insert-said mtu = rw (room-examined k r m z t w a without so, o.weight, o.reached.state)
+    insert_said mtu = rw (room_examined k r m z t w a without so, o.weight, o.reached.state)
 
     -- what is left in memory y: x is the entry that was filed
     module _ (mtu : Option ℕ) {x : Entry} (ex : x ≡ verified_entry k p t mtu (view_rows n l)) where
-      filed-anew : file_new k x w 0 (without_victim a.victim (view_rows a.rows z)) ≡ (insert_verified k p t mtu (view_rows n l)).state
+      filed_anew : file_new k x w 0 (without_victim a.victim (view_rows a.rows z)) ≡ (insert_verified k p t mtu (view_rows n l)).state
       unfolding insert_verified
-      filed-anew = rw (left-state k r m z t w a without so, ex, o.weight, o.reached.state)
+      filed_anew = rw (left_state k r m z t w a without so, ex, o.weight, o.reached.state)
 
-      pub insert-left : (j : ℕ) (y : List ℕ) → view_rows j y ≡ file_new k x w 0 (without_victim a.victim (view_rows a.rows z))
+      pub insert_left : (j : ℕ) (y : List ℕ) → view_rows j y ≡ file_new k x w 0 (without_victim a.victim (view_rows a.rows z))
           → view_rows (length (insert_verified k p t mtu (view_rows n l)).state.rows) y ≡ (insert_verified k p t mtu (view_rows n l)).state
-      insert-left j y ey = rows_there j y (insert_verified k p t mtu (view_rows n l)).state (ey ∙ filed-anew)
+      insert_left j y ey = rows_there j y (insert_verified k p t mtu (view_rows n l)).state (ey ∙ filed_anew)

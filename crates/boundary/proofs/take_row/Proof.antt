@@ -2,7 +2,7 @@
 use mathlib.Core.Path.{◌∙◌}
 use borrow.Author.Rules.{rules}
 use Rattle.refusals.proofs.SoundCalls.{head_there, searchable}
-use Rattle.boundary.proofs.Operands.{Searched, row_inside, row-taken, row-left}
+use Rattle.boundary.proofs.Operands.{Searched, row_inside, row_taken_lem, row_left}
 use Rattle.boundary.proofs.take_row.Statement.{statement}
 use Rattle.boundary.proofs.take_row.Tie as tie
 
@@ -24,10 +24,10 @@ save_row_requires c κs = row_inside (searched c.before.before.before) _ c.befor
 returns : tie.Need-returns
 returns c =
     let found = c.before.before in
-    c.save-row.ensures ∙ row-taken (searched found.before.before) _ _ found.at.given.1
+    c.save-row.ensures ∙ row_taken_lem (searched found.before.before) _ _ found.at.given.1
 
 returns_2 : tie.Need-returns-2
-returns_2 c = row-left (searched c.before.before) _ _ c.enum_told.given.1
+returns_2 c = row_left (searched c.before.before) _ _ c.enum_told.given.1
 
 pub take_row_spec : {M : Type 1} → statement M
 take_row_spec =

@@ -5,7 +5,7 @@ use native.Mathlib.Omega.{arith}
 use native.Mathlib.Nat.{mod-lt}
 use borrow.Author.Rules.{rules}
 use Rattle.rules.specs.Statistics.{total_age, mean}
-use Rattle.statistics.proofs.Means.{Ages, mean_start, sum_fits, high_fits, mean-fits, age-turn, ages-end}
+use Rattle.statistics.proofs.Means.{Ages, mean_start, sum_fits, high_fits, mean_fits, age_turn, ages_end}
 use Rattle.statistics.proofs.mean_age.Statement.{statement}
 use Rattle.statistics.proofs.mean_age.Tie as tie
 
@@ -42,7 +42,7 @@ loop_again c =
     let turn = c.before.before in
     let start = turn.before.before.before in
     let v = turn.loop.invariant in
-    (v.0, age-turn _ _ _ _ _ _ v.1 c.age.result start.requires.0 (omega arith) start.ranges.time.fits c.age.ensures)
+    (v.0, age_turn _ _ _ _ _ _ v.1 c.age.result start.requires.0 (omega arith) start.ranges.time.fits c.age.ensures)
 
 mul_rest : tie.Need-overflow-mul-rest invariant_loop decreases_loop
 mul_rest c =
@@ -58,10 +58,10 @@ mul_result : tie.Need-overflow-mul-result invariant_loop decreases_loop
 mul_result c = let v = c.before.loop.invariant in rw v.0 (omega (arith, high_fits v.1 (omega (arith, v.1.within))))
 
 add_result : tie.Need-overflow-add-result invariant_loop decreases_loop
-add_result c = let v = c.before.loop.invariant in rw v.0 (omega (arith, mean-fits v.1 (omega (arith, v.1.within))))
+add_result c = let v = c.before.loop.invariant in rw v.0 (omega (arith, mean_fits v.1 (omega (arith, v.1.within))))
 
 returns_2 : tie.Need-returns-2 invariant_loop decreases_loop
-returns_2 c = let v = c.before.loop.invariant in rw v.0 (ages-end _ _ _ _ _ _ v.1 (omega (arith, v.1.within)))
+returns_2 c = let v = c.before.loop.invariant in rw v.0 (ages_end _ _ _ _ _ _ v.1 (omega (arith, v.1.within)))
 
 pub mean_age_spec : {M : Type 1} → statement M
 mean_age_spec =

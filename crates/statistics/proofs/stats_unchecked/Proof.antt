@@ -2,7 +2,7 @@
 use Rattle.rules.proofs.MemoryLaws.{all_bytes}
 use Rattle.rules.proofs.Public.{sound_memory}
 use Rattle.refusals.proofs.SoundCalls.{head_there}
-use Rattle.statistics.proofs.StatisticsCalls.{stats-done}
+use Rattle.statistics.proofs.StatisticsCalls.{stats_done}
 use Rattle.statistics.proofs.stats_unchecked.Statement.{statement}
 use Rattle.statistics.proofs.stats_unchecked.Tie as tie
 
@@ -13,7 +13,7 @@ returns : tie.Need-returns
 returns c =
     let counted = c.before in
     let start = counted.before.before in
-    stats-done _ _ start.requires counted.row_count.ensures (all_bytes start.args.state.now (λ i. (counted.before.shared-slice-known.given i).fits)) _ _ c.stats-of.ensures
+    stats_done _ _ start.requires counted.row_count.ensures (all_bytes start.args.state.now (λ i. (counted.before.shared-slice-known.given i).fits)) _ _ c.stats-of.ensures
 
 pub stats_unchecked_spec : {M : Type 1} → statement M
 stats_unchecked_spec = tie.close (tie.spec (λ c κs. head_there _ c.before.requires) stats_of_requires returns)

@@ -2,7 +2,7 @@
 use mathlib.Core.Path.{refl, sym, ◌∙◌}
 use borrow.Author.Tests.{ne_eqb}
 use Rattle.rules.specs.Commands.{code, codes, code_of, takes_path, after_six}
-use Rattle.commands.proofs.CommandLaws.{Given, given_by, cut-six, element_answers}
+use Rattle.commands.proofs.CommandLaws.{Given, given_by, cut_six, element_answers}
 use borrow.Author.Rules.{rules}
 use Rattle.commands.proofs.command.element.Statement.{statement}
 use Rattle.commands.proofs.command.element.Tie as tie
@@ -34,5 +34,5 @@ element_spec =
     tie.close
     (tie.spec
     (λ c. search rules) (λ c κs. search rules)
-    (λ c. let at-if1 = c.before in cut-six (given at-if1.before) refl at-if1.if1.true refl c.refused-six.ensures)
+    (λ c. let at-if1 = c.before in cut_six (given at-if1.before) refl at-if1.if1.true refl c.refused-six.ensures)
     (λ c κs. search rules) (λ c κs. search rules) (λ c κs. search rules) (λ c κs. search rules) returns_2 (λ c κs. search rules) (λ c κs. search rules) returns_3)

@@ -1,7 +1,7 @@
 -- Done, fresh makes the state sound; refused by 5, it leaves the state and whether it was sound.
 use mathlib.Core.Path.{refl}
 use Rattle.rules.specs.Commands.{code, codes, code_of, takes_path, after_six}
-use Rattle.commands.proofs.CommandLaws.{Given, given_by, cut-six, fresh_answers}
+use Rattle.commands.proofs.CommandLaws.{Given, given_by, cut_six, fresh_answers}
 use borrow.Author.Rules.{rules}
 use Rattle.commands.proofs.command.fresh.Statement.{statement}
 use Rattle.commands.proofs.command.fresh.Tie as tie
@@ -24,6 +24,6 @@ fresh_spec =
     tie.close
     (tie.spec
     (λ c. search rules) (λ c κs. search rules)
-    (λ c. let at-if1 = c.before in cut-six (given at-if1.before) refl at-if1.if1.true refl c.refused-six.ensures)
+    (λ c. let at-if1 = c.before in cut_six (given at-if1.before) refl at-if1.if1.true refl c.refused-six.ensures)
     (λ c κs. search rules) (λ c. search rules) (λ c. search rules) (λ c κs. search rules) (λ c κs. search rules) (λ c κs. search rules)
     (λ c. search rules) returns_2)

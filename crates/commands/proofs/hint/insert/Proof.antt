@@ -6,8 +6,8 @@ use Rattle.types.specs.Senders.{emptied}
 use Rattle.rules.specs.Memory.{cut}
 use Rattle.rules.specs.Calls.{Insert}
 use Rattle.rules.specs.Commands.{code, codes, code_of, takes_path, key_in, time_in, reply, key_time_size, after_six, read_as}
-use Rattle.commands.proofs.Operands.{key-time}
-use Rattle.commands.proofs.CommandLaws.{Given, Called, given_by, with-path, called, is_sound, cut-six, unsound, done}
+use Rattle.commands.proofs.Operands.{key_time}
+use Rattle.commands.proofs.CommandLaws.{Given, Called, given_by, made_with_path, called, is_sound, cut_six, unsound, done}
 use borrow.Author.Rules.{rules}
 use Rattle.commands.proofs.hint.insert.Statement.{statement}
 use Rattle.commands.proofs.hint.insert.Tie as tie
@@ -18,7 +18,7 @@ given c = let s = c.before.before in given_by s.requires.0 c.before.slice-known.
 makes : (c : tie.Else1) → let a = c.before.before.before.args in let o = cut a.at key_time_size a.input.now in
     Called 0x10 a.state.now a.is-sound a.sender (drop a.at a.input.now) (Insert (key_in o) a.sender.pending (time_in o)) (emptied a.sender)
 unfolding code_of codes code read_as
-makes c = called (given c.before) refl c.if1.false refl with-path
+makes c = called (given c.before) refl c.if1.false refl made_with_path
 
 returns_3 : tie.Need-returns-3
 returns_3 c =
@@ -30,7 +30,7 @@ returns_3 c =
     let start = at-if2.before.before.before.before in
     let a = start.args in
     let s = at-insert-unchecked.insert-unchecked.ensures in
-    let q = key-time a.at key_time_size a.input.now (omega arith) at-load-addr.Load-addr.ensures at-read-u64.read_u64.ensures (λ k n. Insert k a.sender.pending n) in
+    let q = key_time a.at key_time_size a.input.now (omega arith) at-load-addr.Load-addr.ensures at-read-u64.read_u64.ensures (λ k n. Insert k a.sender.pending n) in
     done (makes at-if2.before) _ q (at-hint-reply.hint-reply.ensures ∙ ap reply s.0) s.1 c.emptied3.ensures refl
 
 pub insert_spec : {M : Type 1} → statement M
@@ -39,7 +39,7 @@ insert_spec =
     tie.close
     (tie.spec
     (λ c. search rules) (λ c κs. search rules) (λ c κs. search rules)
-    (λ c. let at-if1 = c.before.before in cut-six (given at-if1.before) refl at-if1.if1.true c.before.emptied.ensures c.refused-six.ensures)
+    (λ c. let at-if1 = c.before.before in cut_six (given at-if1.before) refl at-if1.if1.true c.before.emptied.ensures c.refused-six.ensures)
     (λ c κs. search rules) (λ c κs. search rules)
     (λ c. let at-if2 = c.before.before in unsound (makes at-if2.before) at-if2.if2.true c.before.emptied2.ensures c.refused-one.ensures)
     (λ c κs. search rules) (λ c. search rules) (λ c κs. search rules)

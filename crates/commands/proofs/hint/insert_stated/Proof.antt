@@ -8,9 +8,9 @@ use Rattle.rules.specs.Calls.{InsertStated}
 use Rattle.rules.specs.Layout.{byte_size}
 use Rattle.rules.specs.Commands.{code, codes, code_of, takes_path, key_in, time_in, reply, with_funding_size, kind_at, after_six, read_as}
 use Rattle.commands.specs.OnMemory.{funding_in}
-use Rattle.commands.proofs.Operands.{number_at, key-time-and}
+use Rattle.commands.proofs.Operands.{number_at, key_time_and}
 use Rattle.commands.proofs.FundingKind.{funded_bad, funded_legal}
-use Rattle.commands.proofs.CommandLaws.{Given, Called, given_by, with-path, called, is_sound, cut-six, bad_kind, unsound, done}
+use Rattle.commands.proofs.CommandLaws.{Given, Called, given_by, made_with_path, called, is_sound, cut_six, bad_kind, unsound, done}
 use borrow.Author.Rules.{rules}
 use Rattle.commands.proofs.hint.insert_stated.Statement.{statement}
 use Rattle.commands.proofs.hint.insert_stated.Tie as tie
@@ -27,7 +27,7 @@ makes c =
     let at-if1 = at-read-u8.before in
     let a = at-if1.before.before.before.args in
     let e = number_at a.at with_funding_size kind_at byte_size a.input.now (omega arith) at-read-u8.read-u8.ensures in
-    called (given at-if1.before) refl at-if1.if1.false (funded_legal (cut a.at with_funding_size a.input.now) _ (omega (arith, e, c.if2.false))) with-path
+    called (given at-if1.before) refl at-if1.if1.false (funded_legal (cut a.at with_funding_size a.input.now) _ (omega (arith, e, c.if2.false))) made_with_path
 
 returns_2 : tie.Need-returns-2
 unfolding code_of codes code read_as takes_path after_six
@@ -52,7 +52,7 @@ returns_4 c =
     let start = at-if3.before.before.before.before.before.before in
     let a = start.args in
     let s = at-insert-stated-unchecked.insert-stated-unchecked.ensures in
-    let q = key-time-and a.at with_funding_size a.input.now (omega arith) at-load-addr.Load-addr.ensures at-read-u64.read_u64.ensures (λ k n x. InsertStated k a.sender.pending n x)
+    let q = key_time_and a.at with_funding_size a.input.now (omega arith) at-load-addr.Load-addr.ensures at-read-u64.read_u64.ensures (λ k n x. InsertStated k a.sender.pending n x)
     at-funding.funding.ensures in
     done (makes at-if3.before) _ q (at-hint-reply.hint-reply.ensures ∙ ap reply s.0) s.1 c.emptied4.ensures refl
 
@@ -62,7 +62,7 @@ insert_stated_spec =
     tie.close
     (tie.spec
     (λ c. search rules) (λ c κs. search rules) (λ c κs. search rules)
-    (λ c. let at-if1 = c.before.before in cut-six (given at-if1.before) refl at-if1.if1.true c.before.emptied.ensures c.refused-six.ensures)
+    (λ c. let at-if1 = c.before.before in cut_six (given at-if1.before) refl at-if1.if1.true c.before.emptied.ensures c.refused-six.ensures)
     (λ c. search rules) (λ c κs. search rules) (λ c κs. search rules) (λ c κs. search rules) returns_2 (λ c κs. search rules)
     (λ c κs. search rules)
     (λ c. let at-if3 = c.before.before in unsound (makes at-if3.before) at-if3.if3.true c.before.emptied3.ensures c.refused-one.ensures)

@@ -9,8 +9,8 @@ use Rattle.rules.specs.Calls.{Get}
 use Rattle.rules.specs.Commands.{code, codes, code_of, takes_path, key_in, time_in, key_time_size, after_six, read_as}
 use Rattle.replies.specs.Part.{part_reply}
 use Rattle.lookups.proofs.PartReply.{got_reply}
-use Rattle.commands.proofs.Operands.{key-time}
-use Rattle.commands.proofs.CommandLaws.{Given, Called, given_by, plain, called, is_sound, cut-six, unsound, done}
+use Rattle.commands.proofs.Operands.{key_time}
+use Rattle.commands.proofs.CommandLaws.{Given, Called, given_by, plain, called, is_sound, cut_six, unsound, done}
 use borrow.Author.Rules.{rules}
 use Rattle.commands.proofs.lookup.get.Statement.{statement}
 use Rattle.commands.proofs.lookup.get.Tie as tie
@@ -32,7 +32,7 @@ returns_3 c =
     let start = at-if2.before.before.before.before in
     let a = start.args in
     let s = at-get-unchecked.get-unchecked.ensures in
-    let q = key-time a.at key_time_size a.input.now (omega arith) at-load-addr.Load-addr.ensures at-read-u64.read_u64.ensures Get in
+    let q = key_time a.at key_time_size a.input.now (omega arith) at-load-addr.Load-addr.ensures at-read-u64.read_u64.ensures Get in
     done (makes at-if2.before) _ q (c.part-reply.ensures ∙ ap (λ (x : List ℕ). part_reply (length x)) s.0 ∙ got_reply a.state.now _ _ (is_sound start.requires.0 at-if2.if2.false)) s.1 refl refl
 
 pub get_spec : {M : Type 1} → statement M
@@ -41,7 +41,7 @@ get_spec =
     tie.close
     (tie.spec
     (λ c. search rules) (λ c κs. search rules)
-    (λ c. let at-if1 = c.before in cut-six (given at-if1.before) refl at-if1.if1.true refl c.refused-six.ensures)
+    (λ c. let at-if1 = c.before in cut_six (given at-if1.before) refl at-if1.if1.true refl c.refused-six.ensures)
     (λ c κs. search rules) (λ c. let at-if2 = c.before in unsound (makes at-if2.before) at-if2.if2.true refl c.refused-one.ensures)
     (λ c κs. search rules) (λ c. search rules) (λ c κs. search rules)
     (λ c κs. let at-if2 = c.before.before in let start = at-if2.before.before.before.before in is_sound start.requires.0 at-if2.if2.false)

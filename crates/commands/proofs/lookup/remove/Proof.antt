@@ -7,7 +7,7 @@ use Rattle.rules.specs.Calls.{Remove}
 use Rattle.rules.specs.Layout.{address_size}
 use Rattle.rules.specs.Commands.{code, codes, code_of, takes_path, key_in, reply, after_six, read_as}
 use Rattle.commands.proofs.Operands.{key_at}
-use Rattle.commands.proofs.CommandLaws.{Given, Called, given_by, plain, called, is_sound, cut-six, unsound, done}
+use Rattle.commands.proofs.CommandLaws.{Given, Called, given_by, plain, called, is_sound, cut_six, unsound, done}
 use borrow.Author.Rules.{rules}
 use Rattle.commands.proofs.lookup.remove.Statement.{statement}
 use Rattle.commands.proofs.lookup.remove.Tie as tie
@@ -37,7 +37,7 @@ remove_spec =
     tie.close
     (tie.spec
     (λ c. search rules) (λ c κs. search rules)
-    (λ c. let at-if1 = c.before in cut-six (given at-if1.before) refl at-if1.if1.true refl c.refused-six.ensures)
+    (λ c. let at-if1 = c.before in cut_six (given at-if1.before) refl at-if1.if1.true refl c.refused-six.ensures)
     (λ c κs. search rules) (λ c. let at-if2 = c.before in unsound (makes at-if2.before) at-if2.if2.true refl c.refused-one.ensures)
     (λ c κs. search rules)
     (λ c κs. let at-if2 = c.before.before in let start = at-if2.before.before.before.before in is_sound start.requires.0 at-if2.if2.false)

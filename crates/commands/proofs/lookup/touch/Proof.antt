@@ -5,8 +5,8 @@ use lib.ListN.{drop}
 use Rattle.rules.specs.Memory.{cut}
 use Rattle.rules.specs.Calls.{GetAndTouch}
 use Rattle.rules.specs.Commands.{code, codes, code_of, takes_path, key_in, time_in, key_time_size, after_six, read_as}
-use Rattle.commands.proofs.Operands.{key-time}
-use Rattle.commands.proofs.CommandLaws.{Given, Called, given_by, plain, called, is_sound, cut-six, unsound, done}
+use Rattle.commands.proofs.Operands.{key_time}
+use Rattle.commands.proofs.CommandLaws.{Given, Called, given_by, plain, called, is_sound, cut_six, unsound, done}
 use borrow.Author.Rules.{rules}
 use Rattle.commands.proofs.lookup.touch.Statement.{statement}
 use Rattle.commands.proofs.lookup.touch.Tie as tie
@@ -28,7 +28,7 @@ returns_3 c =
     let start = at-if2.before.before.before.before in
     let a = start.args in
     let s = at-touch-unchecked.touch-unchecked.ensures in
-    let q = key-time a.at key_time_size a.input.now (omega arith) at-load-addr.Load-addr.ensures at-read-u64.read_u64.ensures GetAndTouch in
+    let q = key_time a.at key_time_size a.input.now (omega arith) at-load-addr.Load-addr.ensures at-read-u64.read_u64.ensures GetAndTouch in
     done (makes at-if2.before) _ q (c.touch-reply.ensures ∙ s.0) s.2 refl refl
 
 pub touch_spec : {M : Type 1} → statement M
@@ -37,7 +37,7 @@ touch_spec =
     tie.close
     (tie.spec
     (λ c. search rules) (λ c κs. search rules)
-    (λ c. let at-if1 = c.before in cut-six (given at-if1.before) refl at-if1.if1.true refl c.refused-six.ensures)
+    (λ c. let at-if1 = c.before in cut_six (given at-if1.before) refl at-if1.if1.true refl c.refused-six.ensures)
     (λ c κs. search rules) (λ c. let at-if2 = c.before in unsound (makes at-if2.before) at-if2.if2.true refl c.refused-one.ensures)
     (λ c κs. search rules) (λ c. search rules) (λ c κs. search rules)
     (λ c κs. let at-if2 = c.before.before.before in let start = at-if2.before.before.before.before in is_sound start.requires.0 at-if2.if2.false)

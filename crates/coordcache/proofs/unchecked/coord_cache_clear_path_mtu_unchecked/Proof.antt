@@ -1,6 +1,6 @@
 -- The rules answer this call with done or a number and no values, so the number alone makes the reply.
 use borrow.Author.Rules.{rules}
-use Rattle.coordcache.proofs.ToldReplies.{told-number, clear_mtu_done}
+use Rattle.coordcache.proofs.ToldReplies.{told_number, clear_mtu_done}
 use Rattle.coordcache.proofs.unchecked.coord_cache_clear_path_mtu_unchecked.Statement.{statement}
 use Rattle.coordcache.proofs.unchecked.coord_cache_clear_path_mtu_unchecked.Tie as tie
 
@@ -13,4 +13,4 @@ coord_cache_clear_path_mtu_unchecked_spec =
     (λ c κs. search rules)
     (λ c κs. search rules)
     (λ c. search rules)
-    (λ c. search (told-number, clear_mtu_done)))
+    (λ c. search (told_number, clear_mtu_done)))

@@ -1,6 +1,6 @@
 -- The sixteen bytes are the key's address, and the demotion's answer for that address is what is told.
 use borrow.Author.Rules.{rules}
-use Rattle.coordcache.proofs.ToldReplies.{told-call}
+use Rattle.coordcache.proofs.ToldReplies.{told_call}
 use Rattle.coordcache.proofs.unchecked.coord_cache_demote_unchecked.Statement.{statement}
 use Rattle.coordcache.proofs.unchecked.coord_cache_demote_unchecked.Tie as tie
 
@@ -13,4 +13,4 @@ coord_cache_demote_unchecked_spec =
     (λ c κs. search rules)
     (λ c κs. search rules)
     (λ c. search rules)
-    (λ c. search told-call))
+    (λ c. search told_call))

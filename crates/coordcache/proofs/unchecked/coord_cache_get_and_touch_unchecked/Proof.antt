@@ -2,7 +2,7 @@
 use borrow.Author.Rules.{rules}
 use Rattle.rules.proofs.Sizes.{small8}
 use Rattle.rules.proofs.MemoryLaws.{all_bytes}
-use Rattle.coordcache.proofs.ToldLookups.{part-there, place-told, touched-told}
+use Rattle.coordcache.proofs.ToldLookups.{part_there, place_told_lem, touched_told}
 use Rattle.coordcache.proofs.unchecked.coord_cache_get_and_touch_unchecked.Statement.{statement}
 use Rattle.coordcache.proofs.unchecked.coord_cache_get_and_touch_unchecked.Tie as tie
 
@@ -12,7 +12,7 @@ returns c =
     let known = touched.before.before.before in
     let start = known.before in
     let bytes = all_bytes start.args.state.now (λ i. (known.slice-known.given i).fits) in
-    search (touched-told, part-there, place-told, small8)
+    search (touched_told, part_there, place_told_lem, small8)
 
 pub coord_cache_get_and_touch_unchecked_spec : {M : Type 1} → statement M
 coord_cache_get_and_touch_unchecked_spec =

@@ -1,6 +1,6 @@
 -- The reply follows from how many bytes the part has, and the part stands where the found place says, in the key's row.
 use borrow.Author.Rules.{rules}
-use Rattle.coordcache.proofs.ToldLookups.{got-told, part-there, place-told}
+use Rattle.coordcache.proofs.ToldLookups.{got_told, part_there, place_told_lem}
 use Rattle.coordcache.proofs.unchecked.coord_cache_get_unchecked.Statement.{statement}
 use Rattle.coordcache.proofs.unchecked.coord_cache_get_unchecked.Tie as tie
 
@@ -12,4 +12,4 @@ coord_cache_get_unchecked_spec =
     (λ c κs. search rules)
     (λ c κs. search rules)
     (λ c κs. search rules)
-    (λ c. search (got-told, part-there, place-told)))
+    (λ c. search (got_told, part_there, place_told_lem)))

@@ -1,6 +1,6 @@
 -- The rules' insert is reached with the address and the path that the bytes stand for, and its answer's reply is what goes out.
 use borrow.Author.Rules.{rules}
-use Rattle.coordcache.proofs.ToldReplies.{told-call}
+use Rattle.coordcache.proofs.ToldReplies.{told_call}
 use Rattle.coordcache.proofs.unchecked.coord_cache_insert_unchecked.Statement.{statement}
 use Rattle.coordcache.proofs.unchecked.coord_cache_insert_unchecked.Tie as tie
 
@@ -14,4 +14,4 @@ coord_cache_insert_unchecked_spec =
     (λ c κs. search rules)
     (λ c κs. search rules)
     (λ c. search rules)
-    (λ c. search told-call))
+    (λ c. search told_call))

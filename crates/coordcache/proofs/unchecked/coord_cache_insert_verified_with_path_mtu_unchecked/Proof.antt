@@ -1,6 +1,6 @@
 -- The MTU is handed over beside the converted key and path, and what the verified insert says of them is told.
 use borrow.Author.Rules.{rules}
-use Rattle.coordcache.proofs.ToldReplies.{told-call}
+use Rattle.coordcache.proofs.ToldReplies.{told_call}
 use Rattle.coordcache.proofs.unchecked.coord_cache_insert_verified_with_path_mtu_unchecked.Statement.{statement}
 use Rattle.coordcache.proofs.unchecked.coord_cache_insert_verified_with_path_mtu_unchecked.Tie as tie
 
@@ -14,4 +14,4 @@ coord_cache_insert_verified_with_path_mtu_unchecked_spec =
     (λ c κs. search rules)
     (λ c κs. search rules)
     (λ c. search rules)
-    (λ c. search told-call))
+    (λ c. search told_call))

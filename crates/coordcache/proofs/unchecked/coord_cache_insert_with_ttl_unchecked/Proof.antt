@@ -1,6 +1,6 @@
 -- Key and path are converted, time and lifetime are numbers on both sides; the reply is that of the call so named.
 use borrow.Author.Rules.{rules}
-use Rattle.coordcache.proofs.ToldReplies.{told-call}
+use Rattle.coordcache.proofs.ToldReplies.{told_call}
 use Rattle.coordcache.proofs.unchecked.coord_cache_insert_with_ttl_unchecked.Statement.{statement}
 use Rattle.coordcache.proofs.unchecked.coord_cache_insert_with_ttl_unchecked.Tie as tie
 
@@ -14,4 +14,4 @@ coord_cache_insert_with_ttl_unchecked_spec =
     (λ c κs. search rules)
     (λ c κs. search rules)
     (λ c. search rules)
-    (λ c. search told-call))
+    (λ c. search told_call))

@@ -1,6 +1,6 @@
 -- The address converted is the root whose rows stay, and the count of the rows that left is told.
 use borrow.Author.Rules.{rules}
-use Rattle.coordcache.proofs.ToldReplies.{told-call}
+use Rattle.coordcache.proofs.ToldReplies.{told_call}
 use Rattle.coordcache.proofs.unchecked.coord_cache_invalidate_other_roots_unchecked.Statement.{statement}
 use Rattle.coordcache.proofs.unchecked.coord_cache_invalidate_other_roots_unchecked.Tie as tie
 
@@ -13,4 +13,4 @@ coord_cache_invalidate_other_roots_unchecked_spec =
     (λ c κs. search rules)
     (λ c κs. search rules)
     (λ c. search rules)
-    (λ c. search told-call))
+    (λ c. search told_call))

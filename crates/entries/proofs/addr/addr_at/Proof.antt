@@ -8,7 +8,7 @@ use borrow.Author.Rules.{rules}
 use Rattle.types.specs.Addresses.{same_bytes, same_addr}
 use Rattle.rules.specs.Memory.{cut}
 use Rattle.rules.specs.Layout.{address_size}
-use Rattle.entries.proofs.Bytes.{addr-turn, addr-end, addr_more, and_in}
+use Rattle.entries.proofs.Bytes.{addr_turn, addr_end, addr_more, and_in}
 use Rattle.entries.proofs.addr.addr_at.Statement.{statement}
 use Rattle.entries.proofs.addr.addr_at.Tie as tie
 
@@ -22,14 +22,14 @@ loop_again : tie.Need-loop-preserved invariant_loop decreases_loop
 loop_again c =
     let s = c.before.before.before.before.args in
     let p = c.before.before.loop in
-    (omega arith, p.invariant.1, addr_more _ p.same _ _ p.invariant.2 (addr-turn s.a.0 s.state.now s.at p.i p.invariant.1 (omega arith) (omega arith)) ∙ and_in p.same _ _)
+    (omega arith, p.invariant.1, addr_more _ p.same _ _ p.invariant.2 (addr_turn s.a.0 s.state.now s.at p.i p.invariant.1 (omega arith) (omega arith)) ∙ and_in p.same _ _)
 
 returns : tie.Need-returns invariant_loop decreases_loop
 unfolding same_addr
 returns c =
     let s = c.before.before.before.args in
     let p = c.before.loop in
-    sym (addr_more _ p.same _ _ p.invariant.2 (addr-end s.a.0 s.state.now s.at p.i p.invariant.1 (omega arith) (omega arith)) ∙ and-true p.same)
+    sym (addr_more _ p.same _ _ p.invariant.2 (addr_end s.a.0 s.state.now s.at p.i p.invariant.1 (omega arith) (omega arith)) ∙ and-true p.same)
 
 pub addr_at_spec : {M : Type 1} → statement M
 addr_at_spec =

@@ -6,7 +6,7 @@ use native.Mathlib.Omega.{arith}
 use lib.ListN.{length, take, drop, length-set}
 use borrow.Author.Rules.{rules}
 use Rattle.raw.proofs.CopyLaws.{stored, copied}
-use Rattle.entries.proofs.PathElements.{row_path, places-length, place_at}
+use Rattle.entries.proofs.PathElements.{row_path, places_length, place_at}
 use Rattle.entries.proofs.EntryValues.{path_made}
 use Rattle.entries.proofs.path.load_path.Statement.{statement}
 use Rattle.entries.proofs.path.load_path.Tie as tie
@@ -25,14 +25,14 @@ loop_again : tie.Need-loop-preserved invariant_loop decreases_loop
 loop_again c =
     let p = c.before.before in
     let s = p.before.before in
-    let n = places-length s.args.n s.args.i s.args.state.now s.requires.0 in
+    let n = places_length s.args.n s.args.i s.args.state.now s.requires.0 in
     (omega arith, p.loop.invariant.1, stored (row_path s.args.n s.args.i s.args.state.now).entries _ p.loop.entries p.loop.place c.load-coord-entry.result c.load-coord-entry.result p.loop.invariant.2 (c.load-coord-entry.ensures ∙ sym (place_at s.args.n s.args.i s.args.state.now s.requires.0 p.loop.place _ (omega arith))) (omega arith) (omega arith), simp length-set p.loop.invariant.3)
 
 returns : tie.Need-returns invariant_loop decreases_loop
 returns c =
     let p = c.before.before in
     let s = p.before.before in
-    let n = places-length s.args.n s.args.i s.args.state.now s.requires.0 in
+    let n = places_length s.args.n s.args.i s.args.state.now s.requires.0 in
     path_made (row_path s.args.n s.args.i s.args.state.now) (copied _ _ p.loop.entries p.loop.place p.loop.invariant.2 (omega arith) (omega arith)) c.path-len.ensures
 
 pub load_path_spec : {M : Type 1} → statement M

@@ -6,7 +6,7 @@ use lib.ListN.{drop}
 use borrow.Author.Rules.{rules}
 use Rattle.types.specs.Paths.{elements, among, contains}
 use Rattle.types.proofs.PathLaws.{among_end}
-use Rattle.entries.proofs.PathElements.{row_path, elements_length, search-hit, search-miss}
+use Rattle.entries.proofs.PathElements.{row_path, elements_length, search_hit, search_miss}
 use Rattle.entries.proofs.path.path_contains.Statement.{statement}
 use Rattle.entries.proofs.path.path_contains.Tie as tie
 
@@ -24,13 +24,13 @@ returns : tie.Need-returns invariant_loop decreases_loop
 returns c =
     let p = c.before.before.before in
     let s = p.before.before.before in
-    sym (p.loop.invariant.1 ∙ search-hit s.args.n s.args.i s.args.state.now s.requires.0 s.args.a p.loop.k s.requires.2 (omega arith) (sym c.before.addr_at.ensures ∙ c.if1.true))
+    sym (p.loop.invariant.1 ∙ search_hit s.args.n s.args.i s.args.state.now s.requires.0 s.args.a p.loop.k s.requires.2 (omega arith) (sym c.before.addr_at.ensures ∙ c.if1.true))
 
 loop_again : tie.Need-loop-preserved invariant_loop decreases_loop
 loop_again c =
     let p = c.before.before.before in
     let s = p.before.before.before in
-    (omega arith, p.loop.invariant.1 ∙ search-miss s.args.n s.args.i s.args.state.now s.requires.0 s.args.a p.loop.k s.requires.2 (omega arith) (sym c.before.addr_at.ensures ∙ c.if1.false))
+    (omega arith, p.loop.invariant.1 ∙ search_miss s.args.n s.args.i s.args.state.now s.requires.0 s.args.a p.loop.k s.requires.2 (omega arith) (sym c.before.addr_at.ensures ∙ c.if1.false))
 
 returns_2 : tie.Need-returns-2 invariant_loop decreases_loop
 returns_2 c =

@@ -1,4 +1,4 @@
--- Paths with different counts differ; with equal counts the answer is that for the elements from k on, by `path-turn`.
+-- Paths with different counts differ; with equal counts the answer is that for the elements from k on, by `path_turn`.
 use mathlib.Core.Path.{◌≡◌, refl, sym, ◌∙◌, ap}
 use Prim.Native.Nat.{◌-◌, ◌≤◌}
 use native.Mathlib.Omega.{arith}
@@ -9,7 +9,7 @@ use mathlib.Core.Bool.{◌&&◌}
 use Rattle.types.specs.declared.coord.CoordEntry.{CoordEntry}
 use Rattle.types.specs.Paths.{elements, same_entry, same_entries, same_path}
 use Rattle.types.proofs.PathLaws.{entries_end, lengths_differ}
-use Rattle.entries.proofs.PathElements.{row_path, path-turn}
+use Rattle.entries.proofs.PathElements.{row_path, path_turn}
 use Rattle.entries.proofs.path.path_is.Statement.{statement}
 use Rattle.entries.proofs.path.path_is.Tie as tie
 
@@ -33,13 +33,13 @@ returns_2 : tie.Need-returns-2 invariant_loop decreases_loop
 returns_2 c =
     let s = c.before.before.before.before.before.before.before.before.before in
     let e = sym c.before.coord-entry-at.ensures ∙ not-true _ c.if2.true in
-    sym (c.before.before.before.before.loop.invariant.1 ∙ path-turn s.args.n s.args.i s.args.state.now s.requires.0 s.args.t4 c.before.before.before.before.loop.k (omega (arith, c.before.before.before.before.before.before.before.held-elements.ensures)) (omega (arith, c.before.before.before.before.before.before.before.held-elements.ensures)) (omega (arith, c.before.before.before.before.before.before.before.held-elements.ensures, c.before.before.before.before.before.before.count.ensures, c.before.before.before.before.before.if1.false)) ∙ simp e)
+    sym (c.before.before.before.before.loop.invariant.1 ∙ path_turn s.args.n s.args.i s.args.state.now s.requires.0 s.args.t4 c.before.before.before.before.loop.k (omega (arith, c.before.before.before.before.before.before.before.held-elements.ensures)) (omega (arith, c.before.before.before.before.before.before.before.held-elements.ensures)) (omega (arith, c.before.before.before.before.before.before.before.held-elements.ensures, c.before.before.before.before.before.before.count.ensures, c.before.before.before.before.before.if1.false)) ∙ simp e)
 
 loop_again : tie.Need-loop-preserved invariant_loop decreases_loop
 loop_again c =
     let s = c.before.before.before.before.before.before.before.before.before in
     let e = sym c.before.coord-entry-at.ensures ∙ not-false _ c.if2.false in
-    (omega arith, c.before.before.before.before.loop.invariant.1 ∙ path-turn s.args.n s.args.i s.args.state.now s.requires.0 s.args.t4 c.before.before.before.before.loop.k (omega (arith, c.before.before.before.before.before.before.before.held-elements.ensures)) (omega (arith, c.before.before.before.before.before.before.before.held-elements.ensures)) (omega (arith, c.before.before.before.before.before.before.before.held-elements.ensures, c.before.before.before.before.before.before.count.ensures, c.before.before.before.before.before.if1.false)) ∙ simp e)
+    (omega arith, c.before.before.before.before.loop.invariant.1 ∙ path_turn s.args.n s.args.i s.args.state.now s.requires.0 s.args.t4 c.before.before.before.before.loop.k (omega (arith, c.before.before.before.before.before.before.before.held-elements.ensures)) (omega (arith, c.before.before.before.before.before.before.before.held-elements.ensures)) (omega (arith, c.before.before.before.before.before.before.before.held-elements.ensures, c.before.before.before.before.before.before.count.ensures, c.before.before.before.before.before.if1.false)) ∙ simp e)
 
 returns_3 : tie.Need-returns-3 invariant_loop decreases_loop
 returns_3 c =

@@ -2,7 +2,7 @@
 use mathlib.Core.Path.{refl}
 use Rattle.rows.specs.Insertions.{row_from}
 use Rattle.entries.specs.NewEntries.{entry_from}
-use Rattle.filing.proofs.FiledRows.{index-asks, one-more-fits, head_there, fits_kept, stored-light, place_inside, same_seq, filed}
+use Rattle.filing.proofs.FiledRows.{index_asks, one_more_fits, head_there, fits_kept, stored_light, place_inside, same_seq, filed}
 use borrow.Author.Rules.{rules}
 use Rattle.filing.proofs.file.file_new.Statement.{statement}
 use Rattle.filing.proofs.file.file_new.Tie as tie
@@ -14,7 +14,7 @@ insert_row_requires c κs =
     let index = stored.before.before in
     let free = index.before.before.before.requires.0 in
     let inside = place_inside free index.index-for.ensures in
-    let fits = one-more-fits free in
+    let fits = one_more_fits free in
     search rules
 
 returns : tie.Need-returns
@@ -32,8 +32,8 @@ pub file_new_spec : {M : Type 1} → statement M
 file_new_spec =
     tie.close
     (tie.spec
-    (λ c κs. search index-asks)
-    (λ c κs. search (head_there, stored-light))
+    (λ c κs. search index_asks)
+    (λ c κs. search (head_there, stored_light))
     (λ c κs. search head_there)
     (λ c κs. search (rules, head_there, fits_kept, same_seq _ _ c.before.before.before.set-stored-weight.ensures))
     insert_row_requires

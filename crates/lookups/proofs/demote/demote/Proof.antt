@@ -1,7 +1,7 @@
 -- Refused(1) reads as the rules' answer to an unsound memory (one-said); where is_sound is true, demote_unchecked's contract is this one.
 use Rattle.rules.specs.Answers.{demote_said}
 use borrow.Author.Rules.{rules}
-use Rattle.refusals.proofs.RefusalsSaid.{checked, one-said}
+use Rattle.refusals.proofs.RefusalsSaid.{checked, one_said}
 use Rattle.lookups.proofs.demote.demote.Statement.{statement}
 use Rattle.lookups.proofs.demote.demote.Tie as tie
 
@@ -11,7 +11,7 @@ demote_spec =
     (tie.spec
     (λ c κs. search rules)
     (λ c. search rules)
-    (λ c. unfold demote_said in one-said _ c.before.is-sound.ensures _ c.if1.true)
+    (λ c. unfold demote_said in one_said _ c.before.is-sound.ensures _ c.if1.true)
     (λ c κs. checked _ c.before.before.is-sound.ensures c.before.if1.false)
     (λ c. search rules)
     (λ c. search rules))

@@ -4,7 +4,7 @@ use Rattle.rules.proofs.MemoryLaws.{all_bytes}
 use borrow.Author.Rules.{rules}
 use Rattle.refusals.proofs.SoundCalls.{head_there, searchable}
 use Rattle.refusals.proofs.SearchedKeys.{Searched, held, absent}
-use Rattle.lookups.proofs.DemotedRows.{demote_refused, demote-asked, demoted-at, demoted-absent}
+use Rattle.lookups.proofs.DemotedRows.{demote_refused, demote_asked, demoted_at_lem, demoted_absent}
 use Rattle.lookups.proofs.demote.demote_unchecked.Statement.{statement}
 use Rattle.lookups.proofs.demote.demote_unchecked.Tie as tie
 
@@ -21,7 +21,7 @@ demote_at_requires : tie.Need-demote-at-requires
 demote_at_requires c κs =
     let arm = c.before.before in
     let at-search = arm.before.before in
-    demote-asked (seq_read at-search).seq.ensures at-search.before.before.before.before.if1.false (held (key_searched at-search) arm.at.given.1)
+    demote_asked (seq_read at-search).seq.ensures at-search.before.before.before.before.if1.false (held (key_searched at-search) arm.at.given.1)
 
 returns_2 : tie.Need-returns-2
 unfolding demote_said
@@ -30,7 +30,7 @@ returns_2 c =
     let arm = changed.before.before.before in
     let at-search = arm.before.before in
     let bytes = all_bytes changed.demote-at.new.0 (λ i. (c.slice-known2.given i).fits) in
-    demoted-at (seq_read at-search).seq.ensures at-search.before.before.before.before.if1.false
+    demoted_at_lem (seq_read at-search).seq.ensures at-search.before.before.before.before.if1.false
     (held (key_searched at-search) arm.at.given.1) _ bytes changed.demote-at.auto.0 changed.demote-at.ensures
 
 returns_3 : tie.Need-returns-3
@@ -38,7 +38,7 @@ unfolding demote_said
 returns_3 c =
     let at-search = c.before.before in
     let bytes = all_bytes (start at-search).args.state.now (λ i. ((seq_read at-search).before.before.slice-known.given i).fits) in
-    demoted-absent (seq_read at-search).seq.ensures at-search.before.before.before.before.if1.false (absent (key_searched at-search) c.enum_told.given.1) bytes
+    demoted_absent (seq_read at-search).seq.ensures at-search.before.before.before.before.if1.false (absent (key_searched at-search) c.enum_told.given.1) bytes
 
 pub demote_unchecked_spec : {M : Type 1} → statement M
 demote_unchecked_spec =

@@ -1,6 +1,6 @@
 -- On an unsound memory gotPart is empty and the number is 1; on a sound one Get is not refused, so the number is 0 (get-zero).
 use borrow.Author.Rules.{rules}
-use Rattle.refusals.proofs.RefusalsSaid.{checked, unsound, one-numbered}
+use Rattle.refusals.proofs.RefusalsSaid.{checked, unsound, one_numbered}
 use Rattle.lookups.proofs.UnsoundLookups.{one_got}
 use Rattle.lookups.proofs.FoundRows.{get_zero}
 use Rattle.lookups.proofs.get.get.Statement.{statement}
@@ -9,7 +9,7 @@ use Rattle.lookups.proofs.get.get.Tie as tie
 returns : tie.Need-returns
 returns c =
     let e = c.before.before.is-sound.ensures in
-    (one_got _ _ _ (unsound _ e c.before.if1.true), one-numbered _ e _ c.before.if1.true)
+    (one_got _ _ _ (unsound _ e c.before.if1.true), one_numbered _ e _ c.before.if1.true)
 
 returns_2 : tie.Need-returns-2
 returns_2 c =

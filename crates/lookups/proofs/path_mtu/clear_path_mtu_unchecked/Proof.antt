@@ -2,8 +2,8 @@
 use Rattle.rules.proofs.MemoryLaws.{all_bytes}
 use borrow.Author.Rules.{rules}
 use Rattle.refusals.proofs.SoundCalls.{head_there, searchable}
-use Rattle.refusals.proofs.SearchedKeys.{Searched, held, absent, row-asked}
-use Rattle.lookups.proofs.ClearedMtu.{clear_at, clear-absent}
+use Rattle.refusals.proofs.SearchedKeys.{Searched, held, absent, row_asked}
+use Rattle.lookups.proofs.ClearedMtu.{clear_at, clear_absent}
 use Rattle.lookups.proofs.path_mtu.clear_path_mtu_unchecked.Statement.{statement}
 use Rattle.lookups.proofs.path_mtu.clear_path_mtu_unchecked.Tie as tie
 
@@ -14,7 +14,7 @@ key_searched : (c : tie.After-search) → Searched (start c).args.key c.before.b
 key_searched c = record { sound = (start c).requires; counted = c.before.before.row_count.ensures; outcome = c.search.ensures }
 
 drop_mtu_requires : tie.Need-drop-mtu-requires
-drop_mtu_requires c κs = let arm = c.before.before in row-asked (held (key_searched arm.before.before) arm.at.given.1)
+drop_mtu_requires c κs = let arm = c.before.before in row_asked (held (key_searched arm.before.before) arm.at.given.1)
 
 returns : tie.Need-returns
 returns c =
@@ -27,7 +27,7 @@ returns_2 : tie.Need-returns-2
 returns_2 c =
     let at-search = c.before.before in
     let bytes = all_bytes (start at-search).args.state.now (λ i. (at-search.before.before.before.before.slice-known.given i).fits) in
-    clear-absent (absent (key_searched at-search) c.enum_told.given.1) bytes
+    clear_absent (absent (key_searched at-search) c.enum_told.given.1) bytes
 
 pub clear_path_mtu_unchecked_spec : {M : Type 1} → statement M
 clear_path_mtu_unchecked_spec =

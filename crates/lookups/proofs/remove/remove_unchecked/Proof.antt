@@ -2,8 +2,8 @@
 use Rattle.rules.proofs.MemoryLaws.{all_bytes}
 use borrow.Author.Rules.{rules}
 use Rattle.refusals.proofs.SoundCalls.{head_there, searchable}
-use Rattle.refusals.proofs.SearchedKeys.{Searched, held, absent, row-asked, removal-asked}
-use Rattle.lookups.proofs.RemovedRows.{removed-at, removed-absent}
+use Rattle.refusals.proofs.SearchedKeys.{Searched, held, absent, row_asked, removal_asked}
+use Rattle.lookups.proofs.RemovedRows.{removed_at, removed_absent}
 use Rattle.lookups.proofs.remove.remove_unchecked.Statement.{statement}
 use Rattle.lookups.proofs.remove.remove_unchecked.Tie as tie
 
@@ -14,10 +14,10 @@ key_searched : (c : tie.After-search) → Searched (start c).args.key c.before.b
 key_searched c = record { sound = (start c).requires; counted = c.before.before.row_count.ensures; outcome = c.search.ensures }
 
 load_entry_requires : tie.Need-load-entry-requires
-load_entry_requires c κs = let arm = c.before.before in row-asked (held (key_searched arm.before.before) arm.at.given.1)
+load_entry_requires c κs = let arm = c.before.before in row_asked (held (key_searched arm.before.before) arm.at.given.1)
 
 remove_row_requires : tie.Need-remove-row-requires
-remove_row_requires c κs = let arm = c.before.before.before.before in removal-asked (held (key_searched arm.before.before) arm.at.given.1)
+remove_row_requires c κs = let arm = c.before.before.before.before in removal_asked (held (key_searched arm.before.before) arm.at.given.1)
 
 returns : tie.Need-returns
 returns c =
@@ -25,13 +25,13 @@ returns c =
     let loaded = removed.before.before in
     let arm = loaded.before.before.before in
     let bytes = all_bytes removed.remove-row.new.0 (λ i. (c.slice-known2.given i).fits) in
-    removed-at (held (key_searched arm.before.before) arm.at.given.1) _ _ bytes removed.remove-row.auto.0 loaded.load-entry.ensures removed.remove-row.ensures
+    removed_at (held (key_searched arm.before.before) arm.at.given.1) _ _ bytes removed.remove-row.auto.0 loaded.load-entry.ensures removed.remove-row.ensures
 
 returns_2 : tie.Need-returns-2
 returns_2 c =
     let at-search = c.before.before.before in
     let bytes = all_bytes (start at-search).args.state.now (λ i. (at-search.before.before.before.before.slice-known.given i).fits) in
-    removed-absent (absent (key_searched at-search) c.before.enum_told.given.1) _ bytes c.blank-entry.ensures
+    removed_absent (absent (key_searched at-search) c.before.enum_told.given.1) _ bytes c.blank-entry.ensures
 
 pub remove_unchecked_spec : {M : Type 1} → statement M
 remove_unchecked_spec =

@@ -4,8 +4,8 @@ use Rattle.rules.proofs.Sizes.{small8}
 use Rattle.rules.proofs.MemoryLaws.{all_bytes}
 use Rattle.memory.proofs.OwnedValues.{owned_addr}
 use Rattle.refusals.proofs.SoundCalls.{head_there, searchable}
-use Rattle.refusals.proofs.SearchedKeys.{Searched, held, absent, removal-asked}
-use Rattle.lookups.proofs.PathPlaces.{placed_at, placed-absent}
+use Rattle.refusals.proofs.SearchedKeys.{Searched, held, absent, removal_asked}
+use Rattle.lookups.proofs.PathPlaces.{placed_at, placed_absent}
 use borrow.Author.Rules.{rules}
 use Rattle.lookups.proofs.touch.touch_place.Statement.{statement}
 use Rattle.lookups.proofs.touch.touch_place.Tie as tie
@@ -20,7 +20,7 @@ bytes : (c : tie.After-search) → Bytes (start c).args.state.now
 bytes c = all_bytes (start c).args.state.now (λ i. (c.before.before.before.before.slice-known.given i).fits)
 
 touch_row_requires : tie.Need-touch-row-requires
-touch_row_requires c κs = let arm = c.before.before in removal-asked (held (key_searched arm.before.before) arm.at.given.1)
+touch_row_requires c κs = let arm = c.before.before in removal_asked (held (key_searched arm.before.before) arm.at.given.1)
 
 returns : tie.Need-returns
 returns c =
@@ -36,7 +36,7 @@ returns c =
 returns_2 : tie.Need-returns-2
 returns_2 c =
     let arm = c.before in
-    placed-absent _ _ (absent (key_searched arm.before.before) arm.enum_told.given.1) (bytes arm.before.before) c.no-path.ensures
+    placed_absent _ _ (absent (key_searched arm.before.before) arm.enum_told.given.1) (bytes arm.before.before) c.no-path.ensures
 
 pub touch_place_spec : {M : Type 1} → statement M
 touch_place_spec =

@@ -2,8 +2,8 @@
 use Rattle.rules.proofs.MemoryLaws.{all_bytes}
 use borrow.Author.Rules.{rules}
 use Rattle.refusals.proofs.SoundCalls.{head_there, searchable}
-use Rattle.refusals.proofs.SearchedKeys.{Searched, held, absent, removal-asked}
-use Rattle.lookups.proofs.TouchedRows.{touched-at, touched-absent}
+use Rattle.refusals.proofs.SearchedKeys.{Searched, held, absent, removal_asked}
+use Rattle.lookups.proofs.TouchedRows.{touched_at_lem, touched_absent}
 use Rattle.lookups.proofs.touch.touch_unchecked.Statement.{statement}
 use Rattle.lookups.proofs.touch.touch_unchecked.Tie as tie
 
@@ -14,20 +14,20 @@ key_searched : (c : tie.After-search) → Searched (start c).args.key c.before.b
 key_searched c = record { sound = (start c).requires; counted = c.before.before.row_count.ensures; outcome = c.search.ensures }
 
 touch_at_requires : tie.Need-touch-at-requires
-touch_at_requires c κs = let arm = c.before.before in removal-asked (held (key_searched arm.before.before) arm.at.given.1)
+touch_at_requires c κs = let arm = c.before.before in removal_asked (held (key_searched arm.before.before) arm.at.given.1)
 
 returns : tie.Need-returns
 returns c =
     let touched = c.before.before in
     let arm = touched.before.before.before in
     let bytes = all_bytes touched.touch-at.new.0 (λ i. (c.slice-known2.given i).fits) in
-    touched-at _ (held (key_searched arm.before.before) arm.at.given.1) _ _ bytes touched.touch-at.auto.0 touched.touch-at.ensures
+    touched_at_lem _ (held (key_searched arm.before.before) arm.at.given.1) _ _ bytes touched.touch-at.auto.0 touched.touch-at.ensures
 
 returns_2 : tie.Need-returns-2
 returns_2 c =
     let at-search = c.before.before in
     let bytes = all_bytes (start at-search).args.state.now (λ i. (at-search.before.before.before.before.slice-known.given i).fits) in
-    touched-absent _ (absent (key_searched at-search) c.enum_told.given.1) bytes
+    touched_absent _ (absent (key_searched at-search) c.enum_told.given.1) bytes
 
 pub touch_unchecked_spec : {M : Type 1} → statement M
 touch_unchecked_spec =

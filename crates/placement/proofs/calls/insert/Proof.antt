@@ -1,6 +1,6 @@
 -- The if decides by soundness alone: unsound is refusal 1 and no change, sound is the precondition of insert_unchecked.
 use Rattle.rules.specs.Answers.{hint_said}
-use Rattle.refusals.proofs.RefusalsSaid.{checked, one-said}
+use Rattle.refusals.proofs.RefusalsSaid.{checked, one_said}
 use borrow.Author.Rules.{rules}
 use Rattle.placement.proofs.calls.insert.Statement.{statement}
 use Rattle.placement.proofs.calls.insert.Tie as tie
@@ -11,7 +11,7 @@ insert_spec =
     (tie.spec
     (λ c κs. search rules)
     (λ c. search rules)
-    (λ c. unfold hint_said in one-said _ c.before.is-sound.ensures _ c.if1.true)
+    (λ c. unfold hint_said in one_said _ c.before.is-sound.ensures _ c.if1.true)
     (λ c κs. checked _ c.before.before.is-sound.ensures c.before.if1.false)
     (λ c. search rules)
     (λ c. search rules))

@@ -6,7 +6,7 @@ use Rattle.room.specs.Rooms.{room_of}
 use Rattle.room.proofs.LeftVictims.{without_none}
 use Rattle.filing.proofs.FiledInRoom.{rows_there}
 use Rattle.filing.proofs.RoomSought.{Sought, sought_for}
-use Rattle.placement.proofs.HeldKeys.{Out, row-there, out-asks, out-room-asks, out-takes, unmade, room_there, saved_row}
+use Rattle.placement.proofs.HeldKeys.{Out, row_there, out_asks, out_room_asks, out_takes, unmade, room_there, saved_row}
 use borrow.Author.Rules.{rules}
 use Rattle.placement.proofs.held_key.grow.Statement.{statement}
 use Rattle.placement.proofs.held_key.grow.Tie as tie
@@ -28,13 +28,13 @@ room : (c : tie.After-make-room)
 room c = sought_for c.before.before.wide.ensures.0 c.make-room.auto.0 c.make-room.ensures
 
 make_room_requires : tie.Need-make-room-requires
-make_room_requires c κs = let x = c.before.before.before.before in out-room-asks (out x) _ (start (saved x)).requires.0.seq
+make_room_requires c κs = let x = c.before.before.before.before in out_room_asks (out x) _ (start (saved x)).requires.0.seq
 
 file_in_room_requires : tie.Need-file-in-room-requires
 file_in_room_requires c κs =
     let r = c.before.before.before.before.before in
     let v = saved (left r) in
-    (out-takes (out (left r)) (room r) (start v).pre.0, rw v.before.before.updated-entry.ensures.1 (start v).pre.0.path.short)
+    (out_takes (out (left r)) (room r) (start v).pre.0, rw v.before.before.updated-entry.ensures.1 (start v).pre.0.path.short)
 
 returns : tie.Need-returns
 unfolding grow place_result room_of
@@ -53,7 +53,7 @@ file_unchanged_requires c κs =
     let x = out (left r) in
     let v = saved (left r) in
     let h = (start v).pre.0 in
-    ((out-takes x (room r) h).free (unmade x (room r) _ c.before.if1.false), rw (saved_row h.holds v.save-row.ensures) h.holds.key)
+    ((out_takes x (room r) h).free (unmade x (room r) _ c.before.if1.false), rw (saved_row h.holds v.save-row.ensures) h.holds.key)
 
 returns_2 : tie.Need-returns-2
 unfolding grow rejected place_result room_of
@@ -70,9 +70,9 @@ pub grow_spec : {M : Type 1} → statement M
 grow_spec =
     tie.close
     (tie.spec
-    (λ c κs. search row-there)
-    (λ c κs. search row-there)
-    (λ c κs. search out-asks) (λ c κs. search rules) (λ c. search rules)
+    (λ c κs. search row_there)
+    (λ c κs. search row_there)
+    (λ c κs. search out_asks) (λ c κs. search rules) (λ c. search rules)
     make_room_requires
     file_in_room_requires
     (λ c. search rules)

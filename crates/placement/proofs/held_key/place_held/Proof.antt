@@ -7,7 +7,7 @@ use Rattle.rules.specs.Rows.{in_main}
 use Rattle.rules.specs.Placement.{place_result, rejected, held_outcome, stays_verified, place_held}
 use Rattle.filing.proofs.FiledInRoom.{rows_there}
 use Rattle.placement.specs.Placements.{row_in, HeldHint}
-use Rattle.placement.proofs.HeldKeys.{row-there, stays-unstated, stays_same, goes_on, main_of, main_not}
+use Rattle.placement.proofs.HeldKeys.{row_there, stays_unstated, stays_same, goes_on, main_of, main_not}
 use borrow.Author.Rules.{rules}
 use Rattle.placement.proofs.held_key.place_held.Statement.{statement}
 use Rattle.placement.proofs.held_key.place_held.Tie as tie
@@ -48,7 +48,7 @@ unfolding place_held rejected place_result
 returns c =
     let v = c.before.before in
     let a = (start v).args in
-    rw (stays-unstated a.path a.time a.stated (row v) v.is-verified.ensures c.before.if1.true)
+    rw (stays_unstated a.path a.time a.stated (row v) v.is-verified.ensures c.before.if1.true)
     (record { says = c.reject.ensures; state = rows_there a.n _ _ refl })
 
 returns_2 : tie.Need-returns-2
@@ -78,12 +78,12 @@ pub place_held_spec : {M : Type 1} → statement M
 place_held_spec =
     tie.close
     (tie.spec
-    (λ c κs. search row-there) (λ c κs. search rules) (λ c. search rules)
+    (λ c κs. search row_there) (λ c κs. search rules) (λ c. search rules)
     returns
-    (λ c κs. search row-there) (λ c κs. search rules) (λ c. search rules)
+    (λ c κs. search row_there) (λ c κs. search rules) (λ c. search rules)
     returns_2
     (λ c κs. search rules)
-    (λ c κs. search row-there)
+    (λ c κs. search row_there)
     (λ c κs. hint c.before.before.before.before true (in_main_lem c.before)) (λ c. search rules)
     returns_3
     (λ c κs. hint c.before.before.before.before false (in_probation_lem c.before)) (λ c. search rules)

@@ -6,7 +6,7 @@ use borrow.Author.Tests.{not-true, not-false, le-leb, lt-leb}
 use Rattle.types.specs.Values.{covers}
 use Rattle.rules.specs.Placement.{place_result, rejected, place_main}
 use Rattle.filing.proofs.FiledInRoom.{rows_there}
-use Rattle.placement.proofs.HeldKeys.{row-there}
+use Rattle.placement.proofs.HeldKeys.{row_there}
 use borrow.Author.Rules.{rules}
 use Rattle.placement.proofs.held_key.place_main.Statement.{statement}
 use Rattle.placement.proofs.held_key.place_main.Tie as tie
@@ -56,7 +56,7 @@ place_main_spec =
     tie.close
     (tie.spec
     (λ c κs. search rules)
-    (λ c κs. search row-there) (λ c κs. search rules) (λ c. search rules)
+    (λ c κs. search row_there) (λ c κs. search rules) (λ c. search rules)
     returns
     (λ c κs. search rules) (λ c κs. search rules) (λ c. search rules) (λ c κs. search rules) (λ c κs. search rules) (λ c. search rules)
     returns_2

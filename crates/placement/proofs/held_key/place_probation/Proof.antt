@@ -7,7 +7,7 @@ use Rattle.types.specs.Paths.{path_weight}
 use Rattle.types.specs.Values.{covers}
 use Rattle.rules.specs.Placement.{place_probation}
 use Rattle.placement.specs.Placements.{row_in}
-use Rattle.placement.proofs.HeldKeys.{row-there}
+use Rattle.placement.proofs.HeldKeys.{row_there}
 use borrow.Author.Rules.{rules}
 use Rattle.placement.proofs.held_key.place_probation.Statement.{statement}
 use Rattle.placement.proofs.held_key.place_probation.Tie as tie
@@ -44,7 +44,7 @@ place_probation_spec =
     tie.close
     (tie.spec
     (λ c κs. search rules)
-    (λ c κs. search row-there) (λ c κs. search rules) (λ c κs. search rules) (λ c κs. search rules) (λ c κs. search rules) (λ c. search rules)
+    (λ c κs. search row_there) (λ c κs. search rules) (λ c κs. search rules) (λ c κs. search rules) (λ c κs. search rules) (λ c. search rules)
     returns
     (λ c κs. search rules) (λ c. search rules)
     returns_2)

@@ -1,7 +1,7 @@
 -- The row taken out leaves probation below Q, so without a victim a row is free whether or not room was made in main (out-takes).
 use Prim.Native.Nat.{◌-◌}
 use Rattle.filing.proofs.RoomSought.{Sought, sought_for}
-use Rattle.placement.proofs.HeldKeys.{Out, row-there, out-asks, out-room-asks, out-takes, promoted-is}
+use Rattle.placement.proofs.HeldKeys.{Out, row_there, out_asks, out_room_asks, out_takes, promoted_is}
 use borrow.Author.Rules.{rules}
 use Rattle.placement.proofs.held_key.promote.Statement.{statement}
 use Rattle.placement.proofs.held_key.promote.Tie as tie
@@ -20,13 +20,13 @@ room : (c : tie.After-make-room)
 room c = sought_for c.before.wide.ensures.0 c.make-room.auto.0 c.make-room.ensures
 
 make_room_requires : tie.Need-make-room-requires
-make_room_requires c κs = let x = c.before.before.before.before in out-room-asks (out x) _ (start x).requires.seq
+make_room_requires c κs = let x = c.before.before.before.before in out_room_asks (out x) _ (start x).requires.seq
 
 file_in_room_requires : tie.Need-file-in-room-requires
 file_in_room_requires c κs =
     let r = c.before.before.before.before in
     let x = left r in
-    (out-takes (out x) (room r) (start x).pre, rw x.before.before.updated-entry.ensures.1 (start x).pre.path.short)
+    (out_takes (out x) (room r) (start x).pre, rw x.before.before.updated-entry.ensures.1 (start x).pre.path.short)
 
 returns : tie.Need-returns
 returns c =
@@ -34,15 +34,15 @@ returns c =
     let place = filed.before.before in
     let r = place.before.before.before in
     let x = left r in
-    promoted-is (out x) (room r) (start x).pre _ _ x.before.before.updated-entry.ensures.0 place.place-for.ensures
+    promoted_is (out x) (room r) (start x).pre _ _ x.before.before.updated-entry.ensures.0 place.place-for.ensures
     c.before.wide2.ensures.0 c.promoted.ensures filed.file-in-room.ensures
 
 pub promote_spec : {M : Type 1} → statement M
 promote_spec =
     tie.close
     (tie.spec
-    (λ c κs. search row-there)
-    (λ c κs. search out-asks) (λ c. search rules) (λ c κs. search rules)
+    (λ c κs. search row_there)
+    (λ c κs. search out_asks) (λ c. search rules) (λ c κs. search rules)
     make_room_requires
     (λ c κs. search rules)
     file_in_room_requires

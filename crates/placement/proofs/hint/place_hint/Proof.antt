@@ -4,7 +4,7 @@ use Rattle.rules.specs.Answers.{hint_said}
 use Rattle.rules.proofs.MemoryLaws.{all_bytes}
 use Rattle.refusals.proofs.SoundCalls.{head_there}
 use Rattle.refusals.proofs.WriteRefusals.{passed}
-use Rattle.placement.proofs.PlacedHints.{Allowed, hint_refused, rows_sound_lem, stood-held, stood-new, held_asks, new-asks, hint-placed}
+use Rattle.placement.proofs.PlacedHints.{Allowed, hint_refused, rows_sound_lem, stood_held, stood_new, held_asks, new_asks, hint_placed}
 use borrow.Author.Rules.{rules}
 use Rattle.placement.proofs.hint.place_hint.Statement.{statement}
 use Rattle.placement.proofs.hint.place_hint.Tie as tie
@@ -30,13 +30,13 @@ place_held_requires : tie.Need-place-held-requires
 place_held_requires c κs =
     let at = c.before.before in
     let row = at.before.before.before.before in
-    held_asks (allowed (counted row)) (stood-held _ row.remove-expired.ensures at.at.given.1)
+    held_asks (allowed (counted row)) (stood_held _ row.remove-expired.ensures at.at.given.1)
 
 place_new_requires : tie.Need-place-new-requires
 place_new_requires c κs =
     let at = c.before.before in
     let row = at.before.before.before.before in
-    new-asks (allowed (counted row)) (stood-new _ row.remove-expired.ensures at.at2.given.1)
+    new_asks (allowed (counted row)) (stood_new _ row.remove-expired.ensures at.at2.given.1)
 
 returns_2 : tie.Need-returns-2
 unfolding hint_said
@@ -44,9 +44,9 @@ returns_2 c =
     let placed = c.before.before in
     let at = placed.before.before.before in
     let row = at.before.before.before.before in
-    let held = stood-held _ row.remove-expired.ensures at.at.given.1 in
+    let held = stood_held _ row.remove-expired.ensures at.at.given.1 in
     let size = placed.place-held.auto.0 ∙ row.remove-expired.auto.0 in
-    hint-placed (allowed (counted row)) (all_bytes placed.place-held.new.0 (λ i. (c.slice-known3.given i).fits)) size
+    hint_placed (allowed (counted row)) (all_bytes placed.place-held.new.0 (λ i. (c.slice-known3.given i).fits)) size
     (rw (held.placed _ _ _ _, ← held.same) placed.place-held.ensures)
 
 returns_3 : tie.Need-returns-3
@@ -55,9 +55,9 @@ returns_3 c =
     let placed = c.before.before in
     let at = placed.before.before.before in
     let row = at.before.before.before.before in
-    let new = stood-new _ row.remove-expired.ensures at.at2.given.1 in
+    let new = stood_new _ row.remove-expired.ensures at.at2.given.1 in
     let size = placed.place-new.auto.0 ∙ row.remove-expired.auto.0 in
-    hint-placed (allowed (counted row)) (all_bytes placed.place-new.new.0 (λ i. (c.slice-known4.given i).fits)) size
+    hint_placed (allowed (counted row)) (all_bytes placed.place-new.new.0 (λ i. (c.slice-known4.given i).fits)) size
     (rw (new.placed _ _ _ _) placed.place-new.ensures)
 
 pub place_hint_spec : {M : Type 1} → statement M

@@ -2,7 +2,7 @@
 use native.Mathlib.Omega.{arith}
 use Rattle.rules.specs.Placement.{place_result, new_in_probation}
 use Rattle.room.proofs.RoomToFile.{laid_out}
-use Rattle.placement.proofs.NewKeys.{RoomInProbation, probation-few, probation-takes}
+use Rattle.placement.proofs.NewKeys.{RoomInProbation, probation_few, probation_takes}
 use borrow.Author.Rules.{rules}
 use Rattle.placement.proofs.new_key.new_in_probation.Statement.{statement}
 use Rattle.placement.proofs.new_key.new_in_probation.Tie as tie
@@ -19,13 +19,13 @@ made c =
 file_in_room_requires : tie.Need-file-in-room-requires
 file_in_room_requires c κs =
     let room = c.before.before.before.before in
-    (probation-takes (made room), rw c.before.new-entry.ensures.1 (start room).requires.1.short)
+    (probation_takes (made room), rw c.before.new-entry.ensures.1 (start room).requires.1.short)
 
 add_inserted : tie.Need-overflow-add-inserted
 add_inserted c =
     let entry = c.before.before.before.before.before in
     let room = entry.before.before.before in
-    omega (arith, (start room).requires.3, probation-few (made room))
+    omega (arith, (start room).requires.3, probation_few (made room))
 
 returns : tie.Need-returns
 unfolding new_in_probation place_result

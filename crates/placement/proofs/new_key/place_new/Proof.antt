@@ -9,7 +9,7 @@ use Rattle.rules.specs.Placement.{place_new}
 use Rattle.room.specs.Rooms.{room_of}
 use Rattle.room.proofs.LeftVictims.{without_none}
 use Rattle.filing.proofs.RoomSought.{Sought, stamps_left, room_asks, sought_for}
-use Rattle.placement.proofs.NewKeys.{made-takes, unmade-leaves}
+use Rattle.placement.proofs.NewKeys.{made_takes, unmade_leaves}
 use borrow.Author.Rules.{rules}
 use Rattle.placement.proofs.new_key.place_new.Statement.{statement}
 use Rattle.placement.proofs.new_key.place_new.Tie as tie
@@ -38,7 +38,7 @@ returns c =
 new_in_main_requires : tie.Need-new-in-main-requires
 new_in_main_requires c κs =
     let r = c.before.before.before.before in
-    (made-takes (start r).requires.0 (start r).requires.2 (room r) c.before.if2.true, (start r).requires.1)
+    (made_takes (start r).requires.0 (start r).requires.2 (room r) c.before.if2.true, (start r).requires.1)
 
 returns_2 : tie.Need-returns-2
 unfolding place_new room_of
@@ -51,7 +51,7 @@ returns_2 c =
 new_without_room_requires : tie.Need-new-without-room-requires
 new_without_room_requires c κs =
     let r = c.before.before.before.before in
-    let left = unmade-leaves (start r).requires.0 (start r).requires.2 (room r) c.before.if2.false in
+    let left = unmade_leaves (start r).requires.0 (start r).requires.2 (room r) c.before.if2.false in
     (left.0, (start r).requires.1, left.1, omega (arith, left.2))
 
 returns_3 : tie.Need-returns-3

@@ -6,7 +6,7 @@ use native.Mathlib.Omega.{arith}
 use borrow.Author.Rules.{rules}
 use Rattle.types.specs.declared.node_addr.NodeAddr.{NodeAddr}
 use Rattle.rules.proofs.Addresses.{contradiction}
-use Rattle.retention.proofs.KeptRows.{AllStay, stay_start, stay-turn, stay-end, test_expired}
+use Rattle.retention.proofs.KeptRows.{AllStay, stay_start, stay_turn, stay_end, test_expired}
 use Rattle.retention.proofs.rows.any_expired.Statement.{statement}
 use Rattle.retention.proofs.rows.any_expired.Tie as tie
 
@@ -25,10 +25,10 @@ returns c = λ e. contradiction {b = true} refl e
 loop_again : tie.Need-loop-preserved invariant_loop decreases_loop
 loop_again c =
     let t = c.before.before in
-    (omega arith, λ a. stay-turn (t.before.loop.invariant.1 a) t.loop-test.true (test_expired _ _ _ _ _ refl c.before.is-expired.ensures) c.if1.false)
+    (omega arith, λ a. stay_turn (t.before.loop.invariant.1 a) t.loop-test.true (test_expired _ _ _ _ _ refl c.before.is-expired.ensures) c.if1.false)
 
 returns_2 : tie.Need-returns-2 invariant_loop decreases_loop
-returns_2 c = λ e a. stay-end (c.before.loop.invariant.1 a) c.loop-test.false
+returns_2 c = λ e a. stay_end (c.before.loop.invariant.1 a) c.loop-test.false
 
 pub any_expired_spec : {M : Type 1} → statement M
 any_expired_spec =

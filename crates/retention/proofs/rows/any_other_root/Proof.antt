@@ -5,7 +5,7 @@ use Prim.Native.Nat.{ℕ, ◌-◌, ◌≤◌}
 use native.Mathlib.Omega.{arith}
 use borrow.Author.Rules.{rules}
 use Rattle.rules.proofs.Addresses.{contradiction}
-use Rattle.retention.proofs.KeptRows.{AllStay, path_at, stay_start, stay-turn, stay-end, test_root}
+use Rattle.retention.proofs.KeptRows.{AllStay, path_at, stay_start, stay_turn, stay_end, test_root}
 use Rattle.retention.proofs.rows.any_other_root.Statement.{statement}
 use Rattle.retention.proofs.rows.any_other_root.Tie as tie
 
@@ -30,10 +30,10 @@ returns c = λ e. contradiction {b = true} refl e
 loop_again : tie.Need-loop-preserved invariant_loop decreases_loop
 loop_again c =
     let t = c.before.before in
-    (omega arith, λ x. stay-turn (t.before.loop.invariant.1 x) t.loop-test.true (test_root _ _ _ _ _ refl c.before.root-is.ensures) c.if1.false)
+    (omega arith, λ x. stay_turn (t.before.loop.invariant.1 x) t.loop-test.true (test_root _ _ _ _ _ refl c.before.root-is.ensures) c.if1.false)
 
 returns_2 : tie.Need-returns-2 invariant_loop decreases_loop
-returns_2 c = λ e t. stay-end (c.before.loop.invariant.1 t) c.loop-test.false
+returns_2 c = λ e t. stay_end (c.before.loop.invariant.1 t) c.loop-test.false
 
 pub any_other_root_spec : {M : Type 1} → statement M
 any_other_root_spec =

@@ -7,7 +7,7 @@ use borrow.Author.Rules.{rules}
 use Rattle.rules.specs.Rows.{in_main}
 use Rattle.rules.specs.Memory.{view_rows}
 use Rattle.memory.proofs.RowLaws.{view_length}
-use Rattle.stamps.proofs.RowTotals.{Counted, one_at_most, counted_start, counted-turn, counted-end}
+use Rattle.stamps.proofs.RowTotals.{Counted, one_at_most, counted_start, counted_turn, counted_end}
 use Rattle.room.proofs.closed_form.main_len.Statement.{statement}
 use Rattle.room.proofs.closed_form.main_len.Tie as tie
 
@@ -22,10 +22,10 @@ loop_holds c = counted_start (view_length _ _)
 
 loop_again : tie.Need-loop-preserved invariant_loop decreases_loop
 unfolding in_main
-loop_again c = counted-turn c.before.before.loop.invariant c.before.loop-test.true (ap (λ (x : ℕ). ltb x 2) c.place.ensures)
+loop_again c = counted_turn c.before.before.loop.invariant c.before.loop-test.true (ap (λ (x : ℕ). ltb x 2) c.place.ensures)
 
 returns : tie.Need-returns invariant_loop decreases_loop
-returns c = counted-end c.before.loop.invariant c.loop-test.false
+returns c = counted_end c.before.loop.invariant c.loop-test.false
 
 pub main_len_spec : {M : Type 1} → statement M
 main_len_spec =

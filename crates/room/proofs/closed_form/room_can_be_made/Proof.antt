@@ -3,7 +3,7 @@ use native.Mathlib.Omega.{arith}
 use borrow.Author.Rules.{rules}
 use Rattle.rules.specs.Memory.{view_rows}
 use Rattle.memory.proofs.RowLaws.{view_length}
-use Rattle.room.proofs.ClosedForm.{Bounds, Weighed, most, bounds_read, room_asks, weighed_start, weighed-in, weighed-past, weighed-small, weighed-end}
+use Rattle.room.proofs.ClosedForm.{Bounds, Weighed, most, bounds_read, room_asks, weighed_start, weighed_in, weighed_past, weighed_small, weighed_end}
 use Rattle.room.proofs.closed_form.room_can_be_made.Statement.{statement}
 use Rattle.room.proofs.closed_form.room_can_be_made.Tie as tie
 
@@ -19,7 +19,7 @@ loop_holds c =
     (bounds_read m.before.before.requires.1 m.max-entries.ensures c.cut-to-bound.ensures, weighed_start (view_length _ _))
 
 add_weight : tie.Need-overflow-add-weight invariant_loop decreases_loop
-add_weight c = let v = c.before.before.before.before.before.loop.invariant in omega (arith, weighed-small v.0 v.1)
+add_weight c = let v = c.before.before.before.before.before.loop.invariant in omega (arith, weighed_small v.0 v.1)
 
 loop_again : tie.Need-loop-preserved invariant_loop decreases_loop
 loop_again c =
@@ -27,16 +27,16 @@ loop_again c =
     let t = w.before in
     let l = t.before.before in
     let v = l.before.loop.invariant in
-    (v.0, weighed-in v.1 l.loop-test.true t.before.is-verified-in-main.ensures t.if1.true w.weight.ensures c.wide.ensures)
+    (v.0, weighed_in v.1 l.loop-test.true t.before.is-verified-in-main.ensures t.if1.true w.weight.ensures c.wide.ensures)
 
 loop_again_2 : tie.Need-loop-preserved-2 invariant_loop decreases_loop
 loop_again_2 c =
     let l = c.before.before in
     let v = l.before.loop.invariant in
-    (v.0, weighed-past v.1 l.loop-test.true c.before.is-verified-in-main.ensures c.if1.false)
+    (v.0, weighed_past v.1 l.loop-test.true c.before.is-verified-in-main.ensures c.if1.false)
 
 returns : tie.Need-returns invariant_loop decreases_loop
-returns c = let v = c.before.before.loop.invariant in weighed-end v.0 v.1 c.before.loop-test.false c.has_room.ensures
+returns c = let v = c.before.before.loop.invariant in weighed_end v.0 v.1 c.before.loop-test.false c.has_room.ensures
 
 pub room_can_be_made_spec : {M : Type 1} → statement M
 room_can_be_made_spec =
@@ -57,5 +57,5 @@ room_can_be_made_spec =
     loop_again
     (λ c. search rules)
     loop_again_2
-    (λ c κs. let v = c.before.loop.invariant in room_asks v.0 (omega (arith, weighed-small v.0 v.1)))
+    (λ c κs. let v = c.before.loop.invariant in room_asks v.0 (omega (arith, weighed_small v.0 v.1)))
     returns)

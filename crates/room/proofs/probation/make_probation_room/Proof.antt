@@ -7,7 +7,7 @@ use Rattle.rules.specs.Rows.{lowest_stamp, total}
 use Rattle.rules.specs.Room.{probation_visits}
 use Rattle.rules.specs.Memory.{view_rows}
 use Rattle.stamps.specs.Walked.{lowest_of}
-use Rattle.room.proofs.ProbationVictims.{Evicting, Taken, Turned, room_free, evict-start, evict_ends, taken, key_fits, restamp-asks, stale-turn, fresh-yields}
+use Rattle.room.proofs.ProbationVictims.{Evicting, Taken, Turned, room_free, evict_start, evict_ends, taken, key_fits, restamp_asks, stale_turn, fresh_yields}
 use Rattle.room.proofs.probation.make_probation_room.Statement.{statement}
 use Rattle.room.proofs.probation.make_probation_room.Tie as tie
 
@@ -35,7 +35,7 @@ restamped : (c : tie.After-restamp invariant_loop decreases_loop) →
     Turned (start l).args.n l.loop.examined l.before.before.stored-weight.result (start l).args.state.now l.loop.state c.restamp.new.0
 restamped c =
     let t = c.before.before in
-    stale-turn (up t.before.before.before.before) t.before.is-stale.ensures t.if2.true c.restamp.auto.0 c.restamp.ensures
+    stale_turn (up t.before.before.before.before) t.before.is-stale.ensures t.if2.true c.restamp.auto.0 c.restamp.ensures
 
 returns : tie.Need-returns invariant_loop decreases_loop
 returns c =
@@ -49,7 +49,7 @@ loop_holds c =
     let b = f.before.before in
     let p = b.before.before.before.before.requires in
     let o = f.lowest-stamp.ensures in
-    (evict-start _ _ b.before.max-entries.ensures b.probation-bound.ensures o p.0 p.1 p.2 c.before.stored-weight.ensures c.if1.false, o.row)
+    (evict_start _ _ b.before.max-entries.ensures b.probation-bound.ensures o p.0 p.1 p.2 c.before.stored-weight.ensures c.if1.false, o.row)
 
 returns_2 : tie.Need-returns-2 invariant_loop decreases_loop
 returns_2 c = let v = c.before.before.loop.invariant in evict_ends v.0 v.1 c.enum_told.given.1
@@ -58,7 +58,7 @@ loop_again : tie.Need-loop-preserved invariant_loop decreases_loop
 loop_again c = ((restamped c.before.before.before.before).going, c.lowest-stamp2.ensures.row)
 
 returns_3 : tie.Need-returns-3 invariant_loop decreases_loop
-returns_3 c = fresh-yields (up c.before.before.before.before) c.before.is-stale.ensures c.if2.false
+returns_3 c = fresh_yields (up c.before.before.before.before) c.before.is-stale.ensures c.if2.false
 
 pub make_probation_room_spec : {M : Type 1} → statement M
 make_probation_room_spec =
@@ -74,7 +74,7 @@ make_probation_room_spec =
     (λ c. search rules)
     (λ c. omega (arith, key_fits (up c.before)))
     (λ c κs. let u = up c.before.before in (u.inside, u.going.size))
-    (λ c κs. restamp-asks (up c.before.before.before.before.before))
+    (λ c κs. restamp_asks (up c.before.before.before.before.before))
     (λ c κs. (restamped c.before.before.before).going.size)
     (λ c. (restamped c.before.before.before.before).less)
     loop_again

@@ -8,7 +8,7 @@ use Rattle.rules.specs.Memory.{view_rows}
 use Rattle.rules.proofs.Addresses.{contradiction}
 use Rattle.stamps.specs.Walked.{MainIs}
 use Rattle.room.specs.Rooms.{chosen_of}
-use Rattle.room.proofs.ChosenVictims.{Call, fits, Choice, Victim, Came, choice_start, choice-asks, choice-seq, chosen-enough, set-aside, came}
+use Rattle.room.proofs.ChosenVictims.{Call, fits, Choice, Victim, Came, choice_start, choice_asks, choice_seq, chosen_enough, set_aside_lem, came}
 use Rattle.room.proofs.victims.choose_victims.Statement.{statement}
 use Rattle.room.proofs.victims.choose_victims.Tie as tie
 
@@ -67,7 +67,7 @@ sub_stored c = omega (arith, (victim c.before.before.before.before).enough, c.wi
 
 returns_2 : tie.Need-returns-2 invariant_loop decreases_loop
 unfolding chosen_of
-returns_2 c = let k = gone c.before.before.before.before in (chosen-enough k c.before.has_room.ensures c.if1.true, λ _. set-aside k)
+returns_2 c = let k = gone c.before.before.before.before in (chosen_enough k c.before.has_room.ensures c.if1.true, λ _. set_aside_lem k)
 
 loop_less : tie.Need-loop-smaller invariant_loop decreases_loop
 loop_less c =
@@ -88,7 +88,7 @@ choose_victims_spec =
     decreases_loop
     (λ c κs. search rules) (λ c κs. search rules)
     loop_holds
-    (λ c κs. let v = c.before.loop.invariant in (v.0.size, choice-seq v.0, v.1))
+    (λ c κs. let v = c.before.loop.invariant in (v.0.size, choice_seq v.0, v.1))
     (λ c. omega (arith, (step c.before.before.before).keys))
     (λ c. search rules)
     (λ c. (step c.before.before.before.before.before).long)
@@ -99,7 +99,7 @@ choose_victims_spec =
     (λ c κs. search rules)
     sub_stored
     (λ c κs. let v = victim c.before.before.before.before.before in (v.inside, v.size))
-    (λ c κs. choice-asks (gone c.before.before))
+    (λ c κs. choice_asks (gone c.before.before))
     (λ c. (gone c.before.before.before.before).long)
     returns_2
     (λ c κs. (gone c.before.before.before.before.before).size)

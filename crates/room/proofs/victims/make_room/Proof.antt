@@ -2,7 +2,7 @@
 use native.Mathlib.Omega.{arith}
 use borrow.Author.Rules.{rules}
 use Rattle.room.proofs.ClosedForm.{Bounds, most, bounds_read}
-use Rattle.room.proofs.RoomSettled.{Aside, stored-asks, full, main-there, rows_there, stand_aside, drop-asks, one_left, all-dropped, all_back}
+use Rattle.room.proofs.RoomSettled.{Aside, stored_asks, full, main_there, rows_there, stand_aside, drop_asks, one_left, all_dropped, all_back}
 use Rattle.room.proofs.victims.make_room.Statement.{statement}
 use Rattle.room.proofs.victims.make_room.Tie as tie
 
@@ -38,7 +38,7 @@ returns_2 c =
     let h = c.before.before in
     let m = h.before in
     let s = read m in
-    main-there (bounds s) s.stored-weight.ensures m.lowest-of-main.ensures.count h.has-room2.ensures _ c.before.if2.true c.room-there2.ensures
+    main_there (bounds s) s.stored-weight.ensures m.lowest-of-main.ensures.count h.has-room2.ensures _ c.before.if2.true c.room-there2.ensures
 
 choose_victims_requires : tie.Need-choose-victims-requires
 choose_victims_requires c κs =
@@ -60,7 +60,7 @@ returns_4 : tie.Need-returns-4
 returns_4 c =
     let d = c.before.before in
     let m = d.before.before.before.before in
-    all-dropped (aside m.before.before.before) _ _ m.if3.true d.drop-aside.ensures
+    all_dropped (aside m.before.before.before) _ _ m.if3.true d.drop-aside.ensures
 
 returns_5 : tie.Need-returns-5
 returns_5 c =
@@ -75,18 +75,18 @@ make_room_spec =
     (λ c κs. search rules)
     (λ c κs. most _ _ _ c.before.before.before.requires.1 c.max-entries.ensures)
     (λ c κs. search rules)
-    (λ c κs. stored-asks (bounds c) c.stored-weight.ensures)
+    (λ c κs. stored_asks (bounds c) c.stored-weight.ensures)
     (λ c κs. search rules) (λ c. search rules)
     returns
     (λ c κs. search rules)
-    (λ c κs. stored-asks (bounds (read c)) (read c).stored-weight.ensures)
+    (λ c κs. stored_asks (bounds (read c)) (read c).stored-weight.ensures)
     (λ c κs. search rules) (λ c. search rules)
     returns_2
     choose_victims_requires
     sub_if4
     (λ c. search rules)
     returns_3
-    (λ c κs. drop-asks (aside c.before.before.before.before.before.before))
+    (λ c κs. drop_asks (aside c.before.before.before.before.before.before))
     (λ c. search rules)
     returns_4
     (λ c κs. search rules) (λ c. search rules)

@@ -1,7 +1,7 @@
 -- The first i rows were put back and the rest left; after n turns that is putBack on every row.
 use Prim.Native.Nat.{◌-◌}
 use borrow.Author.Rules.{rules}
-use Rattle.room.proofs.RowsAside.{Backed, backed_start, backed-turn, backed-end}
+use Rattle.room.proofs.RowsAside.{Backed, backed_start, backed_turn, backed_end}
 use Rattle.room.proofs.victims.put_back.Statement.{statement}
 use Rattle.room.proofs.victims.put_back.Tie as tie
 
@@ -15,10 +15,10 @@ loop_again : tie.Need-loop-preserved invariant_loop decreases_loop
 loop_again c =
     let p = c.before.before in
     let t = p.before.before in
-    backed-turn t.before.loop.invariant t.loop-test.true p.put-row-back.auto.0 p.put-row-back.ensures
+    backed_turn t.before.loop.invariant t.loop-test.true p.put-row-back.auto.0 p.put-row-back.ensures
 
 returns : tie.Need-returns invariant_loop decreases_loop
-returns c = backed-end c.before.loop.invariant c.loop-test.false
+returns c = backed_end c.before.loop.invariant c.loop-test.false
 
 pub put_back_spec : {M : Type 1} → statement M
 put_back_spec =

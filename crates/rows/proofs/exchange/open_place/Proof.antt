@@ -1,5 +1,5 @@
--- The parts that a shift leaves are the rows but row i, with a place at j: by `opened-down` where i < j, else by `opened_up`.
-use Rattle.rows.proofs.ExchangeLaws.{opened-down, opened_up}
+-- The parts that a shift leaves are the rows but row i, with a place at j: by `opened_down` where i < j, else by `opened_up`.
+use Rattle.rows.proofs.ExchangeLaws.{opened_down, opened_up}
 use borrow.Author.Rules.{rules}
 use Rattle.rows.proofs.exchange.open_place.Statement.{statement}
 use Rattle.rows.proofs.exchange.open_place.Tie as tie
@@ -9,7 +9,7 @@ returns c =
     let w = c.before.before in
     let s = w.before.before.before.before in
     let a = s.args in
-    rw w.shift-down.ensures (opened-down a.state.now a.n a.i a.j s.requires.2 w.before.before.if1.true s.requires.1)
+    rw w.shift-down.ensures (opened_down a.state.now a.n a.i a.j s.requires.2 w.before.before.if1.true s.requires.1)
 
 returns_2 : tie.Need-returns-2
 returns_2 c =

@@ -1,7 +1,7 @@
 -- The first eight bytes decide, and where they are the same the last eight do.
 use native.Mathlib.Omega.{arith}
 use borrow.Author.Rules.{rules}
-use Rattle.search.proofs.KeyBytes.{high-less, high-greater, low-less, low-greater, low-equal}
+use Rattle.search.proofs.KeyBytes.{high_less, high_greater, low_less, low_greater, low_equal}
 use Rattle.search.proofs.keys.order_to.Statement.{statement}
 use Rattle.search.proofs.keys.order_to.Tie as tie
 
@@ -15,13 +15,13 @@ returns : tie.Need-returns
 returns c =
     let d = c.before in
     let s = d.before.before.before.before.before in
-    high-less s.args.at s.args.state.now s.args.key s.requires (slice_aggregate_be_u64 d.before) d.before.before.be-u64.ensures d.be-u642.ensures c.if1.true
+    high_less s.args.at s.args.state.now s.args.key s.requires (slice_aggregate_be_u64 d.before) d.before.before.be-u64.ensures d.be-u642.ensures c.if1.true
 
 returns_2 : tie.Need-returns-2
 returns_2 c =
     let d = c.before.before in
     let s = d.before.before.before.before.before in
-    high-greater s.args.at s.args.state.now s.args.key s.requires (slice_aggregate_be_u64 d.before) d.before.before.be-u64.ensures d.be-u642.ensures c.if2.true
+    high_greater s.args.at s.args.state.now s.args.key s.requires (slice_aggregate_be_u64 d.before) d.before.before.be-u64.ensures d.be-u642.ensures c.if2.true
 
 slice_aggregate_be_u64_2 : tie.Need-slice-aggregate-be-u64-2
 slice_aggregate_be_u64_2 c = search rules
@@ -35,7 +35,7 @@ returns_3 c =
     let t = e.before.before.before in
     let d = t.before.before in
     let s = d.before.before.before.before.before in
-    low-less s.args.at s.args.state.now s.args.key s.requires (slice_aggregate_be_u64 d.before) d.before.before.be-u64.ensures d.be-u642.ensures t.before.if1.false t.if2.false e.before.before.be-u643.ensures e.be-u644.ensures c.if3.true
+    low_less s.args.at s.args.state.now s.args.key s.requires (slice_aggregate_be_u64 d.before) d.before.before.be-u64.ensures d.be-u642.ensures t.before.if1.false t.if2.false e.before.before.be-u643.ensures e.be-u644.ensures c.if3.true
 
 returns_4 : tie.Need-returns-4
 returns_4 c =
@@ -43,7 +43,7 @@ returns_4 c =
     let t = e.before.before.before in
     let d = t.before.before in
     let s = d.before.before.before.before.before in
-    low-greater s.args.at s.args.state.now s.args.key s.requires (slice_aggregate_be_u64 d.before) d.before.before.be-u64.ensures d.be-u642.ensures t.before.if1.false t.if2.false e.before.before.be-u643.ensures e.be-u644.ensures c.if4.true
+    low_greater s.args.at s.args.state.now s.args.key s.requires (slice_aggregate_be_u64 d.before) d.before.before.be-u64.ensures d.be-u642.ensures t.before.if1.false t.if2.false e.before.before.be-u643.ensures e.be-u644.ensures c.if4.true
 
 returns_5 : tie.Need-returns-5
 returns_5 c =
@@ -51,7 +51,7 @@ returns_5 c =
     let t = e.before.before.before in
     let d = t.before.before in
     let s = d.before.before.before.before.before in
-    low-equal s.args.at s.args.state.now s.args.key s.requires (slice_aggregate_be_u64 d.before) d.before.before.be-u64.ensures d.be-u642.ensures t.before.if1.false t.if2.false e.before.before.be-u643.ensures e.be-u644.ensures c.before.if3.false c.if4.false
+    low_equal s.args.at s.args.state.now s.args.key s.requires (slice_aggregate_be_u64 d.before) d.before.before.be-u64.ensures d.be-u642.ensures t.before.if1.false t.if2.false e.before.before.be-u643.ensures e.be-u644.ensures c.before.if3.false c.if4.false
 
 pub order_to_spec : {M : Type 1} → statement M
 order_to_spec =

@@ -5,7 +5,7 @@ use native.Mathlib.Omega.{arith}
 use borrow.Author.Rules.{rules}
 use Rattle.rules.specs.Memory.{view_rows}
 use Rattle.rules.proofs.Foreign.{view_length}
-use Rattle.search.proofs.RisingRows.{Halved, halved_start, halved-less, halved-equal, halved-greater, halved_end}
+use Rattle.search.proofs.RisingRows.{Halved, halved_start, halved_less, halved_equal, halved_greater, halved_end}
 use Rattle.search.proofs.keys.search.Statement.{statement}
 use Rattle.search.proofs.keys.search.Tie as tie
 
@@ -32,7 +32,7 @@ loop_again c =
     let m = k.before in
     let p = m.before.before in
     let s = p.before.before.before.before.before.before in
-    (p.loop.invariant.0, halved-less p.loop.invariant.1 s.requires.0 m.probe.result m.probe.ensures.0 m.probe.ensures.1 (sym k.key-order.ensures ∙ c.enum_told.given.1))
+    (p.loop.invariant.0, halved_less p.loop.invariant.1 s.requires.0 m.probe.result m.probe.ensures.0 m.probe.ensures.1 (sym k.key-order.ensures ∙ c.enum_told.given.1))
 
 returns : tie.Need-returns invariant_loop decreases_loop
 returns c =
@@ -40,7 +40,7 @@ returns c =
     let m = k.before in
     let p = m.before.before in
     let s = p.before.before.before.before.before.before in
-    halved-equal p.loop.invariant.1 s.requires.0 m.probe.result m.probe.ensures.0 m.probe.ensures.1 (sym k.key-order.ensures ∙ c.enum-told2.given.1)
+    halved_equal p.loop.invariant.1 s.requires.0 m.probe.result m.probe.ensures.0 m.probe.ensures.1 (sym k.key-order.ensures ∙ c.enum-told2.given.1)
 
 loop_again_2 : tie.Need-loop-preserved-2 invariant_loop decreases_loop
 loop_again_2 c =
@@ -48,7 +48,7 @@ loop_again_2 c =
     let m = k.before in
     let p = m.before.before in
     let s = p.before.before.before.before.before.before in
-    (omega arith, halved-greater p.loop.invariant.1 s.requires.0 m.probe.result m.probe.ensures.0 m.probe.ensures.1 (sym k.key-order.ensures ∙ c.enum-told3.given.1))
+    (omega arith, halved_greater p.loop.invariant.1 s.requires.0 m.probe.result m.probe.ensures.0 m.probe.ensures.1 (sym k.key-order.ensures ∙ c.enum-told3.given.1))
 
 returns_2 : tie.Need-returns-2 invariant_loop decreases_loop
 returns_2 c = halved_end c.before.loop.invariant.1 c.loop-test.false

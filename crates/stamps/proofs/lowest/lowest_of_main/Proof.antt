@@ -8,7 +8,7 @@ use Rattle.rules.specs.Records.{by_use, parked}
 use Rattle.rules.specs.Rows.{in_main}
 use Rattle.rules.specs.Memory.{view_rows}
 use Rattle.memory.proofs.RowLaws.{view_length}
-use Rattle.stamps.proofs.RowTotals.{Counted, one_at_most, counted_start, counted-turn, counted-end}
+use Rattle.stamps.proofs.RowTotals.{Counted, one_at_most, counted_start, counted_turn, counted_end}
 use Rattle.stamps.proofs.LowestLaws.{Down, down_start, down_row, down_end}
 use Rattle.stamps.proofs.lowest.lowest_of_main.Statement.{statement}
 use Rattle.stamps.proofs.lowest.lowest_of_main.Tie as tie
@@ -39,14 +39,14 @@ loop_again c =
     let v = w.before.before.loop.invariant in
     let parks = down_row v.0 z w.lower-row.ensures v.1 in
     let uses = down_row v.0 z c.before.lower-row2.ensures v.2 in
-    (counted-turn v.0 z (ap (λ (x : ℕ). ltb x 2) c.place.ensures), parks, uses)
+    (counted_turn v.0 z (ap (λ (x : ℕ). ltb x 2) c.place.ensures), parks, uses)
 
 returns : tie.Need-returns invariant_loop decreases_loop
 returns c =
     let t = c.before.before in
     let z = t.loop-test.false in
     let v = t.before.loop.invariant in
-    record { parked = c.before.row_of.ensures ∙ down_end z v.1; by_use = c.row-of2.ensures ∙ down_end z v.2; count = counted-end v.0 z }
+    record { parked = c.before.row_of.ensures ∙ down_end z v.1; by_use = c.row-of2.ensures ∙ down_end z v.2; count = counted_end v.0 z }
 
 pub lowest_of_main_spec : {M : Type 1} → statement M
 lowest_of_main_spec =

@@ -7,7 +7,7 @@ use borrow.Author.Rules.{rules}
 use Rattle.rules.specs.Rows.{at_place}
 use Rattle.rules.specs.Memory.{view_rows}
 use Rattle.memory.proofs.RowLaws.{view_length}
-use Rattle.stamps.proofs.RowTotals.{Counted, one_at_most, counted_start, counted-turn, counted-end}
+use Rattle.stamps.proofs.RowTotals.{Counted, one_at_most, counted_start, counted_turn, counted_end}
 use Rattle.stamps.proofs.LowestLaws.{Down, down_start, down_row, down_end}
 use Rattle.stamps.proofs.lowest.lowest_stamp.Statement.{statement}
 use Rattle.stamps.proofs.lowest.lowest_stamp.Tie as tie
@@ -37,13 +37,13 @@ loop_again c =
     let l = t.before in
     let v = l.loop.invariant in
     let q = ap (λ (x : ℕ). eqb x l.before.before.before.args.place) c.place.ensures in
-    (counted-turn v.0 t.loop-test.true q, down_row v.0 t.loop-test.true c.before.lower-row.ensures v.1)
+    (counted_turn v.0 t.loop-test.true q, down_row v.0 t.loop-test.true c.before.lower-row.ensures v.1)
 
 returns : tie.Need-returns invariant_loop decreases_loop
 returns c =
     let z = c.before.loop-test.false in
     let v = c.before.before.loop.invariant in
-    record { row = c.row_of.ensures ∙ down_end z v.1; count = counted-end v.0 z }
+    record { row = c.row_of.ensures ∙ down_end z v.1; count = counted_end v.0 z }
 
 pub lowest_stamp_spec : {M : Type 1} → statement M
 lowest_stamp_spec =

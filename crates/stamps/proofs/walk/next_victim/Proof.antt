@@ -10,7 +10,7 @@ use Rattle.rules.specs.Room.{main_visits}
 use Rattle.rules.specs.Memory.{view_rows}
 use Rattle.rules.proofs.Loops.{seeking}
 use Rattle.stamps.specs.Walked.{lowest_of}
-use Rattle.stamps.proofs.WalkLaws.{Going, Found, Turned, found_row, found_none, seek_start, some_left, stale-turn, park-turn, none_yielded, yielded}
+use Rattle.stamps.proofs.WalkLaws.{Going, Found, Turned, found_row, found_none, seek_start, some_left, stale_turn, park_turn, none_yielded, yielded}
 use Rattle.stamps.proofs.walk.next_victim.Statement.{statement}
 use Rattle.stamps.proofs.walk.next_victim.Tie as tie
 
@@ -46,13 +46,13 @@ Goes c x =
 restamped : (c : tie.After-restamp invariant_loop decreases_loop) → Goes c.before.before.before.before.before.before c.restamp.new.0
 restamped c =
     let t = c.before.before in
-    stale-turn (found t.before.before.before.before) t.before.is-stale.ensures t.if1.true c.restamp.auto.0 c.restamp.ensures
+    stale_turn (found t.before.before.before.before) t.before.is-stale.ensures t.if1.true c.restamp.auto.0 c.restamp.ensures
 
 parked : (c : tie.After-park invariant_loop decreases_loop) → Goes (at_next c.before.before.before.before.before) c.park.new.0
 parked c =
     let v = c.before.before in
     let t = v.before.before.before in
-    park-turn (found (at_next t)) t.before.is-stale.ensures t.if1.false v.before.is-verified.ensures v.if2.true c.park.auto.0 c.park.ensures
+    park_turn (found (at_next t)) t.before.is-stale.ensures t.if1.false v.before.is-verified.ensures v.if2.true c.park.auto.0 c.park.ensures
 
 loop_holds : tie.Need-loop-init invariant_loop decreases_loop
 loop_holds c =

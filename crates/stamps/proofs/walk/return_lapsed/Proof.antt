@@ -8,7 +8,7 @@ use Rattle.rules.specs.Room.{main_visits}
 use Rattle.rules.specs.Memory.{view_rows}
 use Rattle.rules.proofs.Loops.{waking}
 use Rattle.stamps.specs.Walked.{lowest_of}
-use Rattle.stamps.proofs.WalkLaws.{Going, Found, Turned, found_row, found_none, lapsed-left, lapsed-turn, lapsed-rests, lapsed_ends}
+use Rattle.stamps.proofs.WalkLaws.{Going, Found, Turned, found_row, found_none, lapsed_left, lapsed_turn, lapsed_rests, lapsed_ends}
 use Rattle.stamps.proofs.walk.return_lapsed.Statement.{statement}
 use Rattle.stamps.proofs.walk.return_lapsed.Tie as tie
 
@@ -32,7 +32,7 @@ restamped : (c : tie.After-restamp invariant_loop decreases_loop) →
     Turned waking s.time s.n 0 l.loop.rows s.state.now l.loop.state c.restamp.new.0
 restamped c =
     let t = c.before.before in
-    lapsed-turn (found t.before.before.before.before) (rw t.before.stamp-first.ensures at t.if1.false) c.restamp.auto.0 c.restamp.ensures
+    lapsed_turn (found t.before.before.before.before) (rw t.before.stamp-first.ensures at t.if1.false) c.restamp.auto.0 c.restamp.ensures
 
 loop_holds : tie.Need-loop-init invariant_loop decreases_loop
 loop_holds c =
@@ -45,13 +45,13 @@ returns c = let v = c.before.before.loop.invariant in (lapsed_ends v.0 (found_no
 returns_2 : tie.Need-returns-2 invariant_loop decreases_loop
 returns_2 c =
     let p = c.before.before.before.before in
-    (lapsed-rests (found p) (rw c.before.stamp-first.ensures at c.if1.true), p.before.before.loop.invariant.2)
+    (lapsed_rests (found p) (rw c.before.stamp-first.ensures at c.if1.true), p.before.before.loop.invariant.2)
 
 restamp_requires : tie.Need-restamp-requires invariant_loop decreases_loop
 restamp_requires c κs =
     let t = c.before in
     let f = found t.before.before.before.before in
-    (f.inside, f.going.size, omega (arith, lapsed-left f (rw t.before.stamp-first.ensures at t.if1.false), f.going.stamps))
+    (f.inside, f.going.size, omega (arith, lapsed_left f (rw t.before.stamp-first.ensures at t.if1.false), f.going.stamps))
 
 loop_again : tie.Need-loop-preserved invariant_loop decreases_loop
 loop_again c = let m = c.lowest-of-main.ensures in ((restamped c.before.before.before.before).going, m.parked, m.by_use)

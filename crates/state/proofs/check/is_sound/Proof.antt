@@ -4,7 +4,7 @@ use native.Mathlib.Omega.{arith}
 use borrow.Author.Tests.{not-false}
 use borrow.Author.Rules.{rules}
 use Rattle.rules.specs.Memory.{capacity}
-use Rattle.state.proofs.PassLaws.{head_facts, none_sound, head-stops, rows-decide}
+use Rattle.state.proofs.PassLaws.{head_facts, none_sound, head_stops, rows_decide}
 use Rattle.state.proofs.check.is_sound.Statement.{statement}
 use Rattle.state.proofs.check.is_sound.Tie as tie
 
@@ -24,7 +24,7 @@ returns_2 c =
     let n = c.before.before in
     let m = n.before in
     let r = m.before.before in
-    head-stops r.before.before.args.state.now r.rows-that-fit.ensures m.max-entries.ensures n.row_count.ensures c.before.head-is-sound.ensures c.if2.true
+    head_stops r.before.before.args.state.now r.rows-that-fit.ensures m.max-entries.ensures n.row_count.ensures c.before.head-is-sound.ensures c.if2.true
 
 seq_requires : tie.Need-seq-requires
 unfolding capacity
@@ -56,7 +56,7 @@ returns_3 c =
     let n = e.before.before in
     let m = n.before in
     let r = m.before.before in
-    rows-decide r.before.before.args.state.now r.rows-that-fit.ensures m.max-entries.ensures n.row_count.ensures e.before.head-is-sound.ensures e.if2.false q.seq.ensures w.stored-weight.ensures b.probation-bound.ensures c.rows-are-sound.ensures
+    rows_decide r.before.before.args.state.now r.rows-that-fit.ensures m.max-entries.ensures n.row_count.ensures e.before.head-is-sound.ensures e.if2.false q.seq.ensures w.stored-weight.ensures b.probation-bound.ensures c.rows-are-sound.ensures
 
 pub is_sound_spec : {M : Type 1} → statement M
 is_sound_spec =

@@ -5,7 +5,7 @@ use lib.ListN.{length}
 use borrow.Author.Rules.{rules}
 use Rattle.rules.specs.Memory.{view_rows}
 use Rattle.rules.proofs.Foreign.{view_length}
-use Rattle.state.proofs.PassLaws.{Passing, passing_start, passing-turn, passing_end, row-stops, key-stops}
+use Rattle.state.proofs.PassLaws.{Passing, passing_start, passing_turn, passing_end, row_stops, key_stops}
 use Rattle.state.proofs.pass.rows_are_sound.Statement.{statement}
 use Rattle.state.proofs.pass.rows_are_sound.Tie as tie
 
@@ -24,7 +24,7 @@ returns c =
     let s = p.before.before.args in
     let rs = (view_rows s.n s.state.now).rows in
     let h : p.loop.i < length rs = rw view_length (omega arith) in
-    row-stops s.seq rs p.loop.t p.loop.i p.loop.invariant.1 h _ _ _ c.before.row-is-sound.ensures c.if1.true
+    row_stops s.seq rs p.loop.t p.loop.i p.loop.invariant.1 h _ _ _ c.before.row-is-sound.ensures c.if1.true
 
 returns_2 : tie.Need-returns-2 invariant_loop decreases_loop
 returns_2 c =
@@ -32,7 +32,7 @@ returns_2 c =
     let s = p.before.before.args in
     let rs = (view_rows s.n s.state.now).rows in
     let h : p.loop.i < length rs = rw view_length (omega arith) in
-    key-stops s.seq rs p.loop.t p.loop.i p.loop.invariant.1 h _ _ _ c.before.key-rises.ensures c.if2.true
+    key_stops s.seq rs p.loop.t p.loop.i p.loop.invariant.1 h _ _ _ c.before.key-rises.ensures c.if2.true
 
 loop_again : tie.Need-loop-preserved invariant_loop decreases_loop
 loop_again c =
@@ -44,7 +44,7 @@ loop_again c =
     let s = p.before.before.args in
     let rs = (view_rows s.n s.state.now).rows in
     let h : p.loop.i < length rs = rw view_length (omega arith) in
-    (omega arith, rw c.counted.ensures (passing-turn s.seq rs p.loop.t p.loop.i p.loop.invariant.1 h r.row-is-sound.ensures k.before.if1.false k.key-rises.ensures f.before.if2.false f.place.ensures w.weight.ensures (search rules)))
+    (omega arith, rw c.counted.ensures (passing_turn s.seq rs p.loop.t p.loop.i p.loop.invariant.1 h r.row-is-sound.ensures k.before.if1.false k.key-rises.ensures f.before.if2.false f.place.ensures w.weight.ensures (search rules)))
 
 returns_3 : tie.Need-returns-3 invariant_loop decreases_loop
 returns_3 c =

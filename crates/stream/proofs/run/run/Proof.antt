@@ -12,7 +12,7 @@ use mir.Val.{Fits}
 use mir.Syntax.{w64}
 use Rattle.stream.specs.declared.run.Next.{Next}
 use Rattle.stream.specs.Running.{Going, next_is}
-use Rattle.stream.proofs.Turns.{Turn, start, same_room, over, ended, stops-full, stops-cut, ample, used, stops-six, goes_on}
+use Rattle.stream.proofs.Turns.{Turn, start, same_room, over, ended, stops_full, stops_cut, ample, used, stops_six, goes_on}
 use Rattle.stream.proofs.run.run.Statement.{statement}
 use Rattle.stream.proofs.run.run.Tie as tie
 
@@ -55,14 +55,14 @@ returns : tie.Need-returns invariant_loop decreases_loop
 returns c =
     let n = c.before.before in
     let l = (loop_of n).loop in
-    let s = stops-full l.inv.4 n.before.before.loop-test.true (next n c.enum_told.given.1) in
+    let s = stops_full l.inv.4 n.before.before.loop-test.true (next n c.enum_told.given.1) in
     (ended _ _ (session l.state l.from) _ _ _ _ _ _ _ s refl refl refl refl refl, (l.inv.0, s.inside))
 
 returns_2 : tie.Need-returns-2 invariant_loop decreases_loop
 returns_2 c =
     let n = c.before.before in
     let l = (loop_of n).loop in
-    let s = stops-cut l.inv.4 n.before.before.loop-test.true (next n c.enum-told2.given.1) in
+    let s = stops_cut l.inv.4 n.before.before.loop-test.true (next n c.enum-told2.given.1) in
     (ended _ _ (session l.state l.from) _ _ _ _ _ _ _ s refl refl refl refl refl, (l.inv.0, s.inside))
 
 command_at_requires : tie.Need-command-at-requires invariant_loop decreases_loop
@@ -99,7 +99,7 @@ returns_3 c =
     let l = (put_at n).put-line.ensures in
     let o = obeyed_at (put_at n) in
     let k = turn (found_at o) in
-    let s = stops-six k o.command-at.ensures l.0.0 l.1 l.0.1 n.count_held.ensures c.if1.true in
+    let s = stops_six k o.command-at.ensures l.0.0 l.1 l.0.1 n.count_held.ensures c.if1.true in
     (ended _ _ (session o.command-at.last.0 o.command-at.result.sender) _ _ _ _ _ _ _ s refl refl refl refl refl, (used k, s.inside))
 
 loop_less : tie.Need-loop-smaller invariant_loop decreases_loop

@@ -94,8 +94,8 @@ module _ {M : Type 1} {𝓤 : Ura M} (𝓛 : Logic 𝓤) (at_mem : Memory → SP
   abbrev to-g : (Counted 𝓛 at_mem run).Ghost
   to-g = ((tt, tt, tt, (h, (sent, tt)), (vals h, (vint w8 sent ∷ [], tt))), tt)
 
-  goes-g : ent 𝓤 (sep 𝓤 (sem 𝓛 ((T.the_row).own_val h (vals h))) (sem 𝓛 (u8.own_val sent (vint w8 sent ∷ [])))) ((Counted 𝓛 at_mem run).pre to-g)
-  goes-g =
+  goes_g : ent 𝓤 (sep 𝓤 (sem 𝓛 ((T.the_row).own_val h (vals h))) (sem 𝓛 (u8.own_val sent (vint w8 sent ∷ [])))) ((Counted 𝓛 at_mem run).pre to-g)
+  goes_g =
       qed 𝓛 (‵ ((T.the_row).own_val h (vals h)) ∷ ‵ (u8.own_val sent (vint w8 sent ∷ [])) ∷ []) ∵ nothing ! $ move ! (2 ∷ 0 ∷ []) $ fjoin ! $ move ! (1 ∷ 0 ∷ []) $ fjoin ! $ nothing ! $ join ! $ frame ! $ done !
 
   module _ (C : Calls 𝓤 H) (Λ : Loops 𝓤 H) (fm : FmC 𝓤 H 𝓛.laws C) (known : Triple 𝓤 (C #counted) (Counted 𝓛 at_mem run)) where
@@ -110,7 +110,7 @@ module _ {M : Type 1} {𝓤 : Ura M} (𝓛 : Logic 𝓤) (at_mem : Memory → SP
         move ! (1 ∷ []) $ peeks ! T.the_row (Is T.the_row) (shows 𝓛 T.the_row) h (vals h) (λ was. move ! (1 ∷ 0 ∷ []) $
         -- [the struct's cell; what a Tally owns; the open borrow; obs; auth; _4; …; _3; …; _2; …; _1; …; room for _0; …; what the u8 owns; …]
         assigns ! (of_opd ! (load ! (from ! (hop ! (look ! 11 refl) (stop !))) (look_raw ! 0 refl))) (from ! (stop !)) (init ! 5 refl ((LL.lawful T.the_type T'.the_laws 𝓛).typed h _ was).0) $
-        owned ! u8 (Is u8) (uint_Makes 𝓛 w8) sent _ (refl, gn.1) $ move ! (2 ∷ 0 ∷ []) $ use2 𝓛 (raw ((Counted 𝓛 at_mem run).pre to-g)) goes-g $
+        owned ! u8 (Is u8) (uint_Makes 𝓛 w8) sent _ (refl, gn.1) $ move ! (2 ∷ 0 ∷ []) $ use2 𝓛 (raw ((Counted 𝓛 at_mem run).pre to-g)) goes_g $
         calls_at ! fm (Counted 𝓛 at_mem run) known to-g (and_then ! (load ! (from ! (stop !)) (look ! 5 refl)) (and_then ! (load ! (from ! (stop !)) (look ! 9 refl)) (no_more !))) (λ v.
         use1 𝓛 (later (some (λ (r : Tally). (‵ ftrue ⊛ ‵ ((T.the_row).own_val r (v ∷ []))) ⊛ raw (ensured 𝓛 g.ended (g.clauses 𝓛 at_mem run) tt (h, (sent, tt)) tt r)))) (id⊢ 𝓤 _) $ await ! tt $ pick ! (λ r.
         split ! $ move ! (1 ∷ []) $ use1 𝓛 (raw (fact 𝓤 (r ≡ tallied h sent))) (counted_of 𝓛 at_mem run h sent r) $ heard ! (r ≡ tallied h sent) (λ e. split ! $ drop ! $

@@ -116,9 +116,9 @@ module _ {M : Type 1} {𝓤 : Ura M} (𝓛 : Logic 𝓤) (at_mem : Memory → SP
   abbrev to-g : ℕ → ℕ → GName → (Count 𝓛 at_mem run).Ghost
   to-g α l δ = (((α ∷ [], tt), (full_share, tt), tt, (lent l δ, (n, tt)), (vptr l 0 ∷ [], (vint w8 n ∷ [], tt))), tt)
 
-  goes-g : (α l : ℕ) (δ : GName) → ent 𝓤 (sep 𝓤 (A.lft (α ∷ []) full_share) (sep 𝓤 (sem 𝓛 ((MutRef (named 0) (α ∷ []) T.the_row).own_val (lent l δ) (vptr l 0 ∷ []))) (sem 𝓛 (u8.own_val n (vint w8 n ∷ [])))))
+  goes_g : (α l : ℕ) (δ : GName) → ent 𝓤 (sep 𝓤 (A.lft (α ∷ []) full_share) (sep 𝓤 (sem 𝓛 ((MutRef (named 0) (α ∷ []) T.the_row).own_val (lent l δ) (vptr l 0 ∷ []))) (sem 𝓛 (u8.own_val n (vint w8 n ∷ [])))))
       ((Count 𝓛 at_mem run).pre (to-g α l δ))
-  goes-g α l δ =
+  goes_g α l δ =
       qed 𝓛 (‵ (flft (α ∷ []) full_share) ∷ ‵ ((MutRef (named 0) (α ∷ []) T.the_row).own_val (lent l δ) (vptr l 0 ∷ [])) ∷ ‵ (u8.own_val n (vint w8 n ∷ [])) ∷ []) ∵
       nothing ! $ move ! (3 ∷ 0 ∷ []) $ fjoin ! $ move ! (2 ∷ 0 ∷ []) $ fjoin ! $ nothing ! $ move ! (2 ∷ 0 ∷ []) $ join ! $ join ! $ frame ! $ done !
 
@@ -149,7 +149,7 @@ module _ {M : Type 1} {𝓤 : Ura M} (𝓛 : Logic 𝓤) (at_mem : Memory → SP
         use1 𝓛 (later (some (λ (δ : GName). ‵ ((MutRef (named 0) (α ∷ []) T.the_row).own_val (lent l₃ δ) (vptr l₃ 0 ∷ [])) ⊛ ‵ (flent (α ∷ []) (Body (mem T.the_row) l₃ 0 δ))))) (lends_ref 𝓛 T.the_row (named 0) (α ∷ []) h l₃ 0) $
         await ! tt $ pick ! (λ δ. split ! $
         -- [the loan; the lender's part; the token; _5; …; room for _4; …; the end of _3; _2; …; _1; …; room for _0; …; what the u8 owns; true]
-        move ! (2 ∷ 0 ∷ 14 ∷ []) $ use3 𝓛 (raw ((Count 𝓛 at_mem run).pre (to-g α l₃ δ))) (goes-g α l₃ δ) $
+        move ! (2 ∷ 0 ∷ 14 ∷ []) $ use3 𝓛 (raw ((Count 𝓛 at_mem run).pre (to-g α l₃ δ))) (goes_g α l₃ δ) $
         calls_at ! fm (Count 𝓛 at_mem run) known (to-g α l₃ δ) (and_then ! (load ! (from ! (stop !)) (look ! 2 refl)) (and_then ! (load ! (from ! (stop !)) (look ! 7 refl)) (no_more !))) (λ v.
         use1 𝓛 (later (given (v ≡ vunit) (‵ (flft (α ∷ []) full_share) ⊛ ‵ (fres δ ((T.the_row).coded.code h'))))) (gives α l₃ δ v) $ await ! tt $ learn ! (λ e. split ! $
         -- [the token; the last value; the lender's part; _5; …; room for _4; …; the end of _3; _2; …; _1; …; room for _0; …; true]
@@ -167,8 +167,8 @@ module _ {M : Type 1} {𝓤 : Ura M} (𝓛 : Logic 𝓤) (at_mem : Memory → SP
 module _ {M : Type 1} {𝓤 : Ura M} (𝓛 : Logic 𝓤) (at_mem : Memory → SProp 𝓤) (run : Routine → Fun 𝓤) where
   open 𝓛 use {H}
 
-  count-held-walks : (C : Calls 𝓤 H) (Λ : Loops 𝓤 H) → FmC 𝓤 H 𝓛.laws C → Triple 𝓤 (C #count) (Count 𝓛 at_mem run) → Walks 𝓛 f.ended stayed (WpFn 𝓤 H C Λ code.function) (f.clauses 𝓛 at_mem run)
-  count-held-walks C Λ fm known = walked 𝓛 f.ended stayed (f.clauses 𝓛 at_mem run) (WpFn 𝓤 H C Λ code.function) (λ κs. (vals, (uint_vals w8, tt))) (λ κs. (LL.tells T.the_type T'.the_laws, (uint_Tells w8, tt)))
+  count_held_walks : (C : Calls 𝓤 H) (Λ : Loops 𝓤 H) → FmC 𝓤 H 𝓛.laws C → Triple 𝓤 (C #count) (Count 𝓛 at_mem run) → Walks 𝓛 f.ended stayed (WpFn 𝓤 H C Λ code.function) (f.clauses 𝓛 at_mem run)
+  count_held_walks C Λ fm known = walked 𝓛 f.ended stayed (f.clauses 𝓛 at_mem run) (WpFn 𝓤 H C Λ code.function) (λ κs. (vals, (uint_vals w8, tt))) (λ κs. (LL.tells T.the_type T'.the_laws, (uint_Tells w8, tt)))
       (λ κs qs bounds a _ _. via 𝓤 _ (fst∗ 𝓤 _ (emp 𝓤)) (walk 𝓛 at_mem run a.0 a.1.0 C Λ fm known))
 
   goes : AllGo 𝓛 0 (f.signature).params (f.ended).kept stayed
@@ -177,7 +177,7 @@ module _ {M : Type 1} {𝓤 : Ura M} (𝓛 : Logic 𝓤) (at_mem : Memory → SP
 count_held_meets : {M : Type 1} {𝓤 : Ura M} (𝓛 : Logic 𝓤) (at_mem : Memory → SProp 𝓤) (run : Routine → Fun 𝓤) (𝓣 : Tables 𝓤 𝓛.H)
     → Triple 𝓤 (𝓣.C #count) (Count 𝓛 at_mem run) → Meets 𝓛 f.signature (WpFn 𝓤 𝓛.H 𝓣.C 𝓣.Λ code.function) (f.spec 𝓛 at_mem run)
 count_held_meets {𝓤 = 𝓤} 𝓛 at_mem run 𝓣 known = walk_Meets 𝓛 f.ended stayed (goes 𝓛 at_mem run) (f.clauses 𝓛 at_mem run) (WpFn 𝓤 𝓛.H 𝓣.C 𝓣.Λ code.function) (WpFn-mono 𝓤 𝓛.H 𝓛.laws 𝓣 code.function)
-    (count-held-walks 𝓛 at_mem run 𝓣.C 𝓣.Λ (fm_of 𝓤 𝓛.H 𝓛.laws 𝓣) known)
+    (count_held_walks 𝓛 at_mem run 𝓣.C 𝓣.Λ (fm_of 𝓤 𝓛.H 𝓛.laws 𝓣) known)
 
 pub count_held_spec : {M : Type 1} → stated.statement M
 unfolding code.routine tables_of

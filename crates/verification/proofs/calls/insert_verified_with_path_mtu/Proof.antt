@@ -1,6 +1,6 @@
 -- Refusal 1 holds whatever the MTU (one-said); on a sound memory the unchecked form ensures the same of the same call.
 use Rattle.rules.specs.Answers.{verified_said}
-use Rattle.refusals.proofs.RefusalsSaid.{checked, one-said}
+use Rattle.refusals.proofs.RefusalsSaid.{checked, one_said}
 use borrow.Author.Rules.{rules}
 use Rattle.verification.proofs.calls.insert_verified_with_path_mtu.Statement.{statement}
 use Rattle.verification.proofs.calls.insert_verified_with_path_mtu.Tie as tie
@@ -11,7 +11,7 @@ insert_verified_with_path_mtu_spec =
     (tie.spec
     (λ c κs. search rules)
     (λ c. search rules)
-    (λ c. unfold verified_said in one-said _ c.before.is-sound.ensures _ c.if1.true)
+    (λ c. unfold verified_said in one_said _ c.before.is-sound.ensures _ c.if1.true)
     (λ c κs. checked _ c.before.before.is-sound.ensures c.before.if1.false)
     (λ c. search rules)
     (λ c. search rules))

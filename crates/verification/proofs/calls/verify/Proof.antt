@@ -3,7 +3,7 @@ use Rattle.rules.specs.Answers.{verified_said}
 use Rattle.rules.proofs.MemoryLaws.{all_bytes}
 use Rattle.refusals.proofs.SoundCalls.{head_there}
 use Rattle.refusals.proofs.WriteRefusals.{passed}
-use Rattle.verification.proofs.VerifiedCalls.{Underway, rows_sound_lem, refused_early, refused-by-four, insert-asked, insert-done}
+use Rattle.verification.proofs.VerifiedCalls.{Underway, rows_sound_lem, refused_early, refused_by_four, insert_asked, insert_done}
 use borrow.Author.Rules.{rules}
 use Rattle.verification.proofs.calls.verify.Statement.{statement}
 use Rattle.verification.proofs.calls.verify.Tie as tie
@@ -41,7 +41,7 @@ returns_3 c =
     let filed = c.before.before in
     let arm = filed.before.before in
     let r = filed.file-verified in
-    insert-done (underway arm.before) (start arm.before).args.mtu _ _ arm.if2.false
+    insert_done (underway arm.before) (start arm.before).args.mtu _ _ arm.if2.false
     (all_bytes r.new.0 (λ j. (c.slice-known2.given j).fits)) r.auto.0 r.ensures.0 r.ensures.1
 
 pub verify_spec : {M : Type 1} → statement M
@@ -54,7 +54,7 @@ verify_spec =
     (λ c κs. head_there _ c.before.before.before.before.before.requires)
     no_place_for_requires
     (λ c. search rules)
-    (λ c. unfold verified_said in refused-by-four (underway c.before) (start c.before).args.mtu c.if2.true)
-    (λ c κs. insert-asked (underway c.before.before) c.before.if2.false)
+    (λ c. unfold verified_said in refused_by_four (underway c.before) (start c.before).args.mtu c.if2.true)
+    (λ c κs. insert_asked (underway c.before.before) c.before.if2.false)
     (λ c. search rules)
     returns_3)

@@ -5,7 +5,7 @@ use Rattle.types.specs.declared.coord.Path.{Path}
 use Rattle.rules.proofs.Others.{weight_ok}
 use Rattle.room.proofs.RoomToFile.{laid_out}
 use Rattle.filing.proofs.RoomSought.{Sought, sought}
-use Rattle.verification.proofs.VerifiedRows.{KeyOut, found_within, room-asked, row-asked, insert-said, insert-left}
+use Rattle.verification.proofs.VerifiedRows.{KeyOut, found_within, room_asked, row_asked, insert_said, insert_left}
 use borrow.Author.Rules.{rules}
 use Rattle.verification.proofs.insert.file_anew.Statement.{statement}
 use Rattle.verification.proofs.insert.file_anew.Tie as tie
@@ -37,7 +37,7 @@ file_in_room_requires c κs =
     let w = sought.before.before in
     let s = start w in
     let e = (taken w).before.before.verified-entry-of in
-    (row-asked (key_out w) _ (room_sought sought) s.pre.2 s.pre.3, omega (arith, ap (λ (p : Path). p.len) e.ensures.1, s.pre.1.short))
+    (row_asked (key_out w) _ (room_sought sought) s.pre.2 s.pre.3, omega (arith, ap (λ (p : Path). p.len) e.ensures.1, s.pre.1.short))
 
 returns : tie.Need-returns
 returns c =
@@ -45,7 +45,7 @@ returns c =
     let sought = filed.before.before.before.before in
     let w = sought.before.before in
     let e = (taken w).before.before.verified-entry-of in
-    (insert-said (key_out w) _ (room_sought sought) _, insert-left (key_out w) _ (room_sought sought) _ (e.ensures.0 _ (start w).requires.4) _ _ filed.file-in-room.ensures)
+    (insert_said (key_out w) _ (room_sought sought) _, insert_left (key_out w) _ (room_sought sought) _ (e.ensures.0 _ (start w).requires.4) _ _ filed.file-in-room.ensures)
 
 pub file_anew_spec : {M : Type 1} → statement M
 file_anew_spec =
@@ -55,7 +55,7 @@ file_anew_spec =
     (λ c κs. let s = c.before.before.before.before in (s.requires.0, found_within _ _ _ _ s.requires.4))
     (λ c κs. search rules)
     cast_row_weight
-    (λ c κs. room-asked (key_out c.before) _ (start c.before).requires.2)
+    (λ c κs. room_asked (key_out c.before) _ (start c.before).requires.2)
     file_in_room_requires
     (λ c. search rules)
     returns)

@@ -5,7 +5,7 @@ use Rattle.rules.specs.Memory.{view_rows}
 use Rattle.rules.proofs.Others.{weight_ok}
 use Rattle.room.proofs.RoomToFile.{shown}
 use Rattle.verification.proofs.NoPlace.{rows_searchable, row_inside}
-use Rattle.verification.proofs.RowKept.{room_told, kept-said, kept-left}
+use Rattle.verification.proofs.RowKept.{room_told, kept_said, kept_left}
 use borrow.Author.Rules.{rules}
 use Rattle.verification.proofs.insert.file_verified.Statement.{statement}
 use Rattle.verification.proofs.insert.file_verified.Tie as tie
@@ -45,7 +45,7 @@ returns c =
     let d = shown s.args.n s.args.state.now s.requires.0 in
     let o = sym f.search.ensures ∙ arm.at.given.1 in
     let h = room_told _ _ _ weighed.weight.ensures tested.has-room-without.ensures written.before.before.if1.true in
-    (kept-said _ _ _ _ d o h.1 weighed.weight.ensures, kept-left _ _ _ _ d o h.1 weighed.weight.ensures _ _ (written.verify-in-place.ensures _ o))
+    (kept_said _ _ _ _ d o h.1 weighed.weight.ensures, kept_left _ _ _ _ d o h.1 weighed.weight.ensures _ _ (written.verify-in-place.ensures _ o))
 
 file_anew_requires : tie.Need-file-anew-requires
 file_anew_requires c κs =

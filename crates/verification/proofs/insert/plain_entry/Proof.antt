@@ -1,7 +1,7 @@
 -- The search decides as find does in verifiedEntry: update of the row found, or newEntry; markVerified follows in both cases.
 use mathlib.Core.Path.{◌∙◌}
 use Rattle.memory.proofs.Fields.{same_head}
-use Rattle.verification.proofs.VerifiedRows.{within, entry-held, entry_new}
+use Rattle.verification.proofs.VerifiedRows.{within, entry_held, entry_new}
 use borrow.Author.Rules.{rules}
 use Rattle.verification.proofs.insert.plain_entry.Statement.{statement}
 use Rattle.verification.proofs.insert.plain_entry.Tie as tie
@@ -13,7 +13,7 @@ returns c =
     let read = arm.before.before in
     let s = read.before.before.args in
     let ttl = read.default-ttl.ensures ∙ (same_head 0 s.n s.state.now).default_ttl in
-    (λ k e. entry-held k _ _ _ e ttl arm.at.given.1 updated.updated-entry.ensures.0 c.verified-entry.ensures.0, c.verified-entry.ensures.1 ∙ updated.updated-entry.ensures.1)
+    (λ k e. entry_held k _ _ _ e ttl arm.at.given.1 updated.updated-entry.ensures.0 c.verified-entry.ensures.0, c.verified-entry.ensures.1 ∙ updated.updated-entry.ensures.1)
 
 returns_2 : tie.Need-returns-2
 returns_2 c =

@@ -1,7 +1,7 @@
 -- withoutKey has the search's two cases: takeOut of row i where it was found, the state itself where it was not.
 use native.Mathlib.Omega.{arith}
 use Rattle.room.proofs.RoomToFile.{shown, laid_out}
-use Rattle.verification.proofs.VerifiedRows.{within, out-held, out-absent}
+use Rattle.verification.proofs.VerifiedRows.{within, out_held, out_absent}
 use borrow.Author.Rules.{rules}
 use Rattle.verification.proofs.insert.take_out.Statement.{statement}
 use Rattle.verification.proofs.insert.take_out.Tie as tie
@@ -18,7 +18,7 @@ sub_result c =
     omega (arith, within arm.at.given.1 arm.before.before.before.requires.1)
 
 returns : tie.Need-returns
-returns c = let removed = c.before.before in λ k e. out-held k _ e removed.before.before.before.at.given.1 removed.remove-row.ensures
+returns c = let removed = c.before.before in λ k e. out_held k _ e removed.before.before.before.at.given.1 removed.remove-row.ensures
 
 pub take_out_spec : {M : Type 1} → statement M
 take_out_spec =
@@ -30,4 +30,4 @@ take_out_spec =
     (λ c. search rules)
     (λ c. search rules)
     returns
-    (λ c. λ k e. out-absent k _ e c.enum_told.given.1))
+    (λ c. λ k e. out_absent k _ e c.enum_told.given.1))

@@ -5,7 +5,7 @@ use Rattle.rules.specs.Rows.{in_main}
 use Rattle.rules.specs.Memory.{view_rows}
 use Rattle.rules.proofs.Foreign.{view_length}
 use Rattle.stamps.proofs.RowTotals.{count_few}
-use Rattle.verification.proofs.NoPlace.{held_place, free-place, made-place}
+use Rattle.verification.proofs.NoPlace.{held_place, free_place, made_place}
 use borrow.Author.Rules.{rules}
 use Rattle.verification.proofs.no_place.no_place_for.Statement.{statement}
 use Rattle.verification.proofs.no_place.no_place_for.Tie as tie
@@ -16,13 +16,13 @@ returns_2 c =
     let bounded = c.before in
     let asked = bounded.before.before in
     let a = asked.before.before.args in
-    free-place _ _ _ asked.key-in-main.ensures bounded.before.if1.false refl bounded.main-bound.ensures
+    free_place _ _ _ asked.key-in-main.ensures bounded.before.if1.false refl bounded.main-bound.ensures
     (omega (arith, count_few in_main (view_rows a.n a.state.now).rows, view_length a.n a.state.now, c.if2.true))
 
 returns_3 : tie.Need-returns-3
 returns_3 c =
     let bounded = c.before.before.before in
-    free-place _ _ _ bounded.before.before.key-in-main.ensures bounded.before.if1.false c.before.main-len.ensures bounded.main-bound.ensures c.if3.true
+    free_place _ _ _ bounded.before.before.key-in-main.ensures bounded.before.if1.false c.before.main-len.ensures bounded.main-bound.ensures c.if3.true
 
 room_can_be_made_requires : tie.Need-room-can-be-made-requires
 room_can_be_made_requires c κs =
@@ -35,7 +35,7 @@ returns_4 c =
     let tested = c.before.before in
     let counted = tested.before in
     let bounded = counted.before.before in
-    made-place _ _ _ bounded.before.before.key-in-main.ensures bounded.before.if1.false counted.main-len.ensures bounded.main-bound.ensures
+    made_place _ _ _ bounded.before.before.key-in-main.ensures bounded.before.if1.false counted.main-len.ensures bounded.main-bound.ensures
     tested.if3.false c.before.weight.ensures c.room-can-be-made.ensures
 
 pub no_place_for_spec : {M : Type 1} → statement M
