@@ -1,0 +1,15 @@
+-- The bytes before i agree, so that the addresses are the same where their bytes from i on are.
+use mathlib.Core.Path.{◌≡◌, sym, ◌∙◌}
+use Prim.Native.Nat.{◌-◌, ◌≤◌}
+use native.Mathlib.Omega.{arith}
+use lib.ListN.{length, drop}
+use borrow.Author.Rules.{rules}
+use Rattle.types.specs.Addresses.{address_bytes, same_bytes, same_addr}
+use Rattle.types.proofs.PathLaws.{same_stop, same_go, same_end}
+use Rattle.types.proofs.node_addr.NodeAddr.same_as.Given as goal
+
+abbrev pub invariant-loop-i : goal.invariant-loop-i
+invariant-loop-i l = (l.i ≤ address_bytes) × (length l.x ≡ address_bytes) × (length l.y ≡ address_bytes) × (same_bytes l.x l.y ≡ same_bytes (drop l.i l.x) (drop l.i l.y))
+
+abbrev pub decreases-loop-i : goal.decreases-loop-i
+decreases-loop-i l = address_bytes - l.i
