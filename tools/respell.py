@@ -80,11 +80,6 @@ def read(path):
         return f.read()
 
 
-def joined(text):
-    """Declarations with their signature on one line."""
-    return text
-
-
 def signature(lines, at):
     out = [lines[at]]
     for line in lines[at + 1 :]:
@@ -183,7 +178,6 @@ def main():
         is_rt = p.endswith(".rt")
         out, seen = [], set()
         tokens = TOKEN.findall(t)
-        depth_clause = 0
         for i, tok in enumerate(tokens):
             if tok.startswith(("--", "//", '"', "«")):
                 if tok.startswith("--"):
@@ -194,11 +188,17 @@ def main():
             before = tokens[i - 1] if i else ""
             after = "".join(tokens[i + 1 : i + 4])
             if before == ".":
-                is_path = i > 1 and not tokens[i - 2].isspace() and re.match(r"[^\s({\[]", tokens[i - 2] or " ")
-                out.append(new_fields.get(tok, tok) if not re.match(r"\s*use", "".join(tokens[max(0, i - 30) : i]).rsplit("\n", 1)[-1] + "  ") else tok)
+                line = "".join(tokens[max(0, i - 60) : i]).rsplit("\n", 1)[-1]
+                qualifier = tokens[i - 2] if i > 1 else ""
+                if re.match(r"(pub |ghost )*use ", line):
+                    out.append(tok)
+                elif qualifier[:1].isupper() and tok in facts and qualifier.isalnum():
+                    out.append(new_name(tok))
+                else:
+                    out.append(new_fields.get(tok, tok))
                 continue
-            if tok in new_fields and (after.startswith((" = ", " : ")) or tok not in turn and in_record(tokens, i)):
-                out.append(new_fields[tok])
+            if tok not in turn and not is_rt and (tok in new_fields or re.fullmatch(r"[a-z]+[A-Z]\w*'?", tok)):
+                out.append(new_fields.get(tok, snake(tok)))
                 continue
             if tok in turn:
                 seen.add(tok)
@@ -219,10 +219,6 @@ def main():
         print("fields:", new_fields)
         print("facts:", {n: new_name(n) for n in facts if new_name(n) != n and facts[n]})
     print(f"{changed} files, {fell} fall together, {clashes} clashes, fields {len(new_fields)}")
-
-
-def in_record(tokens, i):
-    return False
 
 
 if __name__ == "__main__":

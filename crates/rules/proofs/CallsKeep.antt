@@ -108,7 +108,7 @@ fixed_verified ttl now v x d h = rw (d.source, d.verified_until) h
 demand_named : (a : NodeAddr → ℕ) (s : State) (q : Call) (t : Step) (k : NodeAddr) → key_named q ≡ some k → was_refused t.answer ≡ false
     → LeavesOthers k (clock q) s t.state → Own k (account_after q t.answer (a k)) t.state → within_funding (event q t) ≡ true → Accounted a s → DemandStep a s q t
 unfolding accounts_after must_spare names_other
-demand_named a s q t k named notRefused leaves own paid h = record {
+demand_named a s q t k named not_refused leaves own paid h = record {
   default_ttl = ap ttl_of leaves.limits;
   accounted = every_both (λ y f g. rw named (by_cond (λ n. n ≡ charge y) (same_addr y.key k)
       (λ e. let z = same_true y.key k e in rw z (sym (g z)))
@@ -117,7 +117,7 @@ demand_named a s q t k named notRefused leaves own paid h = record {
   funded = paid;
   spared = λ ttl v x d e l.
       let m : Bool = not (sweep_matches q (as_written v.path) (expiry_of ttl v)) in
-      let e2 : not (same_addr v.key k) && (not_past (verified_until_of v) q && m) ≡ true = rw (notRefused, named) at e in
+      let e2 : not (same_addr v.key k) && (not_past (verified_until_of v) q && m) ≡ true = rw (not_refused, named) at e in
       let e3 = and_right (not (same_addr v.key k)) (not_past (verified_until_of v) q && m) e2 in
       leaves.spares v.key x (same_false v.key k (not-true (same_addr v.key k) (and_left (not (same_addr v.key k)) (not_past (verified_until_of v) q && m) e2)))
       (fixed_verified ttl (clock q) v x d (not_past_lem (verified_until_of v) q (and_left (not_past (verified_until_of v) q) m e3))) d.main l;

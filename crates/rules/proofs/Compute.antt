@@ -109,7 +109,7 @@ pub record Seen : Type 0 where
   pub stored_weight : ℕ
 
 unfoldable pub seen_from : ℕ → State → List Call → Seen
-unfolding addr elements_from path_from path row_numbers same_bytes bytes_before same_addr addr_before zero_entry elements as_written same_entry same_entries same_path among contains last_addr root_of first_is starts_at path_weight covers source_of entry_value at_place in_main stamp_before next_index find lower_of lowest_stamp change_row without_row keep_rows insert_in_order total with_seq with_rows with_only_rows leads ascends all legal weighed sourced row_sound sound add_times expired verified update new_entry refresh mark_verified mark_hint set_mtu drop_mtu refiled parked_at raised stamp refile restamp park file_new take_out take_up untouched stale main_visits return_lapsed sought seek next_victim has_room at_new_place set_aside choose_victims put_back settled make_room verified_in_main room_can_be_made probation_visits evict_below make_probation_room place_result rejected new_in_probation new_without_room place_new held_outcome stays_verified place_probation promote place_main grow place_held place_hint without_key verified_entry Placement.insertVerified unexpired_row get with_entry rewrite touched removed_entry demoted holds clear_path_mtu sweep matching total_age mean stats next_expiry key_named path_given time_given funding_of draws_stamps verified_write sweep_matches was_refused charge_of examined_of bad_size bad_path seq_spent key_in_main no_place_for reason reasons first_given refusal gives hinted verifies sweeps perform fresh perform_request serve run
+unfolding addr elements_from path_from path row_numbers same_bytes bytes_before same_addr addr_before zero_entry elements as_written same_entry same_entries same_path among contains last_addr root_of first_is starts_at path_weight covers source_of entry_value at_place in_main stamp_before next_index find lower_of lowest_stamp change_row without_row keep_rows insert_in_order total with_seq with_rows with_only_rows leads ascends all legal weighed sourced row_sound sound add_times expired verified update new_entry refresh mark_verified mark_hint set_mtu drop_mtu refiled parked_at raised stamp refile restamp park file_new take_out take_up untouched stale main_visits return_lapsed sought seek next_victim has_room at_new_place set_aside choose_victims put_back settled make_room verified_in_main room_can_be_made probation_visits evict_below make_probation_room place_result rejected new_in_probation new_without_room place_new held_outcome stays_verified place_probation promote place_main grow place_held place_hint without_key verified_entry Placement.insert_verified unexpired_row get with_entry rewrite touched removed_entry demoted holds clear_path_mtu sweep matching total_age mean stats next_expiry key_named path_given time_given funding_of draws_stamps verified_write sweep_matches was_refused charge_of examined_of bad_size bad_path seq_spent key_in_main no_place_for reason reasons first_given refusal gives hinted verifies sweeps perform fresh perform_request serve run
 seen_from R s qs = let r = run R s qs in record { answers = map (λ e. e.answer) r.events; rows = map row_numbers r.state.rows; seq = r.state.seq; stored_weight = r.state.stored_weight }
 
 -- on a fresh state of R rows, with these limits

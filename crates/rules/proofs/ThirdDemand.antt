@@ -141,19 +141,19 @@ protect : (R ttl : ℕ) (a : NodeAddr → ℕ) (s : State) (qs : List Call) → 
     → (run R s qs).events ≡ earlier ++ (e ∷ later) → verified_write e.call ≡ some v → was_refused e.answer ≡ false
     → Every (λ l. must_spare ttl v l ≡ true) later → KeepsPlace ttl v (run R s qs).state.rows
 unfolding run
-protect R ttl a s [] t st h [] later e v p claim notRefused spared = contradiction {b = true} refl (cc)
-protect R ttl a s [] t st h (b ∷ bs) later e v p claim notRefused spared = contradiction {b = true} refl (cc)
-protect R ttl a s (q ∷ qs) t st h [] later e v p claim notRefused spared =
+protect R ttl a s [] t st h [] later e v p claim not_refused spared = contradiction {b = true} refl (cc)
+protect R ttl a s [] t st h (b ∷ bs) later e v p claim not_refused spared = contradiction {b = true} refl (cc)
+protect R ttl a s (q ∷ qs) t st h [] later e v p claim not_refused spared =
     let x = step R s q in
     let pe : e ≡ event q x = cc in
     let pl : later ≡ (run R x.state qs).events = cc in
-    let m = step_made R s q v (subst (λ (u : Event). verified_write u.call ≡ some v) pe claim) (subst (λ (u : Event). was_refused u.answer ≡ false) pe notRefused) in
+    let m = step_made R s q v (subst (λ (u : Event). verified_write u.call ≡ some v) pe claim) (subst (λ (u : Event). was_refused u.answer ≡ false) pe not_refused) in
     let d : Fixed ttl v m.row = subst (λ u. Fixed u v m.row) t m.fixed in
     stands ttl v m.row (run R x.state qs).state (settled_run R x.state qs (settled_step R s q st)) d
     (run_spared R ttl v m.row d (accounts_after (event q x) a) x.state qs (step_demand R a s q h).accounted (subst (Every (λ l. must_spare ttl v l ≡ true)) pl spared) m.looked)
-protect R ttl a s (q ∷ qs) t st h (b ∷ bs) later e v p claim notRefused spared =
+protect R ttl a s (q ∷ qs) t st h (b ∷ bs) later e v p claim not_refused spared =
     let x = step R s q in
-    protect R ttl (accounts_after (event q x) a) x.state qs ((step_demand R a s q h).default_ttl ∙ t) (settled_step R s q st) (step_demand R a s q h).accounted bs later e v (cc) claim notRefused spared
+    protect R ttl (accounts_after (event q x) a) x.state qs ((step_demand R a s q h).default_ttl ∙ t) (settled_step R s q st) (step_demand R a s q h).accounted bs later e v (cc) claim not_refused spared
 
 sound_settled : (R : ℕ) (s : State) → Sound R s → Settled s
 sound_settled R s h = record { stored_weight = h.stored_weight; places = every_map {P = RowOk s.seq} (λ r o. o.place) s.rows h.each }

@@ -89,8 +89,8 @@ pub record KeepsPlace (ttl : ℕ) (v : VerifiedWrite) (rows : List Row) : Type 0
 -- stored weight is the sum of the held keys' accounts, and of the main weights; no hint is charged above its funding;
 -- a verified insert that was not refused keeps its place while every later event must spare it
 pub record ThirdDemand (ttl : ℕ) (events : List Event) (stored_weight : ℕ) (rows : List Row) : Type 0 where
-  pub accounts : storedWeight ≡ total (λ r. account events r.key) rows
-  pub weights : storedWeight ≡ weigh_rows in_main rows
+  pub accounts : stored_weight ≡ total (λ r. account events r.key) rows
+  pub weights : stored_weight ≡ weigh_rows in_main rows
   pub funding : Every (λ e. within_funding e ≡ true) events
   pub protection : (earlier later : List Event) (e : Event) (v : VerifiedWrite)
       → events ≡ earlier ++ (e ∷ later)

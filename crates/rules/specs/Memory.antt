@@ -103,7 +103,7 @@ path_bytes p = le_bytes byte_size p.len ++ coord_entries_bytes p.entries
 
 -- an entry's numbers in the groups in which they are written: last_used and expires_at; path_mtu; source and verified_until
 abbrev pub used_bytes : Entry → List ℕ
-used_bytes e = le_bytes number_size e.lastUsed ++ le_bytes number_size e.expiresAt
+used_bytes e = le_bytes number_size e.last_used ++ le_bytes number_size e.expires_at
 
 abbrev pub mtu_bytes : Entry → List ℕ
 mtu_bytes e = le_bytes byte_size e.mtu_mark ++ le_bytes mtu_size e.mtu

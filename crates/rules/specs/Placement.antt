@@ -47,8 +47,8 @@ place_new k p now ttl f s =
     let w = path_weight p in
     let e = new_entry p now ttl in
     let m = make_room now w s in
-    let inMainSegment = place_result Inserted w Main false m.examined (file_new k e w by_use m.state) in
-    let covered = cond m.made inMainSegment (new_without_room f k e w m) in
+    let in_main_segment = place_result Inserted w Main false m.examined (file_new k e w by_use m.state) in
+    let covered = cond m.made in_main_segment (new_without_room f k e w m) in
     let uncovered = new_in_probation k e w true 0 s in
     cond (covers f w) covered uncovered
 
@@ -89,19 +89,19 @@ unfoldable pub grow : NodeAddr → Path → ℕ → ℕ → Bool → ℕ → ℕ
 grow k p now ttl stated w i s =
     let r = row_at i s.rows in
     let m = make_room now w (take_out i s) in
-    let goesBack = rejected false m.examined (file_new k r.entry r.weight by_use m.state) in
+    let goes_back = rejected false m.examined (file_new k r.entry r.weight by_use m.state) in
     let grows = place_result (held_outcome p r) (w - r.weight) Main false m.examined (file_new k (update p now ttl r.entry) w by_use m.state) in
-    cond (m.made || stated) grows goesBack
+    cond (m.made || stated) grows goes_back
 
 -- weight ≤ old: updated, old weight kept, refiled; growth not covered: Rejected, unfunded; covered: grown
 unfoldable pub place_main : NodeAddr → Path → ℕ → ℕ → Funding → Bool → ℕ → State → PlaceResult
 place_main k p now ttl f stated i s =
     let r = row_at i s.rows in
     let w = path_weight p in
-    let noGrowth = place_result (held_outcome p r) 0 Main false 0 (refile (update p now ttl r.entry) r.weight i s) in
+    let no_growth = place_result (held_outcome p r) 0 Main false 0 (refile (update p now ttl r.entry) r.weight i s) in
     let covered = grow k p now ttl stated w i s in
     let uncovered = rejected true 0 s in
-    cond (leb w r.weight) noGrowth (cond (covers f (w - r.weight)) covered uncovered)
+    cond (leb w r.weight) no_growth (cond (covers f (w - r.weight)) covered uncovered)
 
 unfoldable pub place_held : NodeAddr → Path → ℕ → ℕ → Funding → Bool → ℕ → State → PlaceResult
 place_held k p now ttl f stated i s =

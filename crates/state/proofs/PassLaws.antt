@@ -161,7 +161,7 @@ module _ (l : List ℕ) {R m n : ℕ} {x : Bool} (er : R ≡ capacity l) (em : m
   head_stops e = rw (sound_parts l, ← er, ← em, ← en, ← ex, not-true x e)
 
   pub rows_decide : {q w Q : ℕ} {y : Bool} → not x ≡ false → q ≡ (view_rows 0 l).seq → w ≡ (view_rows 0 l).stored_weight → Q ≡ probation_bound m → y ≡ rows_sound (R - Q) Q q w (view_rows n l).rows → y ≡ sound (capacity l) (view l)
-  rows_decide {q} {w} {Q} {y} e eq ew eQ ey =
+  rows_decide {q} {w} {Q} {y} e eq ew e_q ey =
       let t : head_sound R m n ≡ true = sym ex ∙ not-false x e in
       let v : view_rows n l ≡ view l = rw en (held_all l (omega (arith, (head_facts t).there))) in
-      rw (ey, sound_parts l, ← v, ← er, ← em, ← en, ← ex, not-false x e, eq, ew, eQ)
+      rw (ey, sound_parts l, ← v, ← er, ← em, ← en, ← ex, not-false x e, eq, ew, e_q)

@@ -12,7 +12,7 @@ use Rattle.rules.specs.Records.{State}
 use Rattle.rules.specs.Memory.{capacity, view}
 use Rattle.rules.specs.Refusals.{Asked, Request, serve}
 use Rattle.rules.specs.Lent.{Bytes, TypedRequest, lent}
-use Rattle.rules.specs.Commands.{Command, Decoded, Element, Output, Plain, WithPath, after_six, codes, decode, line, obeyed, run_commands, takes_path, obey as obeyState, pended as pendedState, refused_six as sixState, Session as StateSession}
+use Rattle.rules.specs.Commands.{Command, Decoded, Element, Output, Plain, WithPath, after_six, codes, decode, line, obeyed, run_commands, takes_path, obey as obey_state, pended as pended_state, refused_six as six_state, Session as StateSession}
 use Rattle.rules.proofs.RowLists.{by_cond}
 use Rattle.rules.proofs.MemoryLaws.{bytes_drop}
 use Rattle.rules.proofs.LentMemory.{capacity_same, lent_request}
@@ -46,8 +46,8 @@ served_same h x k f g y =
     record { fits = record { bytes = o.bytes; sender = y }; size = o.size; reply = refl; session = ap (λ (s : State). record { state = s; sender = k }) o.state }
 
 obeyed_same : (h : Session) (c : Command) → SessionFits h → Fitting h.sender c
-    → let t = obey h c in let u = obeyState (capacity h.memory) (viewed h) c in SameAfter h t.session t.reply u.reply u.session
-unfolding obey obeyState pended pendedState
+    → let t = obey h c in let u = obey_state (capacity h.memory) (viewed h) c in SameAfter h t.session t.reply u.reply u.session
+unfolding obey obey_state pended pended_state
 obeyed_same h (Element e) f g = record { fits = record { bytes = f.bytes; sender = with_pending_fits (appended_fits h.sender.pending e f.sender.pending g) f.sender }; size = refl; reply = refl; session = refl }
 obeyed_same h (WithPath q) f g = served_same h (Asked (q h.sender)) (emptied h.sender) f g (emptied_fits f.sender)
 obeyed_same h (Plain x) f g = served_same h x h.sender f g f.sender
@@ -84,12 +84,12 @@ on_states (suc n) h (b ∷ bs) f y = go (decode b bs) refl (λ k l g z. on_state
 
     go : (o : Option Decoded) → decode b bs ≡ o → ((k : Session) (l : List ℕ) → SessionFits k → Bytes l → SameRun k (run_all n k l) (run_commands n (capacity k.memory) (viewed k) l))
         → SameRun h (maybe o (record { lines = line b (refused_six b h).reply ∷ []; session = (refused_six b h).session }) (λ d. let t = obey h d.command in let later = run_all n t.session d.left in record { lines = line b t.reply ∷ later.lines; session = later.session }))
-        (maybe o (record { lines = line b (sixState b (viewed h)).reply ∷ []; session = (sixState b (viewed h)).session }) (λ d. let t = obeyState R (viewed h) d.command in let later = run_commands n R t.session d.left in record { lines = line b t.reply ∷ later.lines; session = later.session }))
-    go none e ih = unfold refused_six sixState after_six in record { lines = refl; state = refl; sender = refl; size = refl; fits = record { bytes = f.bytes; sender = by_cond SenderFits (takes_path b) (λ x. emptied_fits f.sender) (λ x. f.sender) } }
+        (maybe o (record { lines = line b (six_state b (viewed h)).reply ∷ []; session = (six_state b (viewed h)).session }) (λ d. let t = obey_state R (viewed h) d.command in let later = run_commands n R t.session d.left in record { lines = line b t.reply ∷ later.lines; session = later.session }))
+    go none e ih = unfold refused_six six_state after_six in record { lines = refl; state = refl; sender = refl; size = refl; fits = record { bytes = f.bytes; sender = by_cond SenderFits (takes_path b) (λ x. emptied_fits f.sender) (λ x. f.sender) } }
     go (some d) e ih =
         let t = obeyed_same h d.command f (decoded_fits b bs d h.sender e y.1 f.sender) in
         let k = (obey h d.command).session in
-        let s = (obeyState R (viewed h) d.command).session in
+        let s = (obey_state R (viewed h) d.command).session in
         let c : capacity k.memory ≡ R = capacity_same h.memory k.memory t.size in
         let z = after k s d.left c t.session (ih k d.left t.fits (left_bytes b bs d e y.1)) in
         record { lines = cc (t.reply, z.lines); state = z.state; sender = z.sender; size = z.size ∙ t.size; fits = z.fits }

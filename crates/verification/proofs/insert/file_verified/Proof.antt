@@ -1,4 +1,4 @@
--- With room once row i of main is out, makeRoom examines nothing, so writing in place is insertVerified; else file_anew's contract is this one.
+-- With room once row i of main is out, make_room examines nothing, so writing in place is insert_verified; else file_anew's contract is this one.
 use mathlib.Core.Path.{sym, ◌∙◌}
 use native.Mathlib.Omega.{arith}
 use Rattle.rules.specs.Memory.{view_rows}
