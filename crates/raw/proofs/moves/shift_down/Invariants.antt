@@ -1,0 +1,16 @@
+-- The bytes from `at` up to i are those that stood a row further on; the byte read, at i + ROW, is past every store so far.
+use borrow.Author.Rules.{rules}
+use mathlib.Core.Path.{◌≡◌, refl}
+use Prim.Native.Nat.{◌+◌, ◌-◌, ◌≤◌}
+use native.Mathlib.Omega.{arith}
+use native.Mathlib.Numerals.{add-one}
+use lib.ListN.{length, length-set}
+use Rattle.raw.proofs.MoveLaws.{down, down_start, down_step}
+use Rattle.rules.specs.Layout.{row_size}
+use Rattle.raw.proofs.moves.shift_down.Given as goal
+
+abbrev pub invariant-loop-i : goal.invariant-loop-i
+invariant-loop-i l = (l.at ≤ l.i) × ((l.i ≤ l.stop) × ((l.s ≡ down l.at l.i row_size l.initial.s) × (length l.s ≡ length l.initial.s)))
+
+abbrev pub decreases-loop-i : goal.decreases-loop-i
+decreases-loop-i l = l.stop - l.i

@@ -1,0 +1,15 @@
+-- The bytes from i up to `to` have moved, from the last one down, so the byte read is below every store so far.
+use borrow.Author.Rules.{rules}
+use mathlib.Core.Path.{◌≡◌, refl}
+use Prim.Native.Nat.{◌≤◌}
+use native.Mathlib.Omega.{arith}
+use lib.ListN.{length, length-set}
+use Rattle.raw.proofs.MoveLaws.{up, up_start, up_turn}
+use Rattle.rules.specs.Layout.{row_size}
+use Rattle.raw.proofs.moves.shift_up.Given as goal
+
+abbrev pub invariant-loop-i : goal.invariant-loop-i
+invariant-loop-i l = (l.from ≤ l.i) × ((l.i ≤ l.to) × ((l.s ≡ up l.i l.to row_size l.initial.s) × (length l.s ≡ length l.initial.s)))
+
+abbrev pub decreases-loop-i : goal.decreases-loop-i
+decreases-loop-i l = l.i
