@@ -1,0 +1,16 @@
+-- The returns are the cases of writeRefusal in its order: a bad path, else a seq over the last, else neither.
+use mathlib.Core.Path.{refl, ◌∙◌}
+use Rattle.rules.specs.Refusals.{bad_path}
+use Rattle.refusals.proofs.SoundCalls.{shown_seq}
+use Rattle.refusals.proofs.WriteRefusals.{bad_two, spent_three, none_zero}
+use borrow.Author.Rules.{rules}
+use Rattle.refusals.proofs.write.write_refusal.Goals as goal
+
+pub returns-then-len : goal.returns-then-len
+returns-then-len c = unfold bad_path in bad_two _ _ refl c.if-len.true
+
+pub returns-then-seq-gt-LAST_SEQ : goal.returns-then-seq-gt-LAST_SEQ
+returns-then-seq-gt-LAST_SEQ c = unfold bad_path in spent_three _ _ refl c.if-len.false (c.seq.ensures ∙ shown_seq _) c.if-seq-gt-LAST_SEQ.true
+
+pub returns : goal.returns
+returns c = unfold bad_path in none_zero _ _ refl c.if-len.false (c.seq.ensures ∙ shown_seq _) c.if-seq-gt-LAST_SEQ.false

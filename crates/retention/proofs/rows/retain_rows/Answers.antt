@@ -1,0 +1,7 @@
+-- The weight is summed over the rows kept, so what shrink leaves is the state with only these rows.
+use borrow.Author.Rules.{rules}
+use Rattle.retention.proofs.KeptRows.{swept}
+use Rattle.retention.proofs.rows.retain_rows.Goals as goal
+
+pub returns : goal.returns
+returns c = swept _ _ _ _ c.keep_rows-kept.ensures c.weight_of-stored.ensures c.shrink.ensures

@@ -1,0 +1,41 @@
+-- The best row and the count are those of the rows from i on; a row that ties replaces the best, so the lower key wins.
+use mathlib.Core.Path.{ap, ◌∙◌}
+use Prim.Native.Nat.{ℕ}
+use native.Mathlib.Omega.{arith}
+use lib.Dec.{eqb}
+use borrow.Author.Rules.{rules}
+use Rattle.rules.specs.Rows.{at_place}
+use Rattle.rules.specs.Memory.{view_rows}
+use Rattle.memory.proofs.RowLaws.{view_length}
+use Rattle.stamps.proofs.RowTotals.{Counted, one_at_most, counted_start, counted_turn, counted_end}
+use Rattle.stamps.proofs.LowestLaws.{Down, down_start, down_row, down_end}
+use Rattle.stamps.proofs.lowest.lowest_stamp.Goals as goal
+
+pub loop-i-init : goal.loop-i-init
+loop-i-init c =
+    let e = view_length c.args.n c.args.state.now in
+    (counted_start e, down_start e c.no_row-best.ensures)
+
+pub lower_row-best-requires : goal.lower_row-best-requires
+lower_row-best-requires c =
+    let h = c.loop-i.invariant.0.within in omega arith
+
+pub place-requires : goal.place-requires
+place-requires c =
+    let h = c.loop-i.invariant.0.within in omega arith
+
+pub overflow_add-count : goal.overflow_add-count
+overflow_add-count c = omega (arith, c.loop-i.invariant.0.few, one_at_most (eqb c.place.result c.args.place))
+
+pub loop-i-preserved : goal.loop-i-preserved
+unfolding at_place
+loop-i-preserved c =
+    let v = c.loop-i.invariant in
+    let q = ap (λ (x : ℕ). eqb x c.args.place) c.place.ensures in
+    (counted_turn v.0 c.loop-i-test.true q, down_row v.0 c.loop-i-test.true c.lower_row-best.ensures v.1)
+
+pub returns : goal.returns
+returns c =
+    let z = c.loop-i-test.false in
+    let v = c.loop-i.invariant in
+    record { row = c.row_of.ensures ∙ down_end z v.1; count = counted_end v.0 z }

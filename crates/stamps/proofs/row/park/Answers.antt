@@ -1,0 +1,7 @@
+-- A stamp drawn at PARKED with the row's own verified_until changes the row as parkedAt does.
+use Rattle.stamps.proofs.StampedRows.{parked_anew}
+use borrow.Author.Rules.{rules}
+use Rattle.stamps.proofs.row.park.Goals as goal
+
+pub returns : goal.returns
+returns c = parked_anew _ _ _ _ c.verified_until-until.ensures c.draw_stamp.ensures

@@ -1,0 +1,13 @@
+-- The filed place and last_used are what a refiled row has, so the drawn stamp is the rule's restamp.
+use mathlib.Core.Path.{ap, ◌∙◌}
+use Prim.Native.Nat.{ℕ}
+use mathlib.Core.Bool.{cond}
+use lib.Dec.{ltb}
+use Rattle.stamps.proofs.StampedRows.{restamped}
+use borrow.Author.Rules.{rules}
+use Rattle.stamps.proofs.row.restamp.Goals as goal
+
+pub returns : goal.returns
+returns c =
+    let q = c.filed_place-place.ensures ∙ ap (λ (x : ℕ). cond (ltb x 2) 0 x) c.place.ensures in
+    restamped _ _ _ _ _ q c.last_used-used.ensures c.draw_stamp.ensures

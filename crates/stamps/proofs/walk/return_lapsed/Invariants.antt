@@ -1,0 +1,18 @@
+-- Each lapsed row that is restamped takes one visit off those left, and what the walk still has to do stays the same.
+use mathlib.Core.Path.{◌≡◌, refl}
+use native.Mathlib.Omega.{arith}
+use borrow.Author.Rules.{rules}
+use Rattle.rules.specs.Records.{by_use, parked}
+use Rattle.rules.specs.Rows.{lowest_stamp, total}
+use Rattle.rules.specs.Room.{main_visits}
+use Rattle.rules.specs.Memory.{view_rows}
+use Rattle.rules.proofs.Loops.{waking}
+use Rattle.stamps.specs.Walked.{lowest_of}
+use Rattle.stamps.proofs.WalkLaws.{Going, Found, Turned, found_row, found_none, lapsed_left, lapsed_turn, lapsed_rests, lapsed_ends}
+use Rattle.stamps.proofs.walk.return_lapsed.Given as goal
+
+abbrev pub invariant-loop-parked : goal.invariant-loop-parked
+invariant-loop-parked l = Going waking l.time l.n 0 l.rows l.initial.state l.state × (lowest_of l.parked ≡ lowest_stamp parked (view_rows l.n l.state).rows) × (lowest_of l.next ≡ lowest_stamp by_use (view_rows l.n l.state).rows)
+
+abbrev pub decreases-loop-parked : goal.decreases-loop-parked
+decreases-loop-parked l = total (main_visits l.time) (view_rows l.n l.state).rows
