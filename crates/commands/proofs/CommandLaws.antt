@@ -55,8 +55,8 @@ given_by {l = l} {k = k} {i = i} {vs = vs} e m n o =
     record { sounds = e; memory = all_bytes l (λ j. (m j).fits); input = all_bytes i (λ j. (n j).fits); sender = owned_sender k vs o }
 
 -- unchecked calls ask for a sound memory
-pub is_sound : {f s : Bool} → f ≡ s → not f ≡ false → s ≡ true
-is_sound {f = f} e h = sym e ∙ not-false f h
+pub is_sound : {f s : Bool} → f ≡ s → f ≡ true → s ≡ true
+is_sound {f = f} e h = sym e ∙ h
 
 -- ---- the command byte
 
@@ -131,10 +131,10 @@ called {b = b} {l = l} {k = k} {i = i} {at = at} g {c = c} n h {x = x} e m =
 
 module _ {b : ℕ} {l : List ℕ} {f : Bool} {k : Sender} {bs : List ℕ} {q : Call} {k' : Sender} (c : Called b l f k bs q k') {r : AfterCommand} where
   -- UNSOUND: refused by 1
-  pub unsound : {k'' : Sender} → not f ≡ true → k'' ≡ k' → r ≡ refused_by 1 f k'' → Answers (obey_byte (session l k) b bs) r l
+  pub unsound : {k'' : Sender} → f ≡ false → k'' ≡ k' → r ≡ refused_by 1 f k'' → Answers (obey_byte (session l k) b bs) r l
   unfolding answered reply
   unsound n e h =
-      let u = unsound_one l q (sym c.sounds ∙ not-true f n) in
+      let u = unsound_one l q (sym c.sounds ∙ n) in
       rw (c.obeyed, h, u.answer, u.memory) (record { says = refl; sends = e; leaves = refl; sounds = c.sounds })
 
   -- DONE: the call that was made is the one that the operands name

@@ -24,13 +24,13 @@ use Rattle.coordcache.proofs.ToldReplies.{told}
 -- ---- the test of soundness
 
 -- it was passed
-pub found_sound : {b s : Bool} → b ≡ s → not b ≡ false → s ≡ true
-found_sound {b} e g = sym e ∙ not-false b g
+pub found_sound : {b s : Bool} → b ≡ s → b ≡ true → s ≡ true
+found_sound {b} e g = sym e ∙ g
 
 -- it was not: number 1 is told, and nothing else is done
-module _ (l : List ℕ) {b : Bool} (e : b ≡ sound (capacity l) (view l)) (g : not b ≡ true) where
+module _ (l : List ℕ) {b : Bool} (e : b ≡ sound (capacity l) (view l)) (g : b ≡ false) where
   found_unsound : sound (capacity l) (view l) ≡ false
-  found_unsound = sym e ∙ not-true b g
+  found_unsound = sym e ∙ g
 
   pub one_told : (q : Call) {r : Reply} {n : ℕ} {vs : List ℕ} → r ≡ refuses 1 → n ≡ r.refusal → vs ≡ r.values → Told (call l q) n vs l
   unfolding reply

@@ -20,16 +20,16 @@ said l q n e = let u = call_refused l q n e in (sym u.answer, sym u.memory)
 -- the test of every public call: b is what is_sound answers
 module _ (l : List ℕ) {b : Bool} (e : b ≡ sound (capacity l) (view l)) where
   -- the call goes on
-  pub checked : not b ≡ false → sound (capacity l) (view l) ≡ true
-  checked h = sym e ∙ not-false b h
+  pub checked : b ≡ true → sound (capacity l) (view l) ≡ true
+  checked h = sym e ∙ h
 
   -- or is refused by number 1
-  pub unsound : not b ≡ true → sound (capacity l) (view l) ≡ false
-  unsound h = sym e ∙ not-true b h
+  pub unsound : b ≡ false → sound (capacity l) (view l) ≡ false
+  unsound h = sym e ∙ h
 
-  pub one_said : (q : Call) → not b ≡ true → (Refused 1 ≡ (call l q).answer) × (l ≡ (call l q).memory)
+  pub one_said : (q : Call) → b ≡ false → (Refused 1 ≡ (call l q).answer) × (l ≡ (call l q).memory)
   one_said q h = said l q 1 (refused_one (capacity l) (view l) q (unsound h))
 
-  pub one_numbered : (q : Call) → not b ≡ true → (1 ≡ refusal_of (call l q).answer) × (l ≡ (call l q).memory)
+  pub one_numbered : (q : Call) → b ≡ false → (1 ≡ refusal_of (call l q).answer) × (l ≡ (call l q).memory)
   unfolding refusal_of
   one_numbered q h = let u = one_said q h in (ap refusal_of u.0, u.1)

@@ -42,8 +42,8 @@ sound_checked l {n} c e =
     record { shown = m; head = omega arith; fits = omega arith; there = omega arith; held = omega arith; rising = r; ascending = ap (λ (s : State). ascends s.rows) m.same ∙ r }
 
 -- as a caller has it past `if !is_sound(state) { return .. }`
-pub when_checked : (l : List ℕ) {n : ℕ} {x : Bool} → n ≡ (view_rows 0 l).row_count → x ≡ sound (capacity l) (view l) → not x ≡ false → Checked l n
-when_checked l {n} {x} c e f = sound_checked l c (sym e ∙ not-false x f)
+pub when_checked : (l : List ℕ) {n : ℕ} {x : Bool} → n ≡ (view_rows 0 l).row_count → x ≡ sound (capacity l) (view l) → x ≡ true → Checked l n
+when_checked l {n} {x} c e f = sound_checked l c (sym e ∙ f)
 
 -- fresh's refusal 5 is the head's check, of no rows
 pub size_refused : (R m : ℕ) → bad_size R m ≡ not (head_sound R m 0)

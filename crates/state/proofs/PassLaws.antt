@@ -61,13 +61,13 @@ at_most true w = omega arith
 at_most false w = omega arith
 
 module _ (q : ℕ) (rs : List Row) (t : Totals) (i : ℕ) (p : Passing q rs t i) (h : i < length rs) where
-  pub row_stops : (M Q w : ℕ) {x : Bool} → x ≡ row_sound q (row_at i rs) → not x ≡ true → false ≡ rows_sound M Q q w rs
+  pub row_stops : (M Q w : ℕ) {x : Bool} → x ≡ row_sound q (row_at i rs) → x ≡ false → false ≡ rows_sound M Q q w rs
   unfolding rows_sound
-  row_stops M Q w {x} e f = rw (p.each, all_turn rs i h (row_sound q), ← e, not-true x f) (simp and-false)
+  row_stops M Q w {x} e f = rw (p.each, all_turn rs i h (row_sound q), ← e, f) (simp and-false)
 
-  pub key_stops : (M Q w : ℕ) {x : Bool} → x ≡ leads (row_at i rs) (drop (i + 1) rs) → not x ≡ true → false ≡ rows_sound M Q q w rs
+  pub key_stops : (M Q w : ℕ) {x : Bool} → x ≡ leads (row_at i rs) (drop (i + 1) rs) → x ≡ false → false ≡ rows_sound M Q q w rs
   unfolding rows_sound
-  key_stops M Q w {x} e f = rw (p.keys, ascends_turn rs i h, ← e, not-true x f) (simp and-false)
+  key_stops M Q w {x} e f = rw (p.keys, ascends_turn rs i h, ← e, f) (simp and-false)
 
   turn : row_sound q (row_at i rs) ≡ true → leads (row_at i rs) (drop (i + 1) rs) ≡ true → (row_at i rs).weight < 256
       → Passing q rs (tallied t (row_at i rs).place (row_at i rs).weight) (i + 1)
@@ -95,9 +95,9 @@ module _ (q : ℕ) (rs : List Row) (t : Totals) (i : ℕ) (p : Passing q rs t i)
         light = omega arith;
       }
 
-  pub passing_turn : {x y : Bool} {k w : ℕ} → x ≡ row_sound q (row_at i rs) → not x ≡ false → y ≡ leads (row_at i rs) (drop (i + 1) rs) → not y ≡ false
+  pub passing_turn : {x y : Bool} {k w : ℕ} → x ≡ row_sound q (row_at i rs) → x ≡ true → y ≡ leads (row_at i rs) (drop (i + 1) rs) → y ≡ true
       → k ≡ (row_at i rs).place → w ≡ (row_at i rs).weight → w < 256 → Passing q rs (tallied t k w) (i + 1)
-  passing_turn {x} {y} {k} {w} a a1 b b1 ek ew z = rw (ek, ew) (turn (sym a ∙ not-false x a1) (sym b ∙ not-false y b1) (omega arith))
+  passing_turn {x} {y} {k} {w} a a1 b b1 ek ew z = rw (ek, ew) (turn (sym a ∙ a1) (sym b ∙ b1) (omega arith))
 
 pub passing_end : (q M Q w : ℕ) (rs : List Row) (t : Totals) (i : ℕ) → Passing q rs t i → length rs ≤ i
     → (leb t.main M && (leb t.probation Q && eqb w t.weight)) ≡ rows_sound M Q q w rs
@@ -157,11 +157,11 @@ held_all l h = let e : (view_rows 0 l).row_count ≡ held_rows l = omega arith i
 
 -- by what the check reads of a memory
 module _ (l : List ℕ) {R m n : ℕ} {x : Bool} (er : R ≡ capacity l) (em : m ≡ (view_rows 0 l).max_entries) (en : n ≡ (view_rows 0 l).row_count) (ex : x ≡ head_sound R m n) where
-  pub head_stops : not x ≡ true → false ≡ sound (capacity l) (view l)
-  head_stops e = rw (sound_parts l, ← er, ← em, ← en, ← ex, not-true x e)
+  pub head_stops : x ≡ false → false ≡ sound (capacity l) (view l)
+  head_stops e = rw (sound_parts l, ← er, ← em, ← en, ← ex, e)
 
-  pub rows_decide : {q w Q : ℕ} {y : Bool} → not x ≡ false → q ≡ (view_rows 0 l).seq → w ≡ (view_rows 0 l).stored_weight → Q ≡ probation_bound m → y ≡ rows_sound (R - Q) Q q w (view_rows n l).rows → y ≡ sound (capacity l) (view l)
+  pub rows_decide : {q w Q : ℕ} {y : Bool} → x ≡ true → q ≡ (view_rows 0 l).seq → w ≡ (view_rows 0 l).stored_weight → Q ≡ probation_bound m → y ≡ rows_sound (R - Q) Q q w (view_rows n l).rows → y ≡ sound (capacity l) (view l)
   rows_decide {q} {w} {Q} {y} e eq ew e_q ey =
-      let t : head_sound R m n ≡ true = sym ex ∙ not-false x e in
+      let t : head_sound R m n ≡ true = sym ex ∙ e in
       let v : view_rows n l ≡ view l = rw en (held_all l (omega (arith, (head_facts t).there))) in
-      rw (ey, sound_parts l, ← v, ← er, ← em, ← en, ← ex, not-false x e, eq, ew, e_q)
+      rw (ey, sound_parts l, ← v, ← er, ← em, ← en, ← ex, e, eq, ew, e_q)

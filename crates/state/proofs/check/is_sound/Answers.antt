@@ -1,6 +1,5 @@
 -- Head and rows together are `sound`; a head that passes counts no more rows than fit.
-use mathlib.Core.Bool.{not}
-use mathlib.Core.Path.{ap, sym, ◌∙◌}
+use mathlib.Core.Path.{sym, ◌∙◌}
 use native.Mathlib.Omega.{arith}
 use borrow.Author.Tests.{not-false}
 use borrow.Author.Rules.{rules}
@@ -20,7 +19,7 @@ unfolding capacity
 row_count-count-requires c = omega arith
 
 pub returns-then-not-head_is_sound : goal.returns-then-not-head_is_sound
-returns-then-not-head_is_sound c = head_stops c.args.state.now c.rows_that_fit-fit.ensures c.max_entries-max.ensures c.row_count-count.ensures c.head_is_sound.ensures (ap not c.if-not-head_is_sound.true)
+returns-then-not-head_is_sound c = head_stops c.args.state.now c.rows_that_fit-fit.ensures c.max_entries-max.ensures c.row_count-count.ensures c.head_is_sound.ensures c.if-not-head_is_sound.true
 
 pub seq-seq-requires : goal.seq-seq-requires
 unfolding capacity
@@ -42,4 +41,4 @@ rows_are_sound-requires c =
     omega arith
 
 pub returns : goal.returns
-returns c = rows_decide c.args.state.now c.rows_that_fit-fit.ensures c.max_entries-max.ensures c.row_count-count.ensures c.head_is_sound.ensures (ap not c.if-not-head_is_sound.false) c.seq-seq.ensures c.stored_weight-stored.ensures c.probation_bound-q.ensures c.rows_are_sound.ensures
+returns c = rows_decide c.args.state.now c.rows_that_fit-fit.ensures c.max_entries-max.ensures c.row_count-count.ensures c.head_is_sound.ensures c.if-not-head_is_sound.false c.seq-seq.ensures c.stored_weight-stored.ensures c.probation_bound-q.ensures c.rows_are_sound.ensures

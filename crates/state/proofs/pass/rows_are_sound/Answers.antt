@@ -1,6 +1,4 @@
 -- The loop has the rest of the rows still to check, and the totals are those of the rows passed.
-use mathlib.Core.Path.{ap}
-use mathlib.Core.Bool.{not}
 use Prim.Native.Nat.{◌-◌, ◌≤◌, ◌<◌}
 use native.Mathlib.Omega.{arith}
 use lib.ListN.{length}
@@ -17,19 +15,19 @@ pub returns-then-not-row_is_sound : goal.returns-then-not-row_is_sound
 returns-then-not-row_is_sound c =
     let rs = (view_rows c.args.n c.args.state.now).rows in
     let h : c.loop-i.i < length rs = rw view_length (omega arith) in
-    row_stops c.args.seq rs c.loop-i.t c.loop-i.i c.loop-i.invariant.1 h _ _ _ c.row_is_sound.ensures (ap not c.if-not-row_is_sound.true)
+    row_stops c.args.seq rs c.loop-i.t c.loop-i.i c.loop-i.invariant.1 h _ _ _ c.row_is_sound.ensures c.if-not-row_is_sound.true
 
 pub returns-then-not-key_rises : goal.returns-then-not-key_rises
 returns-then-not-key_rises c =
     let rs = (view_rows c.args.n c.args.state.now).rows in
     let h : c.loop-i.i < length rs = rw view_length (omega arith) in
-    key_stops c.args.seq rs c.loop-i.t c.loop-i.i c.loop-i.invariant.1 h _ _ _ c.key_rises.ensures (ap not c.if-not-key_rises.true)
+    key_stops c.args.seq rs c.loop-i.t c.loop-i.i c.loop-i.invariant.1 h _ _ _ c.key_rises.ensures c.if-not-key_rises.true
 
 pub loop-i-preserved : goal.loop-i-preserved
 loop-i-preserved c =
     let rs = (view_rows c.args.n c.args.state.now).rows in
     let h : c.loop-i.i < length rs = rw view_length (omega arith) in
-    (omega arith, rw c.counted-t.ensures (passing_turn c.args.seq rs c.loop-i.t c.loop-i.i c.loop-i.invariant.1 h c.row_is_sound.ensures (ap not c.if-not-row_is_sound.false) c.key_rises.ensures (ap not c.if-not-key_rises.false) c.place-place.ensures c.weight-weight.ensures (search rules)))
+    (omega arith, rw c.counted-t.ensures (passing_turn c.args.seq rs c.loop-i.t c.loop-i.i c.loop-i.invariant.1 h c.row_is_sound.ensures c.if-not-row_is_sound.false c.key_rises.ensures c.if-not-key_rises.false c.place-place.ensures c.weight-weight.ensures (search rules)))
 
 pub returns : goal.returns
 returns c =

@@ -1,0 +1,11 @@
+-- Both branches are those of touchedAt: with row i out the memory shows n - 1 rows, with row i refreshed it still shows n.
+use mathlib.Core.Path.{sym, ◌∙◌}
+use borrow.Author.Rules.{rules}
+use Rattle.lookups.proofs.TouchedRows.{touched_out, touched_kept}
+use Rattle.lookups.proofs.touch.touch_at.Goals as goal
+
+pub returns-then-is_expired : goal.returns-then-is_expired
+returns-then-is_expired c = touched_out _ _ _ _ _ (sym c.is_expired.ensures ∙ c.if-is_expired.true) c.remove_row.ensures
+
+pub returns : goal.returns
+returns c = touched_kept _ _ _ _ _ _ (sym c.is_expired.ensures ∙ c.if-is_expired.false) (c.wide-len.ensures.0 ∙ c.path_len.ensures) c.refresh_at.ensures

@@ -1,0 +1,11 @@
+-- putBack changes only a row that is aside: there the place becomes BY_USE, and any other row is left.
+use mathlib.Core.Path.{sym, ◌∙◌}
+use Rattle.room.proofs.RowsAside.{back_here, back_not_here}
+use borrow.Author.Rules.{rules}
+use Rattle.room.proofs.victims.put_row_back.Goals as goal
+
+pub returns-then-place-eq-ASIDE : goal.returns-then-place-eq-ASIDE
+returns-then-place-eq-ASIDE c = back_here _ _ _ (sym c.place.ensures ∙ c.if-place-eq-ASIDE.true) c.set_place.ensures
+
+pub returns-else-place-eq-ASIDE : goal.returns-else-place-eq-ASIDE
+returns-else-place-eq-ASIDE c = back_not_here _ _ (λ e. c.if-place-eq-ASIDE.false (c.place.ensures ∙ e))
