@@ -1,0 +1,23 @@
+-- Exchanging row i for the new one is takeOut, then fileNew: the row count stays n, and the zero row that takeOut adds is the one fileNew drops.
+use mathlib.Core.Path.{refl}
+use Rattle.rows.specs.Insertions.{row_from}
+use Rattle.entries.specs.NewEntries.{entry_from}
+use Rattle.filing.proofs.FiledRows.{same_seq}
+use Rattle.filing.proofs.FiledOverVictim.{place_without, filed_over}
+use borrow.Author.Rules.{rules}
+use Rattle.filing.proofs.file.file_over_victim.Goals as goal
+
+pub next_key-next-requires : goal.next_key-next-requires
+next_key-next-requires c = search (rules, same_seq _ _ c.set_stored_weight.ensures)
+
+pub exchange_row-requires : goal.exchange_row-requires
+exchange_row-requires c =
+    let over = c.requires.0 in
+    let inside = place_without over c.index_without-j.ensures in
+    search rules
+
+pub returns : goal.returns
+unfolding row_from entry_from
+returns c =
+    filed_over c.requires.0 c.index_without-j.ensures c.weight_with.ensures
+    c.set_stored_weight.ensures c.next_key-next.ensures c.set_row_count.ensures refl c.exchange_row.ensures

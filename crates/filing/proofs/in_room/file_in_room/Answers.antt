@@ -1,0 +1,17 @@
+-- Takes says what each case requires: a sound state with a free row without a victim, Over with one; withoutVictim has the same two cases.
+use Rattle.room.proofs.LeftVictims.{without_at, without_none}
+use Rattle.filing.proofs.FiledInRoom.{rows_there}
+use borrow.Author.Rules.{rules}
+use Rattle.filing.proofs.in_room.file_in_room.Goals as goal
+
+pub file_new-requires : goal.file_new-requires
+file_new-requires c = (c.requires.0.free c.in-Nothing.is, search rules)
+
+pub file_over_victim-requires : goal.file_over_victim-requires
+file_over_victim-requires c = (c.requires.0.over _ c.in-At.is, search rules)
+
+pub returns-in-Nothing : goal.returns-in-Nothing
+returns-in-Nothing c = rw (without_none _ _ c.in-Nothing.is) (rows_there _ _ _ c.file_new.ensures)
+
+pub returns-in-At : goal.returns-in-At
+returns-in-At c = rw (without_at _ _ _ c.in-At.is) (rows_there _ _ _ c.file_over_victim.ensures)

@@ -1,0 +1,12 @@
+-- Places for InsertStated needs two equations: ttl is the state's defaultTtl, and stated is startsAt of the key and the path.
+use mathlib.Core.Path.{◌∙◌}
+use Rattle.refusals.proofs.SoundCalls.{head_there}
+use Rattle.placement.proofs.HintCalls.{inserts_stated, shown_ttl}
+use borrow.Author.Rules.{rules}
+use Rattle.placement.proofs.calls.insert_stated_unchecked.Goals as goal
+
+pub default_ttl-default_ttl-requires : goal.default_ttl-default_ttl-requires
+default_ttl-default_ttl-requires c = head_there _ c.requires
+
+pub returns : goal.returns
+returns c = c.place_hint.ensures _ (inserts_stated _ _ _ _ _ _ _ (c.default_ttl-default_ttl.ensures ∙ shown_ttl _) c.starts_at-stated.ensures)

@@ -1,0 +1,19 @@
+-- The search decides as find does in verifiedEntry: update of the row found, or newEntry; markVerified follows in both cases.
+use mathlib.Core.Path.{◌∙◌}
+use Rattle.memory.proofs.Fields.{same_head}
+use Rattle.verification.proofs.VerifiedRows.{within, entry_held, entry_new}
+use borrow.Author.Rules.{rules}
+use Rattle.verification.proofs.insert.plain_entry.Goals as goal
+
+pub updated_entry-requires : goal.updated_entry-requires
+updated_entry-requires c = (within c.in-At.is c.requires.1, c.requires.0)
+
+pub returns-in-At : goal.returns-in-At
+returns-in-At c =
+    let ttl = c.default_ttl-ttl.ensures ∙ (same_head 0 c.args.n c.args.state.now).default_ttl in
+    (λ k e. entry_held k _ _ _ e ttl c.in-At.is c.updated_entry.ensures.0 c.verified_entry.ensures.0, c.verified_entry.ensures.1 ∙ c.updated_entry.ensures.1)
+
+pub returns-in-Absent : goal.returns-in-Absent
+returns-in-Absent c =
+    let ttl = c.default_ttl-ttl.ensures ∙ (same_head 0 c.args.n c.args.state.now).default_ttl in
+    (λ k e. entry_new k _ _ _ e ttl c.in-Absent.is c.new_entry.ensures.0 c.verified_entry-in-Absent.ensures.0, c.verified_entry-in-Absent.ensures.1 ∙ c.new_entry.ensures.1)

@@ -1,0 +1,18 @@
+-- withoutKey has the search's two cases: takeOut of row i where it was found, the state itself where it was not.
+use native.Mathlib.Omega.{arith}
+use Rattle.room.proofs.RoomToFile.{shown, laid_out}
+use Rattle.verification.proofs.VerifiedRows.{within, out_held, out_absent}
+use borrow.Author.Rules.{rules}
+use Rattle.verification.proofs.insert.take_out.Goals as goal
+
+pub remove_row-requires : goal.remove_row-requires
+remove_row-requires c = (within c.in-At.is c.requires.1, laid_out _ _ c.requires.0, (shown _ _ c.requires.0).stored_weight)
+
+pub overflow_sub-result : goal.overflow_sub-result
+overflow_sub-result c = omega (arith, within c.in-At.is c.requires.1)
+
+pub returns-in-At : goal.returns-in-At
+returns-in-At c = λ k e. out_held k _ e c.in-At.is c.remove_row.ensures
+
+pub returns-in-Absent : goal.returns-in-Absent
+returns-in-Absent c = λ k e. out_absent k _ e c.in-Absent.is
