@@ -15,7 +15,7 @@ use Rattle.commands.proofs.stats.next_expiry.Goals as goal
 pub returns-then-not-is_sound : goal.returns-then-not-is_sound
 unfolding code_of codes code read_as
 returns-then-not-is_sound c =
-    let makes : (bs : List ℕ) → Called 0x41 c.args.state.now c.args.is-sound c.args.sender bs NextExpiry c.args.sender = λ bs. let r : Reads codes 0x41 bs (Plain (Asked NextExpiry)) = record { code = _; known = refl; there = omega arith; says = refl } in
+    let makes : (bs : List ℕ) → Called 0x41 c.args.state.now c.args.is_sound c.args.sender bs NextExpiry c.args.sender = λ bs. let r : Reads codes 0x41 bs (Plain (Asked NextExpiry)) = record { code = _; known = refl; there = omega arith; says = refl } in
     called_bare c.args.state.now r plain (tt {0}) (all_bytes c.args.state.now (λ k. (c.shared_slice_known-1.given k).fits)) c.requires in
     record { bare = λ bs. unsound (makes bs) c.if-not-is_sound.true refl c.refused_one.ensures }
 
@@ -25,7 +25,7 @@ next_expiry_unchecked-requires c = is_sound c.requires c.if-not-is_sound.false
 pub returns : goal.returns
 unfolding code_of codes code read_as
 returns c =
-    let makes : (bs : List ℕ) → Called 0x41 c.args.state.now c.args.is-sound c.args.sender bs NextExpiry c.args.sender = λ bs. let r : Reads codes 0x41 bs (Plain (Asked NextExpiry)) = record { code = _; known = refl; there = omega arith; says = refl } in
+    let makes : (bs : List ℕ) → Called 0x41 c.args.state.now c.args.is_sound c.args.sender bs NextExpiry c.args.sender = λ bs. let r : Reads codes 0x41 bs (Plain (Asked NextExpiry)) = record { code = _; known = refl; there = omega arith; says = refl } in
     called_bare c.args.state.now r plain (tt {0}) (all_bytes c.args.state.now (λ k. (c.shared_slice_known-1.given k).fits)) c.requires in
     let s = c.next_expiry_unchecked.ensures in
     record { bare = λ bs. done (makes bs) _ refl (c.expiry_reply.ensures ∙ ap reply s.0) s.1 refl refl }

@@ -17,7 +17,7 @@ use Rattle.commands.proofs.sweep.clear.Goals as goal
 pub returns-then-not-is_sound : goal.returns-then-not-is_sound
 unfolding code_of codes code read_as
 returns-then-not-is_sound c =
-    let makes : (bs : List ℕ) → Called 0x31 c.args.state.now c.args.is-sound c.args.sender bs Clear c.args.sender = λ bs. let r : Reads codes 0x31 bs (Plain (Asked Clear)) = record { code = _; known = refl; there = omega arith; says = refl } in
+    let makes : (bs : List ℕ) → Called 0x31 c.args.state.now c.args.is_sound c.args.sender bs Clear c.args.sender = λ bs. let r : Reads codes 0x31 bs (Plain (Asked Clear)) = record { code = _; known = refl; there = omega arith; says = refl } in
     called_bare c.args.state.now r plain (tt {0}) (all_bytes c.args.state.now (λ k. (c.slice_known-1.given k).fits)) c.requires in
     record { bare = λ bs. unsound (makes bs) c.if-not-is_sound.true refl c.refused_one.ensures }
 
@@ -25,10 +25,9 @@ pub clear_unchecked-requires : goal.clear_unchecked-requires
 clear_unchecked-requires c = is_sound c.requires c.if-not-is_sound.false
 
 pub returns : goal.returns
-unfolding perform_request perform gives
-unfolding code_of codes code read_as
+unfolding perform_request perform gives code_of codes code read_as
 returns c =
-    let makes : (bs : List ℕ) → Called 0x31 c.args.state.now c.args.is-sound c.args.sender bs Clear c.args.sender = λ bs. let r : Reads codes 0x31 bs (Plain (Asked Clear)) = record { code = _; known = refl; there = omega arith; says = refl } in
+    let makes : (bs : List ℕ) → Called 0x31 c.args.state.now c.args.is_sound c.args.sender bs Clear c.args.sender = λ bs. let r : Reads codes 0x31 bs (Plain (Asked Clear)) = record { code = _; known = refl; there = omega arith; says = refl } in
     called_bare c.args.state.now r plain (tt {0}) (all_bytes c.args.state.now (λ k. (c.slice_known-1.given k).fits)) c.requires in
     let s = c.clear_unchecked.ensures in
     record { bare = λ bs. done (makes bs) _ refl (c.refused.ensures ∙ ap refuses s.0 ∙ sym (number_reply c.args.state.now (Asked Clear) refl)) s.1 refl refl }
