@@ -1,0 +1,15 @@
+-- The loop has moved the first n of the bytes left, as shifting down by `used` would.
+use mathlib.Core.Path.{◌≡◌, refl}
+use Prim.Native.Nat.{◌+◌, ◌-◌, ◌≤◌}
+use native.Mathlib.Omega.{arith}
+use native.Mathlib.Numerals.{add-one}
+use lib.ListN.{length, length-set}
+use borrow.Author.Rules.{rules}
+use Rattle.raw.proofs.MoveLaws.{down, down_start, down_step}
+use Rattle.stream.proofs.run.keep_unused.Given as goal
+
+abbrev pub invariant-loop-n : goal.invariant-loop-n
+invariant-loop-n l = (l.n ≤ l.left) × (l.buffer ≡ down 0 l.n l.used l.initial.buffer) × (length l.buffer ≡ length l.initial.buffer)
+
+abbrev pub decreases-loop-n : goal.decreases-loop-n
+decreases-loop-n l = l.left - l.n

@@ -1,0 +1,22 @@
+-- Where the loop stands the whole run is the lines so far and the run from there on; a command found is one turn more, and the others end it.
+use mathlib.Core.Path.{◌≡◌, refl, sym, ◌∙◌}
+use Prim.Native.Nat.{◌+◌, ◌-◌, ◌≤◌}
+use native.Mathlib.Omega.{arith}
+use lib.ListN.{length, drop, get_or}
+use Rattle.rules.specs.Sound.{sound}
+use Rattle.rules.specs.Memory.{capacity, view}
+use Rattle.commands.specs.OnMemory.{session}
+use Rattle.stream.specs.Runs.{run_part}
+use borrow.Author.Rules.{rules}
+use mir.Val.{Fits}
+use mir.Syntax.{w64}
+use Rattle.stream.specs.declared.run.Next.{Next}
+use Rattle.stream.specs.Running.{Going, next_is}
+use Rattle.stream.proofs.Turns.{Turn, start, same_room, over, ended, stops_full, stops_cut, ample, used, stops_six, goes_on}
+use Rattle.stream.proofs.run.run.Given as goal
+
+abbrev pub invariant-loop-at : goal.invariant-loop-at
+invariant-loop-at l = (l.at ≤ length l.input) × (length l.state ≡ length l.initial.state) × (length l.output ≡ length l.initial.output) × (l.is_sound ≡ sound (capacity l.state) (view l.state)) × Going (run_part (length l.input) l.last (length l.initial.output) (session l.initial.state l.initial.from) l.input) l.last l.input l.initial.output l.initial.counts l.at l.put l.from l.counts l.state l.output
+
+abbrev pub decreases-loop-at : goal.decreases-loop-at
+decreases-loop-at l = length l.input - l.at
