@@ -7,8 +7,9 @@ ghost use Rattle.std.specs.Prelude.{◌≡◌, length};
 ghost use Rattle.rules.specs.Commands.{coordrun_rows};
 ghost use Rattle.rules.specs.Layout.{memory_size};
 
-use libc::{STDERR_FILENO, STDIN_FILENO, STDOUT_FILENO};
 use raw::layout::{HEAD, ROW};
+use std::io;
+use std::io::Read;
 use stream::run::Ran;
 use stream::stop::Stop;
 use types::reply::Tally;
@@ -17,6 +18,9 @@ use types::sender::Sender;
 const ROWS: usize = 24;
 
 const MEMORY: usize = HEAD + ROWS * ROW;
+
+// Bytes of the input, and of the output, at a time.
+const BUFFER: usize = 65536;
 
 fn memory_of_24_rows() -> [u8; MEMORY]
     ensures { (memory_size coordrun_rows) ≡ length result }
@@ -98,25 +102,40 @@ fn is_six(stop: Stop) -> bool {
 }
 
 // One read, behind the bytes that are there. The input is never full: a run that wants more leaves less than one command.
-fn fill(input: &mut [u8], s: Session) -> Session {
+fn fill(rt: &HostRuntime, input: &mut [u8], s: Session) -> Session {
     let filled = s.filled;
     if filled >= input.len() {
         return s;
     }
-    let got = libc::read(STDIN_FILENO, &mut input[filled..]);
-    if got < 0 {
-        os::fail(b"coordrun: standard input");
-        return s.failed();
+    match rt.stdin().read(&mut input[filled..]) {
+        Ok(0) => s.at_last(),
+        Ok(more) => s.with_input(filled + more),
+        Err(error) => {
+            fail(rt, "standard input", error);
+            s.failed()
+        }
     }
-    if got == 0 {
-        return s.at_last();
+}
+
+// What could not be done, and the system's words for why, on standard error; nothing is left to do where that fails too.
+fn fail(rt: &HostRuntime, what: &str, error: io::Error) {
+    if let Ok(text) = format!(in rt.alloc(); "{error}") {
+        let words = match text.as_str().split_once(" (os error ") {
+            Some((words, _)) => words,
+            None => text.as_str(),
+        };
+        let _ = eprintln!(rt; "coordrun: {what}: {words}");
     }
-    let more = io::count(got, &input[filled..]);
-    s.with_input(filled + more)
 }
 
 // Its commands count also where their lines cannot be written.
-fn run_some(memory: &mut [u8], input: &mut [u8], output: &mut [u8], s: Session) -> Session {
+fn run_some(
+    rt: &HostRuntime,
+    memory: &mut [u8],
+    input: &mut [u8],
+    output: &mut [u8],
+    s: Session,
+) -> Session {
     let filled = s.filled;
     if filled > input.len() {
         return s.failed();
@@ -128,33 +147,41 @@ fn run_some(memory: &mut [u8], input: &mut [u8], output: &mut [u8], s: Session) 
     let written = ran.written;
     let left = stream::run::keep_unused(input, used, filled);
     let t = s.after(ran, left);
-    if io::write_all(STDOUT_FILENO, &output[0..written]) {
-        return t;
+    match rt.stdout().write_all(&output[0..written]) {
+        Ok(()) => t,
+        Err(error) => {
+            fail(rt, "standard output", error);
+            t.failed()
+        }
     }
-    os::fail(b"coordrun: standard output");
-    t.failed()
 }
 
-fn turn(memory: &mut [u8], input: &mut [u8], output: &mut [u8], s: Session) -> Session {
+fn turn(
+    rt: &HostRuntime,
+    memory: &mut [u8],
+    input: &mut [u8],
+    output: &mut [u8],
+    s: Session,
+) -> Session {
     if s.wants_input & !s.last {
-        let t = fill(input, s);
+        let t = fill(rt, input, s);
         if t.over {
             return t;
         }
-        return run_some(memory, input, output, t);
+        return run_some(rt, memory, input, output, t);
     }
-    run_some(memory, input, output, s)
+    run_some(rt, memory, input, output, s)
 }
 
 // A proved loop has to end, and nothing says that the input does. So it counts its turns down, from a number that no run
 // uses up.
 // 24 rows are room enough for max 8, so fresh is done (stream, StreamDemand.fresh-24).
-fn serve(memory: &mut [u8], input: &mut [u8], output: &mut [u8]) -> Tally {
+fn serve(rt: &HostRuntime, memory: &mut [u8], input: &mut [u8], output: &mut [u8]) -> Tally {
     state::fresh::fresh(memory, 8, 300000);
     let mut s = Session::new();
     let mut turns = u64::MAX;
     while 0 < turns {
-        s = turn(memory, input, output, s);
+        s = turn(rt, memory, input, output, s);
         if s.over {
             return s.tally;
         }
@@ -163,18 +190,12 @@ fn serve(memory: &mut [u8], input: &mut [u8], output: &mut [u8]) -> Tally {
     s.tally
 }
 
-fn print_tally(t: Tally) {
-    io::write_all(STDERR_FILENO, b"coordrun: ");
-    io::print_decimal(STDERR_FILENO, t.done);
-    io::write_all(STDERR_FILENO, b" done, ");
-    io::print_decimal(STDERR_FILENO, t.refused);
-    io::write_all(STDERR_FILENO, b" refused\n");
-}
-
-fn main() {
+fn main(rt: HostRuntime) {
     let mut memory = memory_of_24_rows();
-    let mut input = io::large_buffer();
-    let mut output = io::large_buffer();
-    let tally = serve(&mut memory, &mut input, &mut output);
-    print_tally(tally);
+    let mut input = [0; BUFFER];
+    let mut output = [0; BUFFER];
+    let tally = serve(&rt, &mut memory, &mut input, &mut output);
+    let done = tally.done;
+    let refused = tally.refused;
+    let _ = eprintln!(rt; "coordrun: {done} done, {refused} refused");
 }

@@ -10,7 +10,6 @@ mod text;
 ghost use Rattle.std.specs.Prelude.{◌≡◌, length};
 ghost use Rattle.rules.specs.Layout.{memory_size};
 
-use libc::STDIN_FILENO;
 use raw::layout::{HEAD, ROW};
 use session::Session;
 use types::reply::Tally;
@@ -142,7 +141,7 @@ fn main() {
     let mut memory = whole_memory();
     let mut space = io::large_buffer();
     let mut output = io::large_buffer();
-    let n = io::read_full(STDIN_FILENO, &mut space);
+    let n = io::read_full(0, &mut space);
     let s = replay(&space[..n], &mut memory, &mut output);
     print::all(whole(s));
 }

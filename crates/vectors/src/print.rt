@@ -1,14 +1,13 @@
 // One line for each stream, and one for all.
 use crate::session;
 use crate::session::Session;
-use libc::STDOUT_FILENO;
 
 fn word(text: &[u8]) {
-    io::write_all(STDOUT_FILENO, text);
+    io::write_all(1, text);
 }
 
 fn number(n: u64) {
-    io::print_decimal(STDOUT_FILENO, n);
+    io::print_decimal(1, n);
 }
 
 fn same(s: Session) -> Session {

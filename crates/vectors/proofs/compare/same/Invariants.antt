@@ -1,0 +1,11 @@
+-- Past the first test the lengths are equal, so an index of a is one of b too.
+use Prim.Native.Nat.{◌-◌, ◌≤◌}
+use lib.ListN.{length}
+use borrow.Author.Rules.{rules}
+use Rattle.vectors.proofs.compare.same.Given as goal
+
+abbrev pub invariant-loop-i : goal.invariant-loop-i
+invariant-loop-i l = l.i ≤ length l.a
+
+abbrev pub decreases-loop-i : goal.decreases-loop-i
+decreases-loop-i l = length l.a - l.i
