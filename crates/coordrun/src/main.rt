@@ -117,15 +117,24 @@ fn fill(rt: &HostRuntime, input: &mut [u8], s: Session) -> Session {
     }
 }
 
-// What could not be done, and the system's words for why, on standard error; nothing is left to do where that fails too.
-fn fail(rt: &HostRuntime, what: &str, error: io::Error) {
-    if let Ok(text) = format!(in rt.alloc(); "{error}") {
-        let words = match text.as_str().split_once(" (os error ") {
-            Some((words, _)) => words,
-            None => text.as_str(),
-        };
-        let _ = eprintln!(rt; "coordrun: {what}: {words}");
+// The system's words for an error, without its number.
+fn words(text: &str) -> &str {
+    match text.split_once(" (os error ") {
+        Some((words, _)) => words,
+        None => text,
     }
+}
+
+// What could not be done, and why, on standard error.
+fn report(rt: &HostRuntime, what: &str, error: io::Error) -> io::Result<()> {
+    let text = format!(in rt.alloc(); "{error}")?;
+    let why = words(text.as_str());
+    eprintln!(rt; "coordrun: {what}: {why}")
+}
+
+// Where that fails too, nothing is left to do.
+fn fail(rt: &HostRuntime, what: &str, error: io::Error) {
+    let _ = report(rt, what, error);
 }
 
 // Its commands count also where their lines cannot be written.
@@ -173,19 +182,16 @@ fn turn(
     run_some(rt, memory, input, output, s)
 }
 
-// A proved loop has to end, and nothing says that the input does. So it counts its turns down, from a number that no run
-// uses up.
-// 24 rows are room enough for max 8, so fresh is done (stream, StreamDemand.fresh-24).
+// A proved loop has to end, and nothing says that the input does. So it has as many turns as no run uses up.
+// 24 rows are room enough for max 8, so fresh is done (stream, StreamDemand.fresh_24).
 fn serve(rt: &HostRuntime, memory: &mut [u8], input: &mut [u8], output: &mut [u8]) -> Tally {
     state::fresh::fresh(memory, 8, 300000);
     let mut s = Session::new();
-    let mut turns = u64::MAX;
-    while 0 < turns {
+    for _ in 0..u64::MAX {
         s = turn(rt, memory, input, output, s);
         if s.over {
             return s.tally;
         }
-        turns -= 1;
     }
     s.tally
 }
