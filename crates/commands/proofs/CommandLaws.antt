@@ -1,16 +1,15 @@
 -- What one command leaves: refused by 6, refused by 1, or its call done; and 00 and 01, which are no calls.
-use mathlib.Core.Path.{◌≡◌, refl, sym, ◌∙◌, ap, subst}
+use mathlib.Core.Path.{◌≡◌, refl, sym, ◌∙◌, ap}
 use Prim.Native.Nat.{ℕ, ◌+◌, ◌-◌, ◌≤◌, ◌<◌}
 use native.Mathlib.Omega.{arith}
 use mathlib.Core.List.{List}
 use mathlib.Core.Option.{none, some}
-use mathlib.Core.Bool.{Bool, true, false, not, ◌||◌}
+use mathlib.Core.Bool.{Bool, true, false, ◌||◌}
 use lib.Dec.{eqb}
 use lib.ListN.{length, get_or, drop, length-drop}
 use mir.Syntax.{w8}
 use mir.Val.{Val, Fits}
 use denote.Laws.{Is}
-use borrow.Author.Tests.{not-true, not-false}
 use Rattle.types.specs.contracts.sender.Sender as Whole
 use Rattle.types.specs.declared.sender.Sender.{Sender}
 use Rattle.types.specs.declared.coord.CoordEntry.{CoordEntry}
@@ -31,7 +30,7 @@ use Rattle.rules.proofs.Public.{unsound_one}
 use Rattle.rules.proofs.CommandRuns.{Reads}
 use Rattle.rules.proofs.LentSound.{call_same, fresh_sound, number_reply}
 use Rattle.memory.proofs.OwnedValues.{owned_path}
-use Rattle.commands.specs.OnMemory.{Session, Obeyed, session, answered, pended, obey, refused_six, obey_byte}
+use Rattle.commands.specs.OnMemory.{Session, session, answered, pended, obey, refused_six, obey_byte}
 use Rattle.commands.specs.declared.command.AfterCommand.{AfterCommand}
 use Rattle.commands.specs.After.{Answers, AnswersBare, refused_by}
 use Rattle.commands.proofs.Operands.{decoded, cut_none, bad_none, unknown_none, first_at, number_at}

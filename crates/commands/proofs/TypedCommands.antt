@@ -19,7 +19,6 @@ use Rattle.types.specs.declared.placed.Funding.{Funding}
 use Rattle.types.specs.declared.placed.Funding.TheVariants.{Upto, Uncharged}
 use Rattle.rules.specs.Cases.{maybe, Every}
 use Rattle.rules.specs.Memory.{cut, le_number}
-use Rattle.rules.specs.Refusals.{Request, Asked}
 use Rattle.rules.specs.Lent.{Bytes, Small, AddrFits, CoordEntryFits, PathFits, WriteFits, Typed, TypedRequest}
 use Rattle.rules.specs.Layout.{mtu_size, number_size, address_size}
 use Rattle.rules.specs.Commands.{Code, Command, Element, WithPath, Plain, Operands, Elements, Writes, Funds, Requests, code, codes, read_as, key_in, time_in, kind_in, amount_in, funded, fresh_max_size, time_at, key_time_size}

@@ -12,7 +12,7 @@ use Rattle.rules.specs.Rows.{row_at}
 use Rattle.rules.specs.Sound.{sound}
 use Rattle.rules.specs.Entries.{expired}
 use Rattle.rules.specs.Lookups.{unexpired_row}
-use Rattle.rules.specs.Calls.{Get, GetAndTouch, Refused, path_given, verified_write, draws_stamps}
+use Rattle.rules.specs.Calls.{Get, GetAndTouch, path_given, verified_write, draws_stamps}
 use Rattle.rules.specs.Refusals.{refusal, Asked, perform_request, perform, gives, serve}
 use Rattle.rules.specs.Answers.{refusal_of}
 use Rattle.types.specs.declared.answers.TouchAnswer.{TouchAnswer}

@@ -1,7 +1,6 @@
 -- What owning a value tells: how long its arrays are, and that its numbers fit.
 use Prim.Native.Nat.{ℕ}
-use mathlib.Core.List.{List, [], ◌∷◌, map}
-use lib.ListN.{length-map}
+use mathlib.Core.List.{List, [], ◌∷◌}
 use mir.Val.{Val}
 use denote.Shadow.{shadow}
 use denote.Laws.{Is}

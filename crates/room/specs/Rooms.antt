@@ -3,7 +3,7 @@ use Rattle.std.specs.Prelude.{◌≡◌, ℕ, ◌+◌, ◌≤◌, ◌<◌, ◌*�
 use Rattle.std.proofs.Math.Option.{none}
 use Rattle.types.specs.declared.node_addr.NodeAddr.{NodeAddr}
 use Rattle.types.specs.Values.{largest_number}
-use Rattle.rules.specs.Records.{Row, State, probation, aside, max_rows, weight_limit}
+use Rattle.rules.specs.Records.{Row, State, aside, max_rows, weight_limit}
 use Rattle.rules.specs.Rows.{row_at, at_place, in_main, find, without_row, total, weigh_rows, main_count, main_weight}
 use Rattle.rules.specs.Sound.{sound, ascends}
 use Rattle.rules.specs.Room.{Chosen, Room, probation_visits, take_out}

@@ -1,5 +1,5 @@
 -- Each call on a sound state: it stays sound; accounts, funding, and what it spares; stamps drawn and keys examined.
-use Prim.Native.Nat.{ℕ, ◌+◌, ◌-◌, ◌*◌, ◌<◌, ◌≤◌}
+use Prim.Native.Nat.{ℕ, ◌+◌, ◌*◌, ◌<◌, ◌≤◌}
 use mathlib.Core.Path.{◌≡◌, refl, sym, ◌∙◌, ap, subst}
 use mathlib.Core.List.{List, []}
 use mathlib.Core.Option.{Option, none, some}
@@ -31,7 +31,6 @@ use Rattle.rules.proofs.RowLists.{Core, Found, by_cond, by_maybe, core, cores, e
 use Rattle.rules.proofs.Limits.{limits_of, probation_of, ttl_of}
 use Rattle.rules.proofs.SoundTest.{RowOk, Sound, and_left, and_right}
 use Rattle.rules.proofs.Walks.{room_roomed}
-use Rattle.rules.proofs.Loops.{from}
 use Rattle.rules.proofs.Moves.{EntryOk, Gone, change_sound, file_main, keep_sound, only_sound, ready, refile_sound, take_out_sound}
 use Rattle.rules.proofs.Others.{LeavesOthers, Own, PathOk, change_leaves, change_own, charge, covers_zero, file_leaves, file_own, file_new_seq, gone_own, leaves_refl, leaves_trans, made_free, place_hint_kept, refile_leaves, refile_own, refile_seq, room_from, room_gone, segment_rows, take_out_gone, take_out_leaves, take_out_main, take_out_mains, take_out_limits, take_out_rows, take_out_seq, weight_ok}
 use Rattle.rules.proofs.Refused.{Allowed}

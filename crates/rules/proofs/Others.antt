@@ -30,7 +30,6 @@ use Rattle.rules.proofs.RowLists.{Core, Unique, by_cond, by_maybe, core, cores, 
 use Rattle.rules.proofs.Limits.{limits_of, probation_of}
 use Rattle.rules.proofs.SoundTest.{RowOk, Sound}
 use Rattle.rules.proofs.Walks.{Roomed, main_small, room_roomed}
-use Rattle.rules.proofs.Loops.{from}
 use Rattle.rules.proofs.Moves.{EntryOk, Gone, ProbationEvicted, file_main, file_probation, own_ok, probation_evict, probation_seen, ready, refile_sound, room_sound, take_out_sound}
 
 -- ---- what a call that names k may do to a state, at the time now

@@ -1,6 +1,6 @@
 -- What the result of each public call says, as an answer of the rules.
-use Rattle.std.specs.Prelude.{ℕ, Bool, length}
-use Rattle.std.proofs.Math.Option.{Option, none, some}
+use Rattle.std.specs.Prelude.{ℕ, length}
+use Rattle.std.proofs.Math.Option.{none, some}
 use Rattle.types.specs.Paths.{empty_path}
 use Rattle.types.specs.declared.entry.CacheEntry.{CacheEntry}
 use Rattle.types.specs.declared.entry.PathMtu.TheVariants.{Unknown}
@@ -13,7 +13,6 @@ use Rattle.types.specs.declared.answers.SweepAnswer.{SweepAnswer}
 use Rattle.types.specs.declared.answers.StatsAnswer.{StatsAnswer}
 use Rattle.types.specs.declared.answers.ExpiryAnswer.{ExpiryAnswer}
 use Rattle.types.specs.declared.answers.Removal.{Removal}
-use Rattle.types.specs.declared.answers.RemoveAnswer.{RemoveAnswer}
 use Rattle.types.specs.declared.reply.Reply.{Reply}
 use Rattle.types.specs.Values.{says, refuses}
 use Rattle.rules.specs.Cases.{maybe}

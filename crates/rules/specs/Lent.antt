@@ -1,17 +1,15 @@
 -- Requests on the lent memory: answer, memory, and the part that a lookup hands back.
-use Rattle.std.specs.Prelude.{ℕ, zero, suc, ◌+◌, ◌*◌, ◌<◌, ◌/◌, ◌≡◌, List, [], ◌∷◌, Bool, true, false, cond, length}
-use Rattle.std.proofs.Math.Option.{Option, none, some}
+use Rattle.std.specs.Prelude.{ℕ, zero, suc, ◌+◌, ◌*◌, ◌<◌, ◌/◌, ◌≡◌, List, [], ◌∷◌, cond, length}
 use Rattle.types.specs.declared.node_addr.NodeAddr.{NodeAddr}
 use Rattle.types.specs.declared.coord.CoordEntry.{CoordEntry}
 use Rattle.types.specs.declared.coord.Path.{Path}
 use Rattle.types.specs.Paths.{path_places}
 use Rattle.rules.specs.Cases.{maybe, Every}
-use Rattle.rules.specs.Records.{State}
 use Rattle.rules.specs.Rows.{row_at}
 use Rattle.rules.specs.Memory.{cut, capacity, view, memory}
 use Rattle.rules.specs.Lookups.{unexpired_row}
 use Rattle.rules.specs.Calls.{Call, Insert, InsertWithTtl, InsertFunded, InsertStated, InsertVerified, InsertVerifiedWithPathMtu, Get, GetAndTouch, Remove, Demote, ClearPathMtu, PurgeExpired, Clear, InvalidateViaNode, InvalidateOtherRoots, Stats, NextExpiry, Answer, was_refused}
-use Rattle.rules.specs.Refusals.{Request, Fresh, Asked, refusal, Step, serve}
+use Rattle.rules.specs.Refusals.{Request, Fresh, Asked, refusal, serve}
 use Rattle.rules.specs.Lists.{Event, Served}
 use Rattle.rules.specs.Layout.{address_size, coord_entry_size, entry_offset, head_size, mtu_size, number_size, places_offset, row_size}
 

@@ -2,7 +2,7 @@
 use Rattle.std.specs.Prelude.{ℕ, List, [], ◌∷◌}
 use Rattle.rules.specs.Records.{State}
 use Rattle.rules.specs.Calls.{Call, Answer}
-use Rattle.rules.specs.Refusals.{Request, Step, serve, step}
+use Rattle.rules.specs.Refusals.{Request, serve, step}
 
 pub record Event : Type 0 where
   pub call : Call

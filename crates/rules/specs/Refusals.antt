@@ -1,5 +1,5 @@
 -- Refusals of document 01 as one table, and a request's answer and state by it.
-use Rattle.std.specs.Prelude.{ℕ, ◌+◌, ◌*◌, ◌-◌, List, [], ◌∷◌, ◌++◌, Bool, true, false, cond, ◌&&◌, ◌||◌, not, ltb, leb, eqb, length, drop}
+use Rattle.std.specs.Prelude.{ℕ, ◌+◌, ◌*◌, ◌-◌, List, [], ◌∷◌, ◌++◌, Bool, false, cond, ◌&&◌, ◌||◌, not, ltb, leb, eqb, length, drop}
 use Rattle.std.proofs.Math.Option.{Option, none, some}
 use Rattle.types.specs.declared.node_addr.NodeAddr.{NodeAddr}
 use Rattle.types.specs.declared.coord.Path.{Path}
@@ -8,11 +8,11 @@ use Rattle.types.specs.Paths.{path_places, contains, root_of, starts_at, path_we
 use Rattle.types.specs.declared.placed.Funding.TheVariants.{Uncharged}
 use Rattle.types.specs.Values.{largest_number}
 use Rattle.rules.specs.Cases.{maybe}
-use Rattle.rules.specs.Records.{Entry, Row, State, max_rows, probation_bound, main_limit}
+use Rattle.rules.specs.Records.{Entry, State, max_rows, probation_bound, main_limit}
 use Rattle.rules.specs.Rows.{row_at, in_main, find, main_count, zero_rows, with_only_rows}
 use Rattle.rules.specs.Sound.{sound}
 use Rattle.rules.specs.Entries.{expired}
-use Rattle.rules.specs.Room.{Walk, room_can_be_made}
+use Rattle.rules.specs.Room.{room_can_be_made}
 use Rattle.rules.specs.Placement.{PlaceResult, place_hint, without_key, insert_verified}
 use Rattle.rules.specs.Lookups.{get, touched, removed_entry, demoted, holds, clear_path_mtu, sweep, matching}
 use Rattle.rules.specs.Statistics.{stats, next_expiry}

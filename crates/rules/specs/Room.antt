@@ -1,5 +1,5 @@
 -- Stamps and room of document 01 (next_key, file_new, refile, next_victim, make_room, make_probation_room).
-use Rattle.std.specs.Prelude.{ℕ, zero, suc, ◌+◌, min, List, [], ◌∷◌, map, Bool, true, false, cond, ◌&&◌, ◌||◌, not, ltb, leb, eqb, length, drop}
+use Rattle.std.specs.Prelude.{ℕ, zero, suc, ◌+◌, min, map, Bool, true, false, cond, ◌&&◌, not, ltb, leb, eqb, length, drop}
 use Rattle.std.proofs.Math.Option.{Option, none, some}
 use Rattle.types.specs.declared.node_addr.NodeAddr.{NodeAddr}
 use Rattle.rules.specs.Cases.{maybe}

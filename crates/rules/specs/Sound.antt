@@ -1,5 +1,5 @@
 -- When a state of R rows is sound, in the order of document 01.
-use Rattle.std.specs.Prelude.{ℕ, ◌+◌, List, [], ◌∷◌, Bool, true, false, ◌&&◌, ◌||◌, not, ltb, leb, eqb, length}
+use Rattle.std.specs.Prelude.{ℕ, ◌+◌, List, [], ◌∷◌, Bool, true, ◌&&◌, ◌||◌, not, leb, eqb, length}
 use Rattle.types.specs.Addresses.{addr_before}
 use Rattle.types.specs.Paths.{path_places, path_weight}
 use Rattle.rules.specs.Records.{Entry, Row, State, parked, probation, hint_source, verified_source, some_mtu, max_rows, probation_limit, main_limit, weight_limit}

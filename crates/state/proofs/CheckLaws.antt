@@ -6,7 +6,7 @@ use mathlib.Core.Bool.{Bool, true, false, ◌&&◌, ◌||◌, not}
 use mathlib.Core.List.{List}
 use lib.Dec.{ltb, leb, eqb}
 use lib.ListN.{length}
-use borrow.Author.Tests.{ltb-true, ltb-false, le-leb, lt-leb, not-false}
+use borrow.Author.Tests.{ltb-true, ltb-false, le-leb, lt-leb}
 use Rattle.rules.specs.Records.{Row, State, max_rows, probation_bound}
 use Rattle.rules.specs.Rows.{in_main, in_probation, count_rows, weigh_rows}
 use Rattle.rules.specs.Sound.{ascends, all, row_sound, sound}

@@ -2,11 +2,11 @@
 use mathlib.Core.Path.{◌≡◌, refl, sym, ap, ◌∙◌}
 use Prim.Native.Nat.{ℕ, ◌+◌, ◌*◌, ◌-◌, ◌≤◌, ◌<◌, min}
 use native.Mathlib.Omega.{arith}
-use mathlib.Core.Bool.{Bool, true, false, cond, ◌&&◌, not, and-false, and-true}
+use mathlib.Core.Bool.{Bool, true, false, cond, ◌&&◌, and-false, and-true}
 use mathlib.Core.List.{List}
 use lib.Dec.{ltb, leb, eqb}
 use lib.ListN.{length, drop, drop_of_length-le}
-use borrow.Author.Tests.{leb-true, leb-false, lt-leb, eq-eqb, ne_eqb, not-true, not-false}
+use borrow.Author.Tests.{leb-true, leb-false, lt-leb, eq-eqb, ne_eqb}
 use Rattle.types.proofs.PathLaws.{uncons}
 use Rattle.rules.specs.Records.{Row, State, max_rows, probation_bound, probation_limit, main_limit}
 use Rattle.rules.specs.Rows.{row_at, blank_row, at_place, in_main, in_probation, count_rows, weigh_rows}

@@ -21,7 +21,6 @@ use Rattle.commands.specs.OnMemory.{Session, session, obey_byte}
 use Rattle.commands.specs.declared.command.AfterCommand.{AfterCommand}
 use Rattle.commands.specs.After.{Answers}
 use Rattle.stream.specs.declared.stop.Stop.{Stop}
-use Rattle.stream.specs.declared.stop.Stop.TheVariants as Stop
 use Rattle.stream.specs.Runs.{RunEnd, operands, operands_in, cut_short, cut_short_in, stopped, and_then, run_part}
 use Rattle.stream.specs.declared.run.Next.TheVariants.{Full, Cut, Command}
 use Rattle.stream.specs.declared.run.Ran.{Ran}

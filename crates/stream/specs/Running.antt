@@ -1,10 +1,8 @@
 -- What a run of commands leaves, as the code answers it.
-use Rattle.std.specs.Prelude.{ℕ, ◌+◌, ◌-◌, ◌≤◌, ◌≡◌, List, [], ◌++◌, Bool, true, false, cond, not, ◌&&◌, ltb, length, drop}
+use Rattle.std.specs.Prelude.{ℕ, ◌+◌, ◌-◌, ◌≤◌, ◌≡◌, List, ◌++◌, Bool, cond, not, ◌&&◌, ltb, length, drop}
 use Rattle.std.proofs.lemmas.List.Edits.{sets}
 use Rattle.types.specs.declared.sender.Sender.{Sender}
 use Rattle.types.specs.declared.reply.Tally.{Tally}
-use Rattle.rules.specs.Sound.{sound}
-use Rattle.rules.specs.Memory.{capacity, view}
 use Rattle.rules.specs.Commands.{Line, lines_text, tally_after}
 use Rattle.commands.specs.OnMemory.{session}
 use Rattle.stream.specs.Runs.{RunEnd, line_room, operands, cut_short, run_part}

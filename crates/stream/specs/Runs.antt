@@ -1,5 +1,5 @@
 -- A run over a stream of commands on the lent memory.
-use Rattle.std.specs.Prelude.{ℕ, zero, suc, ◌+◌, ◌-◌, min, List, [], ◌∷◌, ◌++◌, Bool, true, false, cond, not, ◌&&◌, ltb, eqb, length, drop}
+use Rattle.std.specs.Prelude.{ℕ, zero, suc, ◌+◌, ◌-◌, min, List, [], ◌∷◌, Bool, false, cond, not, ◌&&◌, ltb, eqb, length, drop}
 use Rattle.rules.specs.Cases.{maybe}
 use Rattle.rules.specs.Commands.{Code, Line, codes, line, line_text, decode}
 use Rattle.commands.specs.Widths.{width_in}

@@ -1,5 +1,5 @@
 -- Document 01's number and values for each case of an answer.
-use Rattle.std.specs.Prelude.{ℕ, ◌+◌, min, List, [], ◌∷◌, Bool, true, false, cond, leb, eqb, replicate}
+use Rattle.std.specs.Prelude.{ℕ, ◌+◌, min, [], ◌∷◌, Bool, true, false, cond, leb, eqb, replicate}
 use Rattle.types.specs.declared.entry.CoordSource.{CoordSource}
 use Rattle.types.specs.declared.entry.CoordSource.TheVariants.{Verified, Hint}
 use Rattle.types.specs.declared.entry.PathMtu.{PathMtu}

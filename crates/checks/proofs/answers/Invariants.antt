@@ -1,6 +1,5 @@
 -- The body runs with call at most 21, so call stays at most 22 and 22 - call falls.
 use Prim.Native.Nat.{◌-◌, ◌≤◌}
-use borrow.Author.Rules.{rules}
 use Rattle.checks.proofs.answers.Given as goal
 
 abbrev pub invariant-loop-call : goal.invariant-loop-call

@@ -1,6 +1,5 @@
 -- number never passes 32, the count of bad states, and each turn brings it one nearer.
 use Prim.Native.Nat.{◌-◌, ◌≤◌}
-use borrow.Author.Rules.{rules}
 use Rattle.checks.proofs.bad_states.Given as goal
 
 abbrev pub invariant-loop-number : goal.invariant-loop-number

@@ -2,7 +2,6 @@
 use mathlib.Core.Path.{sym}
 use native.Mathlib.Omega.{arith}
 use lib.Seq.{length-take-le}
-use borrow.Author.Rules.{rules}
 use Rattle.checks.proofs.short_length.Goals as goal
 
 pub slice_bounds-length_refusals-end-then-length-before : goal.slice_bounds-length_refusals-end-then-length-before

@@ -2,7 +2,6 @@
 use mathlib.Core.Path.{◌≡◌}
 use Prim.Native.Nat.{◌+◌, ◌*◌, ◌-◌, ◌≤◌}
 use lib.ListN as ListN
-use borrow.Author.Rules.{rules}
 use Rattle.rules.specs.Layout.{memory_size}
 use Rattle.checks.proofs.short_ones.Given as goal
 

@@ -1,12 +1,8 @@
 -- The count plus the expired rows from i on is the whole number, and the count is at most i.
-use mathlib.Core.Path.{◌≡◌}
 use mathlib.Core.Bool.{cond}
-use Prim.Native.Nat.{ℕ, ◌+◌, ◌-◌, ◌≤◌}
+use Prim.Native.Nat.{ℕ}
 use native.Mathlib.Omega.{arith}
-use lib.ListN.{drop}
-use borrow.Author.Rules.{rules}
 use Rattle.rules.specs.Records.{Row}
-use Rattle.rules.specs.Rows.{total}
 use Rattle.rules.specs.Entries.{expired}
 use Rattle.rules.specs.Memory.{view_rows}
 use Rattle.rules.proofs.Foreign.{view_length}

@@ -2,15 +2,11 @@
 use mathlib.Core.Path.{◌≡◌}
 use mathlib.Core.Bool.{cond}
 use Prim.Native.Nat.{ℕ, ◌+◌, ◌-◌, ◌≤◌}
-use native.Mathlib.Omega.{arith}
 use lib.ListN.{drop}
-use borrow.Author.Rules.{rules}
 use Rattle.rules.specs.Records.{Row}
 use Rattle.rules.specs.Rows.{total}
 use Rattle.rules.specs.Entries.{expired}
 use Rattle.rules.specs.Memory.{view_rows}
-use Rattle.rules.proofs.Foreign.{view_length}
-use Rattle.memory.proofs.RowSums.{total_end, one_at_most, count_turn}
 use Rattle.statistics.proofs.count_expired.Given as goal
 
 abbrev one : ℕ → Row → ℕ

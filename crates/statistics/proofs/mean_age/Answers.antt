@@ -1,11 +1,10 @@
 -- The two sums of halves are the exact total, and n is at most 1,024, so neither they nor the rest pass 64 bits.
 use mathlib.Core.Path.{◌≡◌}
-use Prim.Native.Nat.{◌-◌}
 use native.Mathlib.Omega.{arith}
 use native.Mathlib.Nat.{mod-lt}
 use borrow.Author.Rules.{rules}
 use Rattle.rules.specs.Statistics.{total_age, mean}
-use Rattle.statistics.proofs.Means.{Ages, mean_start, sum_fits, high_fits, mean_fits, age_turn, ages_end}
+use Rattle.statistics.proofs.Means.{mean_start, sum_fits, high_fits, mean_fits, age_turn, ages_end}
 use Rattle.statistics.proofs.mean_age.Goals as goal
 
 pub returns-then-n-eq0 : goal.returns-then-n-eq0

@@ -1,6 +1,5 @@
 -- Where is_sound is false the answer is Refused(1); where it is true it is what next_expiry_unchecked requires.
 use Rattle.rules.specs.Answers.{expiry_said}
-use borrow.Author.Rules.{rules}
 use Rattle.refusals.proofs.RefusalsSaid.{checked, one_said}
 use Rattle.statistics.proofs.next_expiry.Goals as goal
 

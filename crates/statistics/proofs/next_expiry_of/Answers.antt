@@ -1,12 +1,9 @@
 -- soonest is the smallest expiry of the rows from i on, which are never none, as i starts at the last row.
 use mathlib.Core.Path.{◌≡◌, sym, ap, ◌∙◌}
 use mathlib.Core.Option.{some}
-use Prim.Native.Nat.{ℕ, ◌+◌, ◌-◌, ◌<◌, min}
+use Prim.Native.Nat.{ℕ, ◌+◌, ◌-◌, min}
 use native.Mathlib.Omega.{arith}
-use lib.ListN.{drop}
-use borrow.Author.Rules.{rules}
 use Rattle.rules.specs.Calls.{ExpiryGiven}
-use Rattle.rules.specs.Statistics.{next_expiry}
 use Rattle.rules.specs.Memory.{view_rows}
 use Rattle.rules.specs.Answers.{expiry_said}
 use Rattle.rules.proofs.Foreign.{view_length}

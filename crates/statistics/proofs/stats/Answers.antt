@@ -1,6 +1,5 @@
 -- An unsound memory is refused by 1 and left; for a sound one stats_unchecked has the same contract.
 use Rattle.rules.specs.Answers.{stats_said}
-use borrow.Author.Rules.{rules}
 use Rattle.refusals.proofs.RefusalsSaid.{checked, one_said}
 use Rattle.statistics.proofs.stats.Goals as goal
 

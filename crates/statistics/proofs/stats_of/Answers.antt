@@ -4,7 +4,6 @@ use Rattle.rules.specs.Statistics.{stats}
 use Rattle.rules.specs.Lookups.{matching}
 use Rattle.rules.proofs.Foreign.{view_length}
 use Rattle.memory.proofs.Fields.{same_head}
-use borrow.Author.Rules.{rules}
 use Rattle.statistics.proofs.stats_of.Goals as goal
 
 pub returns : goal.returns

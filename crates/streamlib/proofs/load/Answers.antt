@@ -1,10 +1,7 @@
 -- k is below 32 in the body, so element k ends within the pending bytes; setting an entry keeps 32 places.
-use mathlib.Core.Path.{◌≡◌, refl}
-use Prim.Native.Nat.{◌-◌, ◌≤◌}
+use mathlib.Core.Path.{refl}
 use native.Mathlib.Omega.{arith}
-use lib.ListN.{length, length-set}
-use borrow.Author.Rules.{rules}
-use Rattle.types.specs.Paths.{path_places}
+use lib.ListN.{length-set}
 use Rattle.streamlib.proofs.load.Goals as goal
 
 pub loop-k-init : goal.loop-k-init

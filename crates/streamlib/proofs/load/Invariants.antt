@@ -1,9 +1,7 @@
 -- k is below 32 in the body, so element k ends within the pending bytes; setting an entry keeps 32 places.
-use mathlib.Core.Path.{◌≡◌, refl}
+use mathlib.Core.Path.{◌≡◌}
 use Prim.Native.Nat.{◌-◌, ◌≤◌}
-use native.Mathlib.Omega.{arith}
-use lib.ListN.{length, length-set}
-use borrow.Author.Rules.{rules}
+use lib.ListN.{length}
 use Rattle.types.specs.Paths.{path_places}
 use Rattle.streamlib.proofs.load.Given as goal
 

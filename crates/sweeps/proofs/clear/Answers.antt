@@ -1,5 +1,4 @@
 -- The number 1 and the same memory are the rule for an unsound state; any other state goes to clear_unchecked.
-use borrow.Author.Rules.{rules}
 use Rattle.refusals.proofs.RefusalsSaid.{checked, one_numbered}
 use Rattle.sweeps.proofs.clear.Goals as goal
 

@@ -2,7 +2,6 @@
 use native.Mathlib.Omega.{arith}
 use Rattle.rules.proofs.MemoryLaws.{all_bytes}
 use Rattle.rules.proofs.Public.{sound_memory}
-use borrow.Author.Rules.{rules}
 use Rattle.refusals.proofs.SoundCalls.{head_there}
 use Rattle.sweeps.proofs.SweepCalls.{cleared}
 use Rattle.sweeps.proofs.clear_unchecked.Goals as goal

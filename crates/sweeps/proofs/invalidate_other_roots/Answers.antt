@@ -1,6 +1,5 @@
 -- The rules refuse an unsound memory by 1 before any root is read; a sound one is left to the unchecked call.
 use Rattle.rules.specs.Answers.{sweep_said}
-use borrow.Author.Rules.{rules}
 use Rattle.refusals.proofs.RefusalsSaid.{checked, one_said}
 use Rattle.sweeps.proofs.invalidate_other_roots.Goals as goal
 

@@ -1,6 +1,5 @@
 -- Kind OTHER_ROOT keeps the rows whose root is the address, as the rule does, and n - kept counts the others.
 use Rattle.rules.proofs.MemoryLaws.{all_bytes}
-use borrow.Author.Rules.{rules}
 use Rattle.refusals.proofs.SoundCalls.{head_there}
 use Rattle.sweeps.proofs.SweepCalls.{sweepable, sweep_done, roots_sweeps}
 use Rattle.sweeps.proofs.invalidate_other_roots_unchecked.Goals as goal

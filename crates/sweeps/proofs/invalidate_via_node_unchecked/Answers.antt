@@ -1,6 +1,5 @@
 -- Sound rows have paths of 1 to 32 elements, so the sweep may read them; its VIA_NODE test is the rule's contains.
 use Rattle.rules.proofs.MemoryLaws.{all_bytes}
-use borrow.Author.Rules.{rules}
 use Rattle.refusals.proofs.SoundCalls.{head_there}
 use Rattle.sweeps.proofs.SweepCalls.{sweepable, sweep_done, via_sweeps}
 use Rattle.sweeps.proofs.invalidate_via_node_unchecked.Goals as goal

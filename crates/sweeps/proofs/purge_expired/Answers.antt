@@ -1,6 +1,5 @@
 -- The check's answer is `sound` of the view: false gives refusal 1 at any time, true the precondition of the purge.
 use Rattle.rules.specs.Answers.{sweep_said}
-use borrow.Author.Rules.{rules}
 use Rattle.refusals.proofs.RefusalsSaid.{checked, one_said}
 use Rattle.sweeps.proofs.purge_expired.Goals as goal
 

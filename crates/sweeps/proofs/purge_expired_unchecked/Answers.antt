@@ -1,6 +1,5 @@
 -- Kind EXPIRED does not read the address, so the rows kept are those not expired, and n - kept is how many were.
 use Rattle.rules.proofs.MemoryLaws.{all_bytes}
-use borrow.Author.Rules.{rules}
 use Rattle.refusals.proofs.SoundCalls.{head_there}
 use Rattle.sweeps.proofs.SweepCalls.{sweepable, sweep_done, purge_sweeps}
 use Rattle.sweeps.proofs.purge_expired_unchecked.Goals as goal

@@ -1,7 +1,6 @@
 -- The remainder keeps the sum below 2^32, so 31 times it plus a byte and 1 fits in 64 bits.
 use Prim.Native.Nat.{◌-◌, ◌≤◌, ◌<◌}
 use lib.ListN.{length}
-use borrow.Author.Rules.{rules}
 use Rattle.checks.proofs.lines.sum.Given as goal
 
 abbrev pub invariant-loop-i : goal.invariant-loop-i

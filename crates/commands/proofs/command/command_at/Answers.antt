@@ -1,7 +1,6 @@
 -- Each arm has its code in its contract, and the match tells that the byte is that code, or none of the table.
 use Rattle.rules.specs.Commands.{code, codes}
 use Rattle.commands.proofs.CommandLaws.{as_code, as_bare_code, as_unknown}
-use borrow.Author.Rules.{rules}
 use Rattle.commands.proofs.command.command_at.Goals as goal
 
 pub returns-in-0 : goal.returns-in-0

@@ -1,5 +1,4 @@
 -- The record is built of the number and what is left, field by field.
-use borrow.Author.Rules.{rules}
 use Rattle.commands.proofs.command.refused_one.Goals as goal
 
 pub returns : goal.returns

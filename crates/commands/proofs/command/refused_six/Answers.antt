@@ -1,5 +1,4 @@
 -- The reply is the refusal by 6, and the path and the mark of soundness are handed on.
-use borrow.Author.Rules.{rules}
 use Rattle.commands.proofs.command.refused_six.Goals as goal
 
 pub returns : goal.returns

@@ -6,7 +6,6 @@ use Rattle.rules.specs.Layout.{byte_size, number_size}
 use Rattle.rules.specs.Commands.{kind_at, amount_at, with_funding_size}
 use Rattle.commands.proofs.Operands.{number_at}
 use Rattle.commands.proofs.FundingKind.{uncharged, upto}
-use borrow.Author.Rules.{rules}
 use Rattle.commands.proofs.hint.funding.Goals as goal
 
 pub returns-then-kind-eq0 : goal.returns-then-kind-eq0

@@ -9,7 +9,6 @@ use Rattle.rules.specs.Commands.{Plain, code, codes, code_of, reply, read_as}
 use Rattle.rules.proofs.MemoryLaws.{all_bytes}
 use Rattle.rules.proofs.CommandRuns.{Reads}
 use Rattle.commands.proofs.CommandLaws.{Called, plain, called_bare, is_sound, unsound, done}
-use borrow.Author.Rules.{rules}
 use Rattle.commands.proofs.stats.next_expiry.Goals as goal
 
 pub returns-then-not-is_sound : goal.returns-then-not-is_sound

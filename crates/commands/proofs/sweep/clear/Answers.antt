@@ -11,7 +11,6 @@ use Rattle.rules.proofs.MemoryLaws.{all_bytes}
 use Rattle.rules.proofs.LentSound.{number_reply}
 use Rattle.rules.proofs.CommandRuns.{Reads}
 use Rattle.commands.proofs.CommandLaws.{Called, plain, called_bare, is_sound, unsound, done}
-use borrow.Author.Rules.{rules}
 use Rattle.commands.proofs.sweep.clear.Goals as goal
 
 pub returns-then-not-is_sound : goal.returns-then-not-is_sound

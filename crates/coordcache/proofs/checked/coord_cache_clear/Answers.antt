@@ -1,5 +1,4 @@
 -- Clear makes no memory sound: one that is not is refused by 1, and any other is emptied by the unchecked export.
-use borrow.Author.Rules.{rules}
 use Rattle.coordcache.proofs.ToldRefusals.{found_sound, one_told}
 use Rattle.coordcache.proofs.checked.coord_cache_clear.Goals as goal
 

@@ -1,5 +1,4 @@
 -- All that is told is a number: 1 where the test fails, and else the one that the unchecked export returns.
-use borrow.Author.Rules.{rules}
 use Rattle.coordcache.proofs.ToldRefusals.{found_sound, one_told}
 use Rattle.coordcache.proofs.checked.coord_cache_clear_path_mtu.Goals as goal
 

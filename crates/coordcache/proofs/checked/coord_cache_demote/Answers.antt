@@ -1,5 +1,4 @@
 -- That a key is held is said of sound memories alone, by the unchecked export; before that stands the test, with 1.
-use borrow.Author.Rules.{rules}
 use Rattle.coordcache.proofs.ToldRefusals.{found_sound, one_told}
 use Rattle.coordcache.proofs.checked.coord_cache_demote.Goals as goal
 

@@ -1,5 +1,4 @@
 -- In an unsound memory the rules find no part, so that `at` may keep what stood there; in a sound one the place is the unchecked export's.
-use borrow.Author.Rules.{rules}
 use Rattle.coordcache.proofs.ToldRefusals.{found_sound, no_part, one_told, place_kept}
 use Rattle.coordcache.proofs.checked.coord_cache_get.Goals as goal
 

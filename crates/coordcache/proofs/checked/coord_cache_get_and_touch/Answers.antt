@@ -1,5 +1,4 @@
 -- Where 1 is told nothing was touched, so the memory after the call is the one before, which holds no part for the key.
-use borrow.Author.Rules.{rules}
 use Rattle.coordcache.proofs.ToldRefusals.{found_sound, no_part, one_told, place_kept}
 use Rattle.coordcache.proofs.checked.coord_cache_get_and_touch.Goals as goal
 

@@ -1,5 +1,4 @@
 -- The rules refuse every call on an unsound memory by 1; past the test the hint is the unchecked export's, whose reply is handed on as it came.
-use borrow.Author.Rules.{rules}
 use Rattle.coordcache.proofs.ToldRefusals.{found_sound, one_told}
 use Rattle.coordcache.proofs.checked.coord_cache_insert.Goals as goal
 

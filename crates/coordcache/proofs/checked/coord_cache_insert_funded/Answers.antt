@@ -1,5 +1,4 @@
 -- A kind over 1 names no funding, so 6 comes first; a kind up to 1 names one, and the call with it is refused by 1 as any other is.
-use borrow.Author.Rules.{rules}
 use Rattle.coordcache.proofs.ToldRefusals.{found_sound, one_told_funded, six_told}
 use Rattle.coordcache.proofs.checked.coord_cache_insert_funded.Goals as goal
 

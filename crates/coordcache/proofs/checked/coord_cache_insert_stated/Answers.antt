@@ -1,5 +1,4 @@
 -- A stated hint from outside has three cases: no funding of that kind, no sound state, and what the unchecked export replies.
-use borrow.Author.Rules.{rules}
 use Rattle.coordcache.proofs.ToldRefusals.{found_sound, one_told_funded, six_told}
 use Rattle.coordcache.proofs.checked.coord_cache_insert_stated.Goals as goal
 

@@ -1,5 +1,4 @@
 -- An unsound memory keeps a verified path out by 1 and stays as it is; a sound one is given to the unchecked export.
-use borrow.Author.Rules.{rules}
 use Rattle.coordcache.proofs.ToldRefusals.{found_sound, one_told}
 use Rattle.coordcache.proofs.checked.coord_cache_insert_verified.Goals as goal
 

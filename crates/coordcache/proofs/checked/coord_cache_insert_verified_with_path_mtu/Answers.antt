@@ -1,5 +1,4 @@
 -- Number 1 is told without a look at the MTU, which only the unchecked export takes to the rules.
-use borrow.Author.Rules.{rules}
 use Rattle.coordcache.proofs.ToldRefusals.{found_sound, one_told}
 use Rattle.coordcache.proofs.checked.coord_cache_insert_verified_with_path_mtu.Goals as goal
 

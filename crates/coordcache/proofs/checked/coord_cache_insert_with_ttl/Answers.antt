@@ -1,5 +1,4 @@
 -- A lifetime does not change what refuses an unsound memory, and on a sound one it goes on untouched to the unchecked export.
-use borrow.Author.Rules.{rules}
 use Rattle.coordcache.proofs.ToldRefusals.{found_sound, one_told}
 use Rattle.coordcache.proofs.checked.coord_cache_insert_with_ttl.Goals as goal
 

@@ -1,5 +1,4 @@
 -- Whose root is kept matters only once the memory is found sound, and then to the unchecked export.
-use borrow.Author.Rules.{rules}
 use Rattle.coordcache.proofs.ToldRefusals.{found_sound, one_told}
 use Rattle.coordcache.proofs.checked.coord_cache_invalidate_other_roots.Goals as goal
 

@@ -1,5 +1,4 @@
 -- The address in question is first read by the unchecked export, so that an unsound memory is refused whatever the sixteen bytes are.
-use borrow.Author.Rules.{rules}
 use Rattle.coordcache.proofs.ToldRefusals.{found_sound, one_told}
 use Rattle.coordcache.proofs.checked.coord_cache_invalidate_via_node.Goals as goal
 

@@ -1,5 +1,4 @@
 -- The byte is the truth value that the pass over the memory found, and the pass only reads.
-use borrow.Author.Rules.{rules}
 use mathlib.Core.Path.{refl}
 use Rattle.coordcache.proofs.ToldReplies.{sound_bit}
 use Rattle.coordcache.proofs.checked.coord_cache_is_sound.Goals as goal

@@ -1,5 +1,4 @@
 -- The two ways, 1 and the unchecked export's reply, both answer for a memory that is lent to be read.
-use borrow.Author.Rules.{rules}
 use Rattle.coordcache.proofs.ToldRefusals.{found_sound, one_told}
 use Rattle.coordcache.proofs.checked.coord_cache_next_expiry.Goals as goal
 

@@ -1,5 +1,4 @@
 -- The count of purged rows comes from the unchecked export, and an unsound memory has none of its rows looked at.
-use borrow.Author.Rules.{rules}
 use Rattle.coordcache.proofs.ToldRefusals.{found_sound, one_told}
 use Rattle.coordcache.proofs.checked.coord_cache_purge_expired.Goals as goal
 

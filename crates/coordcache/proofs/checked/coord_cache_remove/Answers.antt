@@ -1,5 +1,4 @@
 -- No row leaves an unsound memory, so the room for the row keeps its bytes beside the 1; from a sound one the unchecked export takes it.
-use borrow.Author.Rules.{rules}
 use Rattle.coordcache.proofs.ToldRefusals.{found_sound, no_row, one_told}
 use Rattle.coordcache.proofs.checked.coord_cache_remove.Goals as goal
 

@@ -1,5 +1,4 @@
 -- Nothing is written on either way: 1 leaves the memory by the rules, the four figures by the unchecked export's contract.
-use borrow.Author.Rules.{rules}
 use Rattle.coordcache.proofs.ToldRefusals.{found_sound, one_told}
 use Rattle.coordcache.proofs.checked.coord_cache_stats.Goals as goal
 

@@ -1,5 +1,4 @@
 -- The rules answer this call with done or a number and no values, so the number alone makes the reply.
-use borrow.Author.Rules.{rules}
 use Rattle.coordcache.proofs.ToldReplies.{told_number, clear_mtu_done}
 use Rattle.coordcache.proofs.unchecked.coord_cache_clear_path_mtu_unchecked.Goals as goal
 

@@ -1,5 +1,4 @@
 -- With no operand the call is the rules' own, and a call that is done or refused is told by its number.
-use borrow.Author.Rules.{rules}
 use Rattle.coordcache.proofs.ToldReplies.{told_number, clear_done}
 use Rattle.coordcache.proofs.unchecked.coord_cache_clear_unchecked.Goals as goal
 

@@ -1,5 +1,4 @@
 -- The sixteen bytes are the key's address, and the demotion's answer for that address is what is told.
-use borrow.Author.Rules.{rules}
 use Rattle.coordcache.proofs.ToldReplies.{told_call}
 use Rattle.coordcache.proofs.unchecked.coord_cache_demote_unchecked.Goals as goal
 

@@ -1,5 +1,4 @@
 -- The rules touch and then find what get finds in the memory after it, which is still sound; so the part found there gives the reply.
-use borrow.Author.Rules.{rules}
 use Rattle.rules.proofs.Sizes.{small8}
 use Rattle.rules.proofs.MemoryLaws.{all_bytes}
 use Rattle.coordcache.proofs.ToldLookups.{part_there, place_told_lem, touched_told}

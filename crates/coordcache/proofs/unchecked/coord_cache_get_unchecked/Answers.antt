@@ -1,5 +1,4 @@
 -- The reply follows from how many bytes the part has, and the part stands where the found place says, in the key's row.
-use borrow.Author.Rules.{rules}
 use Rattle.coordcache.proofs.ToldLookups.{got_told, part_there, place_told_lem}
 use Rattle.coordcache.proofs.unchecked.coord_cache_get_unchecked.Goals as goal
 

@@ -1,5 +1,4 @@
 -- A kind over 1 is 6 by the definition of a funded call; any other names the funding with which the rules' call is made.
-use borrow.Author.Rules.{rules}
 use Rattle.coordcache.proofs.ToldReplies.{told_funded}
 use Rattle.coordcache.proofs.ToldRefusals.{six_told}
 use Rattle.coordcache.proofs.unchecked.coord_cache_insert_funded_unchecked.Goals as goal

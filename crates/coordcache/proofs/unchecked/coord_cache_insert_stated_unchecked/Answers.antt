@@ -1,5 +1,4 @@
 -- That the hint is stated is in the rules' call alone, so kind, key and path are treated as for any funded hint.
-use borrow.Author.Rules.{rules}
 use Rattle.coordcache.proofs.ToldReplies.{told_funded}
 use Rattle.coordcache.proofs.ToldRefusals.{six_told}
 use Rattle.coordcache.proofs.unchecked.coord_cache_insert_stated_unchecked.Goals as goal

@@ -1,5 +1,4 @@
 -- The weight and the rows examined are told as the verified insert gave them, for the path that the bytes hold.
-use borrow.Author.Rules.{rules}
 use Rattle.coordcache.proofs.ToldReplies.{told_call}
 use Rattle.coordcache.proofs.unchecked.coord_cache_insert_verified_unchecked.Goals as goal
 

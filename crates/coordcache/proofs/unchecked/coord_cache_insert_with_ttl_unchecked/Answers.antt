@@ -1,5 +1,4 @@
 -- Key and path are converted, time and lifetime are numbers on both sides; the reply is that of the call so named.
-use borrow.Author.Rules.{rules}
 use Rattle.coordcache.proofs.ToldReplies.{told_call}
 use Rattle.coordcache.proofs.unchecked.coord_cache_insert_with_ttl_unchecked.Goals as goal
 

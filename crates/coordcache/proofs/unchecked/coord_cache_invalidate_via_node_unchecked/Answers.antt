@@ -1,5 +1,4 @@
 -- The rows through a node leave by the address that the bytes are, and their count is the reply.
-use borrow.Author.Rules.{rules}
 use Rattle.coordcache.proofs.ToldReplies.{told_call}
 use Rattle.coordcache.proofs.unchecked.coord_cache_invalidate_via_node_unchecked.Goals as goal
 

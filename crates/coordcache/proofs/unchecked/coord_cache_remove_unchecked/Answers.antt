@@ -1,5 +1,4 @@
 -- The row's bytes are saved before the row leaves, and whether one left is the reply of the removal.
-use borrow.Author.Rules.{rules}
 use Rattle.coordcache.proofs.ToldLookups.{removed_told, row_told}
 use Rattle.coordcache.proofs.unchecked.coord_cache_remove_unchecked.Goals as goal
 

@@ -1,5 +1,4 @@
 -- The figures are told as the rules count them at that time, and reading them leaves the memory.
-use borrow.Author.Rules.{rules}
 use Rattle.coordcache.proofs.ToldReplies.{told_call}
 use Rattle.coordcache.proofs.unchecked.coord_cache_stats_unchecked.Goals as goal
 

@@ -1,13 +1,8 @@
 -- The whole comparison is `same` and that of the bytes from i on; a turn moves the test of one byte into `same`.
-use mathlib.Core.Path.{◌≡◌, refl, sym, ◌∙◌, ap}
-use mathlib.Core.Bool.{◌&&◌, and-true}
-use Prim.Native.Nat.{◌-◌, ◌≤◌}
+use mathlib.Core.Path.{sym, ◌∙◌}
+use mathlib.Core.Bool.{and-true}
 use native.Mathlib.Omega.{arith}
-use lib.ListN.{length, drop}
-use borrow.Author.Rules.{rules}
-use Rattle.types.specs.Addresses.{same_bytes, same_addr}
-use Rattle.rules.specs.Memory.{cut}
-use Rattle.rules.specs.Layout.{address_size}
+use Rattle.types.specs.Addresses.{same_addr}
 use Rattle.entries.proofs.Bytes.{addr_turn, addr_end, addr_more, and_in}
 use Rattle.entries.proofs.addr.addr_at.Goals as goal
 

@@ -1,14 +1,11 @@
 -- The whole comparison is `same` and that of the bytes from i on; a turn moves the test of one byte into `same`.
-use mathlib.Core.Path.{◌≡◌, refl, sym, ◌∙◌, ap}
-use mathlib.Core.Bool.{◌&&◌, and-true}
+use mathlib.Core.Path.{◌≡◌}
+use mathlib.Core.Bool.{◌&&◌}
 use Prim.Native.Nat.{◌-◌, ◌≤◌}
-use native.Mathlib.Omega.{arith}
 use lib.ListN.{length, drop}
-use borrow.Author.Rules.{rules}
-use Rattle.types.specs.Addresses.{same_bytes, same_addr}
+use Rattle.types.specs.Addresses.{same_bytes}
 use Rattle.rules.specs.Memory.{cut}
 use Rattle.rules.specs.Layout.{address_size}
-use Rattle.entries.proofs.Bytes.{addr_turn, addr_end, addr_more, and_in}
 use Rattle.entries.proofs.addr.addr_at.Given as goal
 
 abbrev pub invariant-loop-i : goal.invariant-loop-i

@@ -1,6 +1,5 @@
 -- The fields read are those of the element in the cut, and addresses are the same in either order (`element_same`).
 use Rattle.entries.proofs.Bytes.{element_same}
-use borrow.Author.Rules.{rules}
 use Rattle.entries.proofs.addr.coord_entry_at.Goals as goal
 
 pub returns : goal.returns

@@ -1,10 +1,9 @@
 -- The loop has copied the first k bytes.
 use mathlib.Core.Path.{◌≡◌, refl, ap}
-use mathlib.Core.List.{List, ◌++◌}
-use Prim.Native.Nat.{ℕ, ◌-◌, ◌≤◌}
+use mathlib.Core.List.{List}
+use Prim.Native.Nat.{ℕ}
 use native.Mathlib.Omega.{arith}
-use lib.ListN.{length, take, drop, length-set}
-use borrow.Author.Rules.{rules}
+use lib.ListN.{length, length-set}
 use Rattle.rules.specs.Memory.{cut}
 use Rattle.rules.proofs.MemoryLaws.{length_cut}
 use Rattle.rules.specs.Layout.{address_size}

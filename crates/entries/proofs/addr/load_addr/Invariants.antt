@@ -1,14 +1,10 @@
 -- The loop has copied the first k bytes.
-use mathlib.Core.Path.{◌≡◌, refl, ap}
-use mathlib.Core.List.{List, ◌++◌}
-use Prim.Native.Nat.{ℕ, ◌-◌, ◌≤◌}
-use native.Mathlib.Omega.{arith}
-use lib.ListN.{length, take, drop, length-set}
-use borrow.Author.Rules.{rules}
+use mathlib.Core.Path.{◌≡◌}
+use mathlib.Core.List.{◌++◌}
+use Prim.Native.Nat.{◌-◌, ◌≤◌}
+use lib.ListN.{length, take, drop}
 use Rattle.rules.specs.Memory.{cut}
-use Rattle.rules.proofs.MemoryLaws.{length_cut}
 use Rattle.rules.specs.Layout.{address_size}
-use Rattle.raw.proofs.CopyLaws.{cut_byte, stored, copied}
 use Rattle.entries.proofs.addr.load_addr.Given as goal
 
 abbrev pub invariant-loop-k : goal.invariant-loop-k

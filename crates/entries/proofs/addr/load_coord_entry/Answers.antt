@@ -1,6 +1,5 @@
 -- The element's cut splits at 16 and 24 into the three cuts that are read, so the fields make up the element.
 use Rattle.entries.proofs.Bytes.{element_made}
-use borrow.Author.Rules.{rules}
 use Rattle.entries.proofs.addr.load_coord_entry.Goals as goal
 
 pub returns : goal.returns

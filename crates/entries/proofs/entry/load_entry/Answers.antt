@@ -2,7 +2,6 @@
 use Rattle.rules.specs.Rows.{row_at}
 use Rattle.rules.specs.Memory.{view_rows}
 use Rattle.entries.proofs.EntryValues.{entry_made}
-use borrow.Author.Rules.{rules}
 use Rattle.entries.proofs.entry.load_entry.Goals as goal
 
 pub returns : goal.returns

@@ -2,7 +2,6 @@
 use Rattle.rules.specs.Entries.{update}
 use Rattle.entries.specs.NewEntries.{entry_from}
 use mathlib.Core.Path.{refl}
-use borrow.Author.Rules.{rules}
 use Rattle.entries.proofs.new_entry.updated_entry.Goals as goal
 
 pub returns : goal.returns

@@ -2,7 +2,6 @@
 use Rattle.rules.specs.Entries.{mark_verified}
 use Rattle.entries.specs.NewEntries.{entry_from}
 use mathlib.Core.Path.{refl}
-use borrow.Author.Rules.{rules}
 use Rattle.entries.proofs.new_entry.verified_entry.Goals as goal
 
 pub returns : goal.returns

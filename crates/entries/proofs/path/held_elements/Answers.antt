@@ -1,7 +1,6 @@
 -- A row's path has 32 places, so the elements that can be taken are the smaller of the length and 32 (`elements_count`).
 use native.Mathlib.Omega.{arith}
 use Rattle.entries.proofs.PathElements.{elements_count}
-use borrow.Author.Rules.{rules}
 use Rattle.entries.proofs.path.held_elements.Goals as goal
 
 pub returns-then-len-lt-PLACES : goal.returns-then-len-lt-PLACES

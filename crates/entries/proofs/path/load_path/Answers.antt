@@ -1,14 +1,10 @@
 -- The loop has copied the places before `place`.
-use mathlib.Core.Path.{◌≡◌, refl, sym, ◌∙◌}
-use mathlib.Core.List.{◌++◌}
-use Prim.Native.Nat.{◌-◌, ◌≤◌}
+use mathlib.Core.Path.{refl, sym, ◌∙◌}
 use native.Mathlib.Omega.{arith}
-use lib.ListN.{length, take, drop, length-set}
-use borrow.Author.Rules.{rules}
+use lib.ListN.{length-set}
 use Rattle.raw.proofs.CopyLaws.{stored, copied}
 use Rattle.entries.proofs.PathElements.{row_path, places_length, place_at}
 use Rattle.entries.proofs.EntryValues.{path_made}
-use Rattle.types.specs.Paths.{path_places}
 use Rattle.entries.proofs.path.load_path.Goals as goal
 
 pub loop-place-init : goal.loop-place-init

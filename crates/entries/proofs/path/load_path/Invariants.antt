@@ -1,13 +1,9 @@
 -- The loop has copied the places before `place`.
-use mathlib.Core.Path.{◌≡◌, refl, sym, ◌∙◌}
+use mathlib.Core.Path.{◌≡◌}
 use mathlib.Core.List.{◌++◌}
 use Prim.Native.Nat.{◌-◌, ◌≤◌}
-use native.Mathlib.Omega.{arith}
-use lib.ListN.{length, take, drop, length-set}
-use borrow.Author.Rules.{rules}
-use Rattle.raw.proofs.CopyLaws.{stored, copied}
-use Rattle.entries.proofs.PathElements.{row_path, places_length, place_at}
-use Rattle.entries.proofs.EntryValues.{path_made}
+use lib.ListN.{length, take, drop}
+use Rattle.entries.proofs.PathElements.{row_path}
 use Rattle.types.specs.Paths.{path_places}
 use Rattle.entries.proofs.path.load_path.Given as goal
 

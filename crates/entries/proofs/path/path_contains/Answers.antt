@@ -1,10 +1,8 @@
 -- The loop has the rest of the elements still to look at, and the answer depends on them alone.
-use mathlib.Core.Path.{◌≡◌, sym, ◌∙◌}
-use Prim.Native.Nat.{◌-◌, ◌≤◌}
+use mathlib.Core.Path.{sym, ◌∙◌}
 use native.Mathlib.Omega.{arith}
-use lib.ListN.{drop}
 use borrow.Author.Rules.{rules}
-use Rattle.types.specs.Paths.{elements, among, contains}
+use Rattle.types.specs.Paths.{elements, contains}
 use Rattle.types.proofs.PathLaws.{among_end}
 use Rattle.entries.proofs.PathElements.{row_path, elements_length, search_hit, search_miss}
 use Rattle.entries.proofs.path.path_contains.Goals as goal

@@ -1,13 +1,8 @@
 -- Paths with different counts differ; with equal counts the answer is that for the elements from k on, by `path_turn`.
-use mathlib.Core.Path.{◌≡◌, refl, sym, ◌∙◌, ap}
-use Prim.Native.Nat.{◌-◌, ◌≤◌}
+use mathlib.Core.Path.{sym, ◌∙◌}
 use native.Mathlib.Omega.{arith}
-use lib.ListN.{drop}
-use borrow.Author.Tests.{not-true, not-false}
 use borrow.Author.Rules.{rules}
-use mathlib.Core.Bool.{◌&&◌}
-use Rattle.types.specs.declared.coord.CoordEntry.{CoordEntry}
-use Rattle.types.specs.Paths.{elements, same_entry, same_entries, same_path}
+use Rattle.types.specs.Paths.{elements, same_path}
 use Rattle.types.proofs.PathLaws.{entries_end, lengths_differ}
 use Rattle.entries.proofs.PathElements.{row_path, path_turn}
 use Rattle.entries.proofs.path.path_is.Goals as goal

@@ -1,15 +1,9 @@
 -- Paths with different counts differ; with equal counts the answer is that for the elements from k on, by `path_turn`.
-use mathlib.Core.Path.{◌≡◌, refl, sym, ◌∙◌, ap}
+use mathlib.Core.Path.{◌≡◌}
 use Prim.Native.Nat.{◌-◌, ◌≤◌}
-use native.Mathlib.Omega.{arith}
 use lib.ListN.{drop}
-use borrow.Author.Tests.{not-true, not-false}
-use borrow.Author.Rules.{rules}
-use mathlib.Core.Bool.{◌&&◌}
-use Rattle.types.specs.declared.coord.CoordEntry.{CoordEntry}
-use Rattle.types.specs.Paths.{elements, same_entry, same_entries, same_path}
-use Rattle.types.proofs.PathLaws.{entries_end, lengths_differ}
-use Rattle.entries.proofs.PathElements.{row_path, path_turn}
+use Rattle.types.specs.Paths.{elements, same_entries, same_path}
+use Rattle.entries.proofs.PathElements.{row_path}
 use Rattle.entries.proofs.path.path_is.Given as goal
 
 abbrev pub invariant-loop-k : goal.invariant-loop-k

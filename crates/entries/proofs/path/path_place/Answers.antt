@@ -1,7 +1,6 @@
 -- The offsets are the definition's, and the length read is the one in the view, so the number of bytes is the same.
 use mathlib.Core.Path.{ap}
 use Prim.Native.Nat.{ℕ, ◌+◌, ◌*◌}
-use borrow.Author.Rules.{rules}
 use Rattle.rules.specs.Layout.{coord_entry_size, head_size, places_in_row, row_size}
 use Rattle.entries.proofs.path.path_place.Goals as goal
 

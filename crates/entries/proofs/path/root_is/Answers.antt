@@ -2,7 +2,6 @@
 use mathlib.Core.Path.{◌∙◌}
 use Rattle.entries.proofs.Bytes.{same_sym}
 use Rattle.entries.proofs.PathElements.{root_place}
-use borrow.Author.Rules.{rules}
 use Rattle.entries.proofs.path.root_is.Goals as goal
 
 pub returns : goal.returns

@@ -1,6 +1,5 @@
 -- `expired` is the same comparison once the number read is replaced by the entry's expiresAt.
 use Rattle.rules.specs.Entries.{expired}
-use borrow.Author.Rules.{rules}
 use Rattle.entries.proofs.times.is_expired.Goals as goal
 
 pub returns : goal.returns

@@ -1,6 +1,5 @@
 -- The source and verified_until are those of the row's entry, and the conjunction is the definition of verified.
 use Rattle.rules.specs.Entries.{verified}
-use borrow.Author.Rules.{rules}
 use Rattle.entries.proofs.times.is_verified.Goals as goal
 
 pub returns : goal.returns

@@ -17,22 +17,22 @@ overflow_add-m c = record { fits = omega (arith, one_more_fits c.requires.0) }
 pub weight-weight-requires : goal.weight-weight-requires
 weight-weight-requires c =
     let standing : Standing c.args.key c.args.n c.index_for-i.result (row_of c.args.row) c.args.state.now c.insert_saved.new.state = record { free = c.requires.0; at = c.index_for-i.ensures; key = c.requires.1; size = c.insert_saved.auto.state; state = c.insert_saved.ensures } in
-    row_there (standing)
+    row_there standing
 
 pub stored_with-stored-requires : goal.stored_with-stored-requires
 stored_with-stored-requires c =
     let standing : Standing c.args.key c.args.n c.index_for-i.result (row_of c.args.row) c.args.state.now c.insert_saved.new.state = record { free = c.requires.0; at = c.index_for-i.ensures; key = c.requires.1; size = c.insert_saved.auto.state; state = c.insert_saved.ensures } in
-    count_asks (standing)
+    count_asks standing
 
 pub set_stored_weight-requires : goal.set_stored_weight-requires
 set_stored_weight-requires c =
     let standing : Standing c.args.key c.args.n c.index_for-i.result (row_of c.args.row) c.args.state.now c.insert_saved.new.state = record { free = c.requires.0; at = c.index_for-i.ensures; key = c.requires.1; size = c.insert_saved.auto.state; state = c.insert_saved.ensures } in
-    (count_asks (standing)).0
+    (count_asks standing).0
 
 pub last_used-used-requires : goal.last_used-used-requires
 last_used-used-requires c =
     let standing : Standing c.args.key c.args.n c.index_for-i.result (row_of c.args.row) c.args.state.now c.insert_saved.new.state = record { free = c.requires.0; at = c.index_for-i.ensures; key = c.requires.1; size = c.insert_saved.auto.state; state = c.insert_saved.ensures } in
-    let there = row_there (standing) in
+    let there = row_there standing in
     search rules
 
 pub draw_stamp-requires : goal.draw_stamp-requires
@@ -45,5 +45,5 @@ draw_stamp-requires c =
 pub returns : goal.returns
 returns c =
     let standing : Standing c.args.key c.args.n c.index_for-i.result (row_of c.args.row) c.args.state.now c.insert_saved.new.state = record { free = c.requires.0; at = c.index_for-i.ensures; key = c.requires.1; size = c.insert_saved.auto.state; state = c.insert_saved.ensures } in
-    filed_unchanged (standing) c.weight-weight.ensures c.stored_with-stored.ensures
+    filed_unchanged standing c.weight-weight.ensures c.stored_with-stored.ensures
     c.set_stored_weight.ensures c.last_used-used.ensures c.draw_stamp.ensures

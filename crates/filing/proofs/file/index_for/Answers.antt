@@ -1,7 +1,6 @@
 -- find gives none, so the search cannot answer At, and the index is that of its Absent.
 use mathlib.Core.Path.{sym, ◌∙◌}
 use Rattle.filing.proofs.FiledRows.{only_absent}
-use borrow.Author.Rules.{rules}
 use Rattle.filing.proofs.file.index_for.Goals as goal
 
 pub returns-in-At : goal.returns-in-At

@@ -2,7 +2,6 @@
 use native.Mathlib.Omega.{arith}
 use Rattle.memory.proofs.RowLaws.{view_length}
 use Rattle.filing.proofs.FiledOverVictim.{absent_behind, absent_before}
-use borrow.Author.Rules.{rules}
 use Rattle.filing.proofs.file.index_without.Goals as goal
 
 pub returns-then-i-at : goal.returns-then-i-at

@@ -1,7 +1,6 @@
 -- place < PROBATION is the condition in the sum, and the bound on stored keeps the sum within u64.
 use native.Mathlib.Omega.{arith}
 use borrow.Author.Tests.{lt-ltb, le-ltb}
-use borrow.Author.Rules.{rules}
 use Rattle.filing.proofs.file.weight_with.Goals as goal
 
 pub returns-then-place-lt-PROBATION : goal.returns-then-place-lt-PROBATION

@@ -1,6 +1,5 @@
 -- Path, times and hint mark are three rewrites of one entry, and their composition is update.
 use Rattle.filing.proofs.RefiledRows.{updated}
-use borrow.Author.Rules.{rules}
 use Rattle.filing.proofs.refile.update.Goals as goal
 
 pub returns : goal.returns

@@ -1,6 +1,5 @@
 -- n starts at 1 and is below len in the body, so n + 1 fits and len - n falls.
 use Prim.Native.Nat.{◌-◌, ◌≤◌}
-use borrow.Author.Rules.{rules}
 use Rattle.lists.proofs.calls.path.Given as goal
 
 abbrev pub invariant-loop-n : goal.invariant-loop-n

@@ -3,7 +3,6 @@ use mathlib.Core.Path.{sym, ap, ◌∙◌}
 use native.Mathlib.Omega.{arith}
 use Rattle.rules.specs.Records.{State}
 use Rattle.rules.specs.Memory.{view_rows}
-use borrow.Author.Rules.{rules}
 use Rattle.lookups.proofs.DemotedRows.{demoted_parked, demoted_in_place, hinted_seq}
 use Rattle.lookups.proofs.demote.demote_at.Goals as goal
 

@@ -1,7 +1,6 @@
 -- A seq over LAST_SEQ is refusal 3; up to it the call is not refused, and its state is demotedAt i where find gives i, else the same state.
 use Rattle.rules.specs.Answers.{demote_said}
 use Rattle.rules.proofs.MemoryLaws.{all_bytes}
-use borrow.Author.Rules.{rules}
 use Rattle.refusals.proofs.SoundCalls.{head_there, searchable}
 use Rattle.refusals.proofs.SearchedKeys.{Searched, held, absent}
 use Rattle.lookups.proofs.DemotedRows.{demote_refused, demote_asked, demoted_at_lem, demoted_absent}
@@ -22,7 +21,7 @@ search-at-requires c = searchable _ _ c.requires c.row_count-n.ensures
 pub demote_at-requires : goal.demote_at-requires
 demote_at-requires c =
     let key_searched : Searched c.args.key c.row_count-n.result c.search-at.result c.args.state.now = record { sound = c.requires; counted = c.row_count-n.ensures; outcome = c.search-at.ensures } in
-    demote_asked c.seq.ensures c.if-seq-gt-LAST_SEQ.false (held (key_searched) c.in-At.is)
+    demote_asked c.seq.ensures c.if-seq-gt-LAST_SEQ.false (held key_searched c.in-At.is)
 
 pub returns-in-At : goal.returns-in-At
 unfolding demote_said
@@ -30,11 +29,11 @@ returns-in-At c =
     let key_searched : Searched c.args.key c.row_count-n.result c.search-at.result c.args.state.now = record { sound = c.requires; counted = c.row_count-n.ensures; outcome = c.search-at.ensures } in
     let bytes = all_bytes c.demote_at.new.state (λ i. (c.slice_known-in-At-1.given i).fits) in
     demoted_at_lem c.seq.ensures c.if-seq-gt-LAST_SEQ.false
-    (held (key_searched) c.in-At.is) _ bytes c.demote_at.auto.state c.demote_at.ensures
+    (held key_searched c.in-At.is) _ bytes c.demote_at.auto.state c.demote_at.ensures
 
 pub returns-in-Absent : goal.returns-in-Absent
 unfolding demote_said
 returns-in-Absent c =
     let key_searched : Searched c.args.key c.row_count-n.result c.search-at.result c.args.state.now = record { sound = c.requires; counted = c.row_count-n.ensures; outcome = c.search-at.ensures } in
     let bytes = all_bytes c.args.state.now (λ i. (c.slice_known-1.given i).fits) in
-    demoted_absent c.seq.ensures c.if-seq-gt-LAST_SEQ.false (absent (key_searched) c.in-Absent.is) bytes
+    demoted_absent c.seq.ensures c.if-seq-gt-LAST_SEQ.false (absent key_searched c.in-Absent.is) bytes

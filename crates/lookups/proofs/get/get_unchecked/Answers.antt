@@ -1,6 +1,5 @@
 -- The slice from start to end is the cut of place.bytes bytes at start, and StandsAt equates that cut with gotPart.
 use Rattle.lookups.proofs.FoundRows.{part_from}
-use borrow.Author.Rules.{rules}
 use Rattle.lookups.proofs.get.get_unchecked.Goals as goal
 
 pub returns : goal.returns

@@ -1,6 +1,5 @@
 -- A call without path or stamps is not refused on a sound memory; dropMtu rewrites the row that find gives, or nothing where it gives none.
 use Rattle.rules.proofs.MemoryLaws.{all_bytes}
-use borrow.Author.Rules.{rules}
 use Rattle.refusals.proofs.SoundCalls.{head_there, searchable}
 use Rattle.refusals.proofs.SearchedKeys.{Searched, held, absent, row_asked}
 use Rattle.lookups.proofs.ClearedMtu.{clear_at, clear_absent}
@@ -15,16 +14,16 @@ search-at-requires c = searchable _ _ c.requires c.row_count-n.ensures
 pub drop_mtu-requires : goal.drop_mtu-requires
 drop_mtu-requires c =
     let key_searched : Searched c.args.key c.row_count-n.result c.search-at.result c.args.state.now = record { sound = c.requires; counted = c.row_count-n.ensures; outcome = c.search-at.ensures } in
-    row_asked (held (key_searched) c.in-At.is)
+    row_asked (held key_searched c.in-At.is)
 
 pub returns-in-At : goal.returns-in-At
 returns-in-At c =
     let key_searched : Searched c.args.key c.row_count-n.result c.search-at.result c.args.state.now = record { sound = c.requires; counted = c.row_count-n.ensures; outcome = c.search-at.ensures } in
     let bytes = all_bytes c.drop_mtu.new.state (λ i. (c.slice_known-in-At-1.given i).fits) in
-    clear_at (held (key_searched) c.in-At.is) _ bytes c.drop_mtu.auto.state c.drop_mtu.ensures
+    clear_at (held key_searched c.in-At.is) _ bytes c.drop_mtu.auto.state c.drop_mtu.ensures
 
 pub returns-in-Absent : goal.returns-in-Absent
 returns-in-Absent c =
     let key_searched : Searched c.args.key c.row_count-n.result c.search-at.result c.args.state.now = record { sound = c.requires; counted = c.row_count-n.ensures; outcome = c.search-at.ensures } in
     let bytes = all_bytes c.args.state.now (λ i. (c.slice_known-1.given i).fits) in
-    clear_absent (absent (key_searched) c.in-Absent.is) bytes
+    clear_absent (absent key_searched c.in-Absent.is) bytes

@@ -2,7 +2,6 @@
 use mathlib.Core.Path.{ap, ◌∙◌}
 use Rattle.rules.specs.Lent.{got_part}
 use Rattle.lookups.proofs.FoundRows.{part_from}
-use borrow.Author.Rules.{rules}
 use Rattle.lookups.proofs.touch.get_and_touch_unchecked.Goals as goal
 
 pub returns : goal.returns

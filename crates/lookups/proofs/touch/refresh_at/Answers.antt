@@ -6,7 +6,6 @@ use Rattle.rules.specs.Lookups.{rewrite}
 use Rattle.rules.specs.Memory.{view_rows}
 use Rattle.rules.specs.Records.{with_times}
 use Rattle.memory.proofs.Fields.{same_head}
-use borrow.Author.Rules.{rules}
 use Rattle.lookups.proofs.TouchedRows.{refreshed}
 use Rattle.lookups.proofs.touch.refresh_at.Goals as goal
 

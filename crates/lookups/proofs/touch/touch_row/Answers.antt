@@ -2,7 +2,6 @@
 use mathlib.Core.Path.{ap}
 use Rattle.lookups.proofs.FoundRows.{finds}
 use Rattle.lookups.proofs.PathPlaces.{placed, unplaced}
-use borrow.Author.Rules.{rules}
 use Rattle.lookups.proofs.touch.touch_row.Goals as goal
 
 pub returns-in-Found : goal.returns-in-Found

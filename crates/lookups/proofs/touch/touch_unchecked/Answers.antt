@@ -1,6 +1,5 @@
 -- Where find gives i, the call's state is touchedAt i and its answer touchSays i; where it gives none, Absent and the same state.
 use Rattle.rules.proofs.MemoryLaws.{all_bytes}
-use borrow.Author.Rules.{rules}
 use Rattle.refusals.proofs.SoundCalls.{head_there, searchable}
 use Rattle.refusals.proofs.SearchedKeys.{Searched, held, absent, removal_asked}
 use Rattle.lookups.proofs.TouchedRows.{touched_at_lem, touched_absent}
@@ -15,16 +14,16 @@ search-at-requires c = searchable _ _ c.requires c.row_count-n.ensures
 pub touch_at-requires : goal.touch_at-requires
 touch_at-requires c =
     let key_searched : Searched c.args.key c.row_count-n.result c.search-at.result c.args.state.now = record { sound = c.requires; counted = c.row_count-n.ensures; outcome = c.search-at.ensures } in
-    removal_asked (held (key_searched) c.in-At.is)
+    removal_asked (held key_searched c.in-At.is)
 
 pub returns-in-At : goal.returns-in-At
 returns-in-At c =
     let key_searched : Searched c.args.key c.row_count-n.result c.search-at.result c.args.state.now = record { sound = c.requires; counted = c.row_count-n.ensures; outcome = c.search-at.ensures } in
     let bytes = all_bytes c.touch_at.new.state (λ i. (c.slice_known-in-At-1.given i).fits) in
-    touched_at_lem _ (held (key_searched) c.in-At.is) _ _ bytes c.touch_at.auto.state c.touch_at.ensures
+    touched_at_lem _ (held key_searched c.in-At.is) _ _ bytes c.touch_at.auto.state c.touch_at.ensures
 
 pub returns-in-Absent : goal.returns-in-Absent
 returns-in-Absent c =
     let key_searched : Searched c.args.key c.row_count-n.result c.search-at.result c.args.state.now = record { sound = c.requires; counted = c.row_count-n.ensures; outcome = c.search-at.ensures } in
     let bytes = all_bytes c.args.state.now (λ i. (c.slice_known-1.given i).fits) in
-    touched_absent _ (absent (key_searched) c.in-Absent.is) bytes
+    touched_absent _ (absent key_searched c.in-Absent.is) bytes

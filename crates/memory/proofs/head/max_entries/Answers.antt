@@ -1,6 +1,5 @@
 -- `view_rows` takes this number from the first eight bytes of the head, and those are the bytes read.
 use Rattle.rules.specs.Memory.{view_rows}
-use borrow.Author.Rules.{rules}
 use Rattle.memory.proofs.head.max_entries.Goals as goal
 
 pub returns : goal.returns

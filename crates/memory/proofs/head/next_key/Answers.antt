@@ -3,7 +3,6 @@ use mathlib.Core.Path.{ap, ◌∙◌}
 use Prim.Native.Nat.{ℕ, ◌+◌}
 use native.Mathlib.Omega.{arith}
 use Rattle.memory.proofs.Fields.{same_head}
-use borrow.Author.Rules.{rules}
 use Rattle.memory.proofs.head.next_key.Goals as goal
 
 pub overflow_add-next : goal.overflow_add-next

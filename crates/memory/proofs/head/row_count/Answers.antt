@@ -1,6 +1,5 @@
 -- The last eight bytes of the head are the row count in the view and in the code alike.
 use Rattle.rules.specs.Memory.{view_rows}
-use borrow.Author.Rules.{rules}
 use Rattle.memory.proofs.head.row_count.Goals as goal
 
 pub returns : goal.returns

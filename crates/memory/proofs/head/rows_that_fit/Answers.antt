@@ -1,7 +1,6 @@
 -- Where the head does not fit, the definition's difference is 0 and so is its quotient; else both divide the same number.
 use native.Mathlib.Omega.{arith}
 use Rattle.rules.specs.Memory.{capacity}
-use borrow.Author.Rules.{rules}
 use Rattle.memory.proofs.head.rows_that_fit.Goals as goal
 
 pub returns-then-state-lt-HEAD : goal.returns-then-state-lt-HEAD

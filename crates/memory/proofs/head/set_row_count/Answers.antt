@@ -1,6 +1,5 @@
 -- The store covers the head's last eight bytes, so the numbers before it, the rows and the rest are read as before.
 use mathlib.Core.Path.{refl}
-use borrow.Author.Rules.{rules}
 use Rattle.rules.specs.Layout.{row_count_offset}
 use Rattle.memory.specs.Edits.{with_row_count}
 use Rattle.memory.proofs.Fields.{head_store, with_head_number}

@@ -1,6 +1,5 @@
 -- By `head_store` the bytes at 16 are read back as v, and the cuts up to 16 and from 24 on do not meet the store.
 use mathlib.Core.Path.{refl}
-use borrow.Author.Rules.{rules}
 use Rattle.rules.specs.Layout.{seq_offset}
 use Rattle.rules.specs.Records.{with_seq}
 use Rattle.memory.proofs.Fields.{head_store, with_head_number}

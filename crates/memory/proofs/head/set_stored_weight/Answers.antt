@@ -1,6 +1,5 @@
 -- A store of eight bytes at 24 leaves the cut of each other number alone, and v, of 64 bits, is read back from it.
 use mathlib.Core.Path.{refl}
-use borrow.Author.Rules.{rules}
 use Rattle.rules.specs.Layout.{stored_weight_offset}
 use Rattle.memory.specs.Edits.{with_stored_weight}
 use Rattle.memory.proofs.Fields.{head_store, with_head_number}

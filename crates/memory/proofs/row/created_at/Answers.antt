@@ -1,6 +1,5 @@
 -- created_at stands right behind the path, and `field_read` makes the cut of the memory the entry's number.
 use mathlib.Core.Path.{◌∙◌}
-use borrow.Author.Rules.{rules}
 use Rattle.memory.proofs.Fields.{field_read}
 use Rattle.memory.proofs.row.created_at.Goals as goal
 

@@ -1,6 +1,5 @@
 -- Unfolded, `drop_mtu` is `withMtu` with mark 0 and MTU 0, and with these `set_mtu` is called.
 use Rattle.rules.specs.Entries.{drop_mtu}
-use borrow.Author.Rules.{rules}
 use Rattle.memory.proofs.row.drop_mtu.Goals as goal
 
 pub returns : goal.returns

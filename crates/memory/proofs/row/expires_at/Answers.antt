@@ -1,6 +1,5 @@
 -- The eight bytes read lie within the entry of row i, and `entry_of` makes its third time of them.
 use mathlib.Core.Path.{◌∙◌}
-use borrow.Author.Rules.{rules}
 use Rattle.memory.proofs.Fields.{field_read}
 use Rattle.memory.proofs.row.expires_at.Goals as goal
 

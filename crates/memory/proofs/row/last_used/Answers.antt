@@ -1,6 +1,5 @@
 -- A cut of eight bytes of row i's entry is a cut of the memory; this one begins one number past created_at.
 use mathlib.Core.Path.{◌∙◌}
-use borrow.Author.Rules.{rules}
 use Rattle.memory.proofs.Fields.{field_read}
 use Rattle.memory.proofs.row.last_used.Goals as goal
 

@@ -1,6 +1,5 @@
 -- `mark_hint` is `withSource` at 1 and 0 once both are unfolded, so the contract of `set_source` is the goal.
 use Rattle.rules.specs.Entries.{mark_hint}
-use borrow.Author.Rules.{rules}
 use Rattle.memory.proofs.row.mark_hint.Goals as goal
 
 pub returns : goal.returns

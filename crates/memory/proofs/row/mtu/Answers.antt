@@ -1,6 +1,5 @@
 -- This field alone has two bytes; what `read_u16` gives of them is the entry's mtu.
 use mathlib.Core.Path.{◌∙◌}
-use borrow.Author.Rules.{rules}
 use Rattle.memory.proofs.Fields.{field_read}
 use Rattle.memory.proofs.row.mtu.Goals as goal
 

@@ -1,6 +1,5 @@
 -- The mark is the one byte behind the three times, and i < n makes the bytes at that place row i of the view.
 use mathlib.Core.Path.{◌∙◌}
-use borrow.Author.Rules.{rules}
 use Rattle.memory.proofs.Fields.{field_read}
 use Rattle.memory.proofs.row.mtu_mark.Goals as goal
 

@@ -1,6 +1,5 @@
 -- The length is the entry's first byte, so that it is read at the row's offset of the entry itself.
 use mathlib.Core.Path.{◌∙◌}
-use borrow.Author.Rules.{rules}
 use Rattle.memory.proofs.Fields.{field_read}
 use Rattle.memory.proofs.row.path_len.Goals as goal
 

@@ -1,6 +1,5 @@
 -- The place is a field of the row and not of its entry, and stands at the first byte past the entry.
 use mathlib.Core.Path.{◌∙◌}
-use borrow.Author.Rules.{rules}
 use Rattle.memory.proofs.Fields.{field_read}
 use Rattle.memory.proofs.row.place.Goals as goal
 

@@ -1,5 +1,4 @@
 -- The mark fits one byte and the MTU two, so both are read back, and every other field of the row lies apart from them.
-use borrow.Author.Rules.{rules}
 use Rattle.rules.specs.Layout.{byte_size, mtu_size}
 use Rattle.rules.proofs.Sizes.{small}
 use Rattle.memory.proofs.Fields.{mtu_store}

@@ -1,5 +1,4 @@
 -- What `write_source` stores are the last bytes of row i's entry, so that path, times and MTU are read as before.
-use borrow.Author.Rules.{rules}
 use Rattle.memory.proofs.Fields.{source_store}
 use Rattle.memory.proofs.row.set_source.Goals as goal
 

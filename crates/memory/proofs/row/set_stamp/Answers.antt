@@ -1,7 +1,6 @@
 -- Three numbers stored one after the other are three changes of row i, and so one change of its place and stamp.
 use mathlib.Core.Path.{refl}
 use mathlib.Core.List.{[], ◌∷◌}
-use borrow.Author.Rules.{rules}
 use Rattle.rules.specs.Layout.{byte_size, number_size, place_offset, stamp_first_offset, stamp_seq_offset}
 use Rattle.memory.specs.Edits.{stamped_as}
 use Rattle.memory.proofs.Fields.{field_store, with_number}

@@ -1,5 +1,4 @@
 -- Both writes are one run, the bytes of last_used and expires_at, and nothing else of row i is read from it.
-use borrow.Author.Rules.{rules}
 use Rattle.rules.specs.Layout.{number_size}
 use Rattle.rules.proofs.Sizes.{small}
 use Rattle.memory.proofs.Fields.{times_store}

@@ -1,7 +1,6 @@
 -- The store is in the last byte of row i alone, so that key, entry, place and stamp are read as they were.
 use mathlib.Core.Path.{refl}
 use mathlib.Core.List.{[], ◌∷◌}
-use borrow.Author.Rules.{rules}
 use Rattle.rules.specs.Layout.{byte_size, weight_offset}
 use Rattle.memory.specs.Edits.{with_weight}
 use Rattle.memory.proofs.Fields.{field_store, with_number}

@@ -1,6 +1,5 @@
 -- The source is one byte that ends within the entry, so the cut that `read_u8` takes is the one that `entry_of` takes.
 use mathlib.Core.Path.{◌∙◌}
-use borrow.Author.Rules.{rules}
 use Rattle.memory.proofs.Fields.{field_read}
 use Rattle.memory.proofs.row.source.Goals as goal
 

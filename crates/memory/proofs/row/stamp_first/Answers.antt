@@ -1,6 +1,5 @@
 -- The eight bytes behind the place lie within row i and are those that `row_of` reads as stampFirst.
 use mathlib.Core.Path.{◌∙◌}
-use borrow.Author.Rules.{rules}
 use Rattle.memory.proofs.Fields.{field_read}
 use Rattle.memory.proofs.row.stamp_first.Goals as goal
 

@@ -1,6 +1,5 @@
 -- The stamp's second number is eight bytes past its first, and a cut of the row's cut is a cut of the memory.
 use mathlib.Core.Path.{◌∙◌}
-use borrow.Author.Rules.{rules}
 use Rattle.memory.proofs.Fields.{field_read}
 use Rattle.memory.proofs.row.stamp_seq.Goals as goal
 

@@ -1,6 +1,5 @@
 -- verified_until is the entry's last field: its end is the entry's end, so the cut still lies in the entry.
 use mathlib.Core.Path.{◌∙◌}
-use borrow.Author.Rules.{rules}
 use Rattle.memory.proofs.Fields.{field_read}
 use Rattle.memory.proofs.row.verified_until.Goals as goal
 

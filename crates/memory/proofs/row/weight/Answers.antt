@@ -1,6 +1,5 @@
 -- The weight is the row's last byte: its offset plus 1 is the size of a row, so the cut still lies in row i.
 use mathlib.Core.Path.{◌∙◌}
-use borrow.Author.Rules.{rules}
 use Rattle.memory.proofs.Fields.{field_read}
 use Rattle.memory.proofs.row.weight.Goals as goal
 

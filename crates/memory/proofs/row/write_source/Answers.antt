@@ -1,6 +1,5 @@
 -- verified_until is stored right behind the source, so that both are one run, and each value's type says that it fits.
 use native.Mathlib.Omega.{arith}
-use borrow.Author.Rules.{rules}
 use Rattle.rules.specs.Layout.{byte_size, number_size, source_in_row, verified_until_in_row}
 use Rattle.rules.specs.Memory.{le_bytes}
 use Rattle.rules.proofs.MemoryLaws.{length_le}

@@ -1,7 +1,5 @@
 -- By `gap_closed`, what `shift_down` leaves has row i missing from the rows, and the same head and rest.
 use Rattle.memory.proofs.RowLaws.{gap_closed}
-use Prim.Native.Nat.{◌-◌}
-use borrow.Author.Rules.{rules}
 use Rattle.memory.proofs.rows.close_gap.Goals as goal
 
 pub returns : goal.returns

@@ -1,12 +1,10 @@
 -- The loop has copied k bytes; row j ends where row i begins or before, so no store changes a byte still to be read.
-use mathlib.Core.Path.{◌≡◌, refl}
-use Prim.Native.Nat.{◌+◌, ◌*◌, ◌-◌}
+use mathlib.Core.Path.{refl}
+use Prim.Native.Nat.{◌+◌, ◌*◌}
 use native.Mathlib.Omega.{arith}
-use borrow.Author.Rules.{rules}
-use Rattle.rules.specs.Memory.{cut}
 use Rattle.rules.specs.Layout.{head_size, row_size}
 use Rattle.rules.proofs.MemoryLaws.{length_cut}
-use Rattle.memory.proofs.StoreRuns.{Run, run_turn, run_end}
+use Rattle.memory.proofs.StoreRuns.{run_turn, run_end}
 use Rattle.memory.proofs.RowLaws.{byte_to_copy}
 use Rattle.memory.proofs.rows.copy_row.Goals as goal
 

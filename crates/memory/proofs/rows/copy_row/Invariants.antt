@@ -1,13 +1,9 @@
 -- The loop has copied k bytes; row j ends where row i begins or before, so no store changes a byte still to be read.
-use mathlib.Core.Path.{◌≡◌, refl}
+use mathlib.Core.Path.{◌≡◌}
 use Prim.Native.Nat.{◌+◌, ◌*◌, ◌-◌}
-use native.Mathlib.Omega.{arith}
-use borrow.Author.Rules.{rules}
 use Rattle.rules.specs.Memory.{cut}
 use Rattle.rules.specs.Layout.{head_size, row_size}
-use Rattle.rules.proofs.MemoryLaws.{length_cut}
-use Rattle.memory.proofs.StoreRuns.{Run, run_turn, run_end}
-use Rattle.memory.proofs.RowLaws.{byte_to_copy}
+use Rattle.memory.proofs.StoreRuns.{Run}
 use Rattle.memory.proofs.rows.copy_row.Given as goal
 
 abbrev pub invariant-loop-k : goal.invariant-loop-k

@@ -1,6 +1,5 @@
 -- Zeroed bytes are read as 0 in each number of the head; the two writes then change the limits alone, by `fresh_view`.
 use Rattle.memory.proofs.RowLaws.{fresh_view}
-use borrow.Author.Rules.{rules}
 use Rattle.memory.proofs.rows.make_fresh.Goals as goal
 
 pub returns : goal.returns

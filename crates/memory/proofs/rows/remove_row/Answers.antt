@@ -1,7 +1,6 @@
 -- The gap closed and the last row zeroed leave the other rows and their weight, which is `takeOut` by `out_view`.
 use mathlib.Core.Path.{◌∙◌}
 use Rattle.memory.proofs.RowLaws.{out_view}
-use borrow.Author.Rules.{rules}
 use Rattle.memory.proofs.rows.remove_row.Goals as goal
 
 pub returns : goal.returns

@@ -5,7 +5,6 @@ use mathlib.Core.List.{List}
 use Rattle.rules.specs.Memory.{view_rows}
 use Rattle.memory.specs.Edits.{with_stored_weight, with_row_count}
 use Rattle.memory.proofs.RowLaws.{zeroed_view}
-use borrow.Author.Rules.{rules}
 use Rattle.memory.proofs.rows.shrink.Goals as goal
 
 pub returns : goal.returns

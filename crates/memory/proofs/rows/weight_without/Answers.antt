@@ -11,37 +11,36 @@ use Rattle.rules.specs.Rows.{in_main, row_at, weigh_rows, without_row}
 use Rattle.rules.specs.Memory.{view_rows}
 use Rattle.memory.proofs.Fields.{same_head}
 use Rattle.memory.proofs.RowLaws.{view_length, weight_out}
-use borrow.Author.Rules.{rules}
 use Rattle.memory.proofs.rows.weight_without.Goals as goal
 
 pub overflow_sub-result : goal.overflow_sub-result
 overflow_sub-result c =
     let rows : List Row = (view_rows c.args.n c.args.state.now).rows in
-    let others : List Row = without_row c.args.i (rows) in
-    let row : Row = row_at c.args.i (rows) in
-    let stored : weigh_rows in_main (others) + cond (ltb (row).place 2) (row).weight 0 ≡ c.stored_weight-stored.result = weight_out c.args.i (rows) (omega (arith, view_length c.args.n c.args.state.now, c.requires.0))
+    let others : List Row = without_row c.args.i rows in
+    let row : Row = row_at c.args.i rows in
+    let stored : weigh_rows in_main others + cond (ltb row.place 2) row.weight 0 ≡ c.stored_weight-stored.result = weight_out c.args.i rows (omega (arith, view_length c.args.n c.args.state.now, c.requires.0))
     ∙ sym (c.stored_weight-stored.ensures ∙ (same_head 0 c.args.n c.args.state.now).stored_weight ∙ c.requires.2) in
-    let main_row : weigh_rows in_main (others) + c.wide.result ≡ c.stored_weight-stored.result = let t = lt-ltb (row).place 2 (omega (arith, c.place.ensures, c.if-place-lt-PROBATION.true)) in
-    omega (arith, rw t at (stored), c.wide.ensures.0, c.weight.ensures) in
+    let main_row : weigh_rows in_main others + c.wide.result ≡ c.stored_weight-stored.result = let t = lt-ltb row.place 2 (omega (arith, c.place.ensures, c.if-place-lt-PROBATION.true)) in
+    omega (arith, rw t at stored, c.wide.ensures.0, c.weight.ensures) in
     omega (arith, main_row)
 
 pub returns-then-place-lt-PROBATION : goal.returns-then-place-lt-PROBATION
 returns-then-place-lt-PROBATION c =
     let rows : List Row = (view_rows c.args.n c.args.state.now).rows in
-    let others : List Row = without_row c.args.i (rows) in
-    let row : Row = row_at c.args.i (rows) in
-    let stored : weigh_rows in_main (others) + cond (ltb (row).place 2) (row).weight 0 ≡ c.stored_weight-stored.result = weight_out c.args.i (rows) (omega (arith, view_length c.args.n c.args.state.now, c.requires.0))
+    let others : List Row = without_row c.args.i rows in
+    let row : Row = row_at c.args.i rows in
+    let stored : weigh_rows in_main others + cond (ltb row.place 2) row.weight 0 ≡ c.stored_weight-stored.result = weight_out c.args.i rows (omega (arith, view_length c.args.n c.args.state.now, c.requires.0))
     ∙ sym (c.stored_weight-stored.ensures ∙ (same_head 0 c.args.n c.args.state.now).stored_weight ∙ c.requires.2) in
-    let main_row : weigh_rows in_main (others) + c.wide.result ≡ c.stored_weight-stored.result = let t = lt-ltb (row).place 2 (omega (arith, c.place.ensures, c.if-place-lt-PROBATION.true)) in
-    omega (arith, rw t at (stored), c.wide.ensures.0, c.weight.ensures) in
+    let main_row : weigh_rows in_main others + c.wide.result ≡ c.stored_weight-stored.result = let t = lt-ltb row.place 2 (omega (arith, c.place.ensures, c.if-place-lt-PROBATION.true)) in
+    omega (arith, rw t at stored, c.wide.ensures.0, c.weight.ensures) in
     omega (arith, main_row)
 
 pub returns-else-place-lt-PROBATION : goal.returns-else-place-lt-PROBATION
 returns-else-place-lt-PROBATION c =
     let rows : List Row = (view_rows c.args.n c.args.state.now).rows in
-    let others : List Row = without_row c.args.i (rows) in
-    let row : Row = row_at c.args.i (rows) in
-    let stored : weigh_rows in_main (others) + cond (ltb (row).place 2) (row).weight 0 ≡ c.stored_weight-stored.result = weight_out c.args.i (rows) (omega (arith, view_length c.args.n c.args.state.now, c.requires.0))
+    let others : List Row = without_row c.args.i rows in
+    let row : Row = row_at c.args.i rows in
+    let stored : weigh_rows in_main others + cond (ltb row.place 2) row.weight 0 ≡ c.stored_weight-stored.result = weight_out c.args.i rows (omega (arith, view_length c.args.n c.args.state.now, c.requires.0))
     ∙ sym (c.stored_weight-stored.ensures ∙ (same_head 0 c.args.n c.args.state.now).stored_weight ∙ c.requires.2) in
-    let t = le-ltb (row).place 2 (omega (arith, c.place.ensures, c.if-place-lt-PROBATION.false)) in
-    omega (arith, rw t at (stored))
+    let t = le-ltb row.place 2 (omega (arith, c.place.ensures, c.if-place-lt-PROBATION.false)) in
+    omega (arith, rw t at stored)

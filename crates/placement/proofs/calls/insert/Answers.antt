@@ -1,7 +1,6 @@
 -- The if decides by soundness alone: unsound is refusal 1 and no change, sound is the precondition of insert_unchecked.
 use Rattle.rules.specs.Answers.{hint_said}
 use Rattle.refusals.proofs.RefusalsSaid.{checked, one_said}
-use borrow.Author.Rules.{rules}
 use Rattle.placement.proofs.calls.insert.Goals as goal
 
 pub returns-then-not-is_sound : goal.returns-then-not-is_sound

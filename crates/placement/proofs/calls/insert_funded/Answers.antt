@@ -1,7 +1,6 @@
 -- Refusal 1 depends on the memory alone, not on the funding; where is_sound is true, insert_funded_unchecked has the same contract.
 use Rattle.rules.specs.Answers.{hint_said}
 use Rattle.refusals.proofs.RefusalsSaid.{checked, one_said}
-use borrow.Author.Rules.{rules}
 use Rattle.placement.proofs.calls.insert_funded.Goals as goal
 
 pub returns-then-not-is_sound : goal.returns-then-not-is_sound

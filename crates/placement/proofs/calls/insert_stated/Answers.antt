@@ -1,7 +1,6 @@
 -- one-said gives refusal 1 of InsertStated where is_sound is false; the other branch returns what insert_stated_unchecked ensures.
 use Rattle.rules.specs.Answers.{hint_said}
 use Rattle.refusals.proofs.RefusalsSaid.{checked, one_said}
-use borrow.Author.Rules.{rules}
 use Rattle.placement.proofs.calls.insert_stated.Goals as goal
 
 pub returns-then-not-is_sound : goal.returns-then-not-is_sound

@@ -2,7 +2,6 @@
 use mathlib.Core.Path.{◌∙◌}
 use Rattle.refusals.proofs.SoundCalls.{head_there}
 use Rattle.placement.proofs.HintCalls.{inserts_stated, shown_ttl}
-use borrow.Author.Rules.{rules}
 use Rattle.placement.proofs.calls.insert_stated_unchecked.Goals as goal
 
 pub default_ttl-default_ttl-requires : goal.default_ttl-default_ttl-requires

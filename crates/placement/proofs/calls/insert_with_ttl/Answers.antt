@@ -1,7 +1,6 @@
 -- On an unsound memory InsertWithTtl is refused by 1 at any ttl; a sound one satisfies what insert_with_ttl_unchecked requires.
 use Rattle.rules.specs.Answers.{hint_said}
 use Rattle.refusals.proofs.RefusalsSaid.{checked, one_said}
-use borrow.Author.Rules.{rules}
 use Rattle.placement.proofs.calls.insert_with_ttl.Goals as goal
 
 pub returns-then-not-is_sound : goal.returns-then-not-is_sound

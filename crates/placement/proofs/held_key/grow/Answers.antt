@@ -7,7 +7,6 @@ use Rattle.room.proofs.LeftVictims.{without_none}
 use Rattle.filing.proofs.FiledInRoom.{rows_there}
 use Rattle.filing.proofs.RoomSought.{Sought, sought_for}
 use Rattle.placement.proofs.HeldKeys.{Out, row_there, out_asks, out_room_asks, out_takes, unmade, room_there, saved_row}
-use borrow.Author.Rules.{rules}
 use Rattle.placement.proofs.held_key.grow.Goals as goal
 
 pub updated_entry-e-requires : goal.updated_entry-e-requires
@@ -22,20 +21,20 @@ remove_row-requires c = search out_asks
 pub make_room-room-requires : goal.make_room-room-requires
 make_room-room-requires c =
     let out : (Out c.args.key c.args.n c.args.i c.args.state.now c.remove_row.new.state) = record { holds = c.requires.0.holds; size = c.remove_row.auto.state; state = c.remove_row.ensures } in
-    out_room_asks (out) _ c.requires.0.seq
+    out_room_asks out _ c.requires.0.seq
 
 pub file_in_room-requires : goal.file_in_room-requires
 file_in_room-requires c =
     let out : (Out c.args.key c.args.n c.args.i c.args.state.now c.remove_row.new.state) = record { holds = c.requires.0.holds; size = c.remove_row.auto.state; state = c.remove_row.ensures } in
     let room : (Sought c.remove_row.new.state c.make_room-room.new.state (c.args.n - 1) c.args.time c.args.weight c.make_room-room.result) = sought_for c.wide-w.ensures.0 c.make_room-room.auto.state c.make_room-room.ensures in
-    (out_takes (out) (room) c.requires.0, rw c.updated_entry-e.ensures.1 c.requires.0.path.short)
+    (out_takes out room c.requires.0, rw c.updated_entry-e.ensures.1 c.requires.0.path.short)
 
 pub returns-then-room-stated : goal.returns-then-room-stated
 unfolding grow place_result room_of
 returns-then-room-stated c =
     let out : (Out c.args.key c.args.n c.args.i c.args.state.now c.remove_row.new.state) = record { holds = c.requires.0.holds; size = c.remove_row.auto.state; state = c.remove_row.ensures } in
     let room : (Sought c.remove_row.new.state c.make_room-room.new.state (c.args.n - 1) c.args.time c.args.weight c.make_room-room.result) = sought_for c.wide-w.ensures.0 c.make_room-room.auto.state c.make_room-room.ensures in
-    rw (← (room_there (out) (room)), c.if-room-stated.true, ← c.requires.0.outcome, ← c.updated_entry-e.ensures.0, ← c.requires.1)
+    rw (← (room_there out room), c.if-room-stated.true, ← c.requires.0.outcome, ← c.updated_entry-e.ensures.0, ← c.requires.1)
     (record { says = refl; state = c.file_in_room.ensures })
 
 pub file_unchanged-requires : goal.file_unchanged-requires
@@ -44,7 +43,7 @@ file_unchanged-requires c =
     let room : (Sought c.remove_row.new.state c.make_room-room.new.state (c.args.n - 1) c.args.time c.args.weight c.make_room-room.result) = sought_for c.wide-w.ensures.0 c.make_room-room.auto.state c.make_room-room.ensures in
     let x = out in
     let h = c.requires.0 in
-    ((out_takes x (room) h).free (unmade x (room) _ c.if-room-stated.false), rw (saved_row h.holds c.save_row-saved.ensures) h.holds.key)
+    ((out_takes x room h).free (unmade x room _ c.if-room-stated.false), rw (saved_row h.holds c.save_row-saved.ensures) h.holds.key)
 
 pub returns : goal.returns
 unfolding grow rejected place_result room_of
@@ -52,5 +51,5 @@ returns c =
     let out : (Out c.args.key c.args.n c.args.i c.args.state.now c.remove_row.new.state) = record { holds = c.requires.0.holds; size = c.remove_row.auto.state; state = c.remove_row.ensures } in
     let room : (Sought c.remove_row.new.state c.make_room-room.new.state (c.args.n - 1) c.args.time c.args.weight c.make_room-room.result) = sought_for c.wide-w.ensures.0 c.make_room-room.auto.state c.make_room-room.ensures in
     let x = out in
-    rw (← (room_there x (room)), c.if-room-stated.false, ← (saved_row c.requires.0.holds c.save_row-saved.ensures), without_none _ _ (unmade x (room) _ c.if-room-stated.false))
+    rw (← (room_there x room), c.if-room-stated.false, ← (saved_row c.requires.0.holds c.save_row-saved.ensures), without_none _ _ (unmade x room _ c.if-room-stated.false))
     (record { says = c.reject.ensures; state = rows_there _ _ _ c.file_unchanged.ensures })

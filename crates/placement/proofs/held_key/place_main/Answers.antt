@@ -2,12 +2,11 @@
 use mathlib.Core.Path.{◌≡◌, refl}
 use mathlib.Core.Bool.{Bool}
 use Prim.Native.Nat.{◌-◌}
-use borrow.Author.Tests.{not-true, not-false, le-leb, lt-leb}
+use borrow.Author.Tests.{le-leb, lt-leb}
 use Rattle.types.specs.Values.{covers}
 use Rattle.rules.specs.Placement.{place_result, rejected, place_main}
 use Rattle.filing.proofs.FiledInRoom.{rows_there}
 use Rattle.placement.proofs.HeldKeys.{row_there}
-use borrow.Author.Rules.{rules}
 use Rattle.placement.proofs.held_key.place_main.Goals as goal
 
 pub weight-old-requires : goal.weight-old-requires

@@ -2,13 +2,11 @@
 use mathlib.Core.Path.{◌≡◌, sym, ap, ◌∙◌}
 use mathlib.Core.Bool.{Bool}
 use Prim.Native.Nat.{max}
-use borrow.Author.Tests.{not-true, not-false}
 use Rattle.types.specs.Paths.{path_weight}
 use Rattle.types.specs.Values.{covers}
 use Rattle.rules.specs.Placement.{place_probation}
 use Rattle.placement.specs.Placements.{row_in}
 use Rattle.placement.proofs.HeldKeys.{row_there}
-use borrow.Author.Rules.{rules}
 use Rattle.placement.proofs.held_key.place_probation.Goals as goal
 
 pub weight-requires : goal.weight-requires

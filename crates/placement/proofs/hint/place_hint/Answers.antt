@@ -5,7 +5,6 @@ use Rattle.rules.proofs.MemoryLaws.{all_bytes}
 use Rattle.refusals.proofs.SoundCalls.{head_there}
 use Rattle.refusals.proofs.WriteRefusals.{passed}
 use Rattle.placement.proofs.PlacedHints.{Allowed, hint_refused, rows_sound_lem, stood_held, stood_new, held_asks, new_asks, hint_placed}
-use borrow.Author.Rules.{rules}
 use Rattle.placement.proofs.hint.place_hint.Goals as goal
 
 pub write_refusal-number-requires : goal.write_refusal-number-requires
@@ -21,17 +20,17 @@ row_count-n-requires c = head_there _ c.requires
 pub remove_expired-at-requires : goal.remove_expired-at-requires
 remove_expired-at-requires c =
     let allowed : Allowed c.args.path c.row_count-n.result c.args.state.now = record { sound = c.requires; passed = passed _ _ _ c.write_refusal-number.ensures c.if-number-ne0.false; counted = c.row_count-n.ensures } in
-    rows_sound_lem (allowed)
+    rows_sound_lem allowed
 
 pub place_held-requires : goal.place_held-requires
 place_held-requires c =
     let allowed : Allowed c.args.path c.row_count-n.result c.args.state.now = record { sound = c.requires; passed = passed _ _ _ c.write_refusal-number.ensures c.if-number-ne0.false; counted = c.row_count-n.ensures } in
-    held_asks (allowed) (stood_held _ c.remove_expired-at.ensures c.in-At.is)
+    held_asks allowed (stood_held _ c.remove_expired-at.ensures c.in-At.is)
 
 pub place_new-requires : goal.place_new-requires
 place_new-requires c =
     let allowed : Allowed c.args.path c.row_count-n.result c.args.state.now = record { sound = c.requires; passed = passed _ _ _ c.write_refusal-number.ensures c.if-number-ne0.false; counted = c.row_count-n.ensures } in
-    new_asks (allowed) (stood_new _ c.remove_expired-at.ensures c.in-New.is)
+    new_asks allowed (stood_new _ c.remove_expired-at.ensures c.in-New.is)
 
 pub returns-in-At : goal.returns-in-At
 unfolding hint_said
@@ -39,7 +38,7 @@ returns-in-At c =
     let allowed : Allowed c.args.path c.row_count-n.result c.args.state.now = record { sound = c.requires; passed = passed _ _ _ c.write_refusal-number.ensures c.if-number-ne0.false; counted = c.row_count-n.ensures } in
     let held = stood_held _ c.remove_expired-at.ensures c.in-At.is in
     let size = c.place_held.auto.state ∙ c.remove_expired-at.auto.state in
-    hint_placed (allowed) (all_bytes c.place_held.new.state (λ i. (c.slice_known-in-At-1.given i).fits)) size
+    hint_placed allowed (all_bytes c.place_held.new.state (λ i. (c.slice_known-in-At-1.given i).fits)) size
     (rw (held.placed _ _ _ _, ← held.same) c.place_held.ensures)
 
 pub returns-in-New : goal.returns-in-New
@@ -48,5 +47,5 @@ returns-in-New c =
     let allowed : Allowed c.args.path c.row_count-n.result c.args.state.now = record { sound = c.requires; passed = passed _ _ _ c.write_refusal-number.ensures c.if-number-ne0.false; counted = c.row_count-n.ensures } in
     let new = stood_new _ c.remove_expired-at.ensures c.in-New.is in
     let size = c.place_new.auto.state ∙ c.remove_expired-at.auto.state in
-    hint_placed (allowed) (all_bytes c.place_new.new.state (λ i. (c.slice_known-in-New-1.given i).fits)) size
+    hint_placed allowed (all_bytes c.place_new.new.state (λ i. (c.slice_known-in-New-1.given i).fits)) size
     (rw (new.placed _ _ _ _) c.place_new.ensures)

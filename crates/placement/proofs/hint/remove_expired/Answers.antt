@@ -2,7 +2,6 @@
 use native.Mathlib.Omega.{arith}
 use Rattle.placement.proofs.HeldKeys.{row_there, out_asks}
 use Rattle.placement.proofs.PlacedHints.{Searched, search_asks, holds_found, held_here, new_expired, new_missing}
-use borrow.Author.Rules.{rules}
 use Rattle.placement.proofs.hint.remove_expired.Goals as goal
 
 pub search-at-requires : goal.search-at-requires
@@ -11,17 +10,17 @@ search-at-requires c = search search_asks
 pub is_expired-requires : goal.is_expired-requires
 is_expired-requires c =
     let looked : Searched c.args.key c.args.n c.search-at.result c.args.state.now = record { sound = c.requires; found = c.search-at.ensures } in
-    row_there (holds_found (looked) c.in-At.is)
+    row_there (holds_found looked c.in-At.is)
 
 pub remove_row-requires : goal.remove_row-requires
 remove_row-requires c =
     let looked : Searched c.args.key c.args.n c.search-at.result c.args.state.now = record { sound = c.requires; found = c.search-at.ensures } in
-    out_asks (holds_found (looked) c.in-At.is)
+    out_asks (holds_found looked c.in-At.is)
 
 pub overflow_sub-result : goal.overflow_sub-result
 overflow_sub-result c =
     let looked : Searched c.args.key c.args.n c.search-at.result c.args.state.now = record { sound = c.requires; found = c.search-at.ensures } in
-    omega (arith, row_there (holds_found (looked) c.in-At.is))
+    omega (arith, row_there (holds_found looked c.in-At.is))
 
 pub returns-then-is_expired : goal.returns-then-is_expired
 returns-then-is_expired c =
@@ -34,9 +33,9 @@ returns-then-is_expired c =
 pub returns-else-is_expired : goal.returns-else-is_expired
 returns-else-is_expired c =
     let looked : Searched c.args.key c.args.n c.search-at.result c.args.state.now = record { sound = c.requires; found = c.search-at.ensures } in
-    held_here (looked) c.in-At.is c.is_expired.ensures c.if-is_expired.false
+    held_here looked c.in-At.is c.is_expired.ensures c.if-is_expired.false
 
 pub returns-in-Absent : goal.returns-in-Absent
 returns-in-Absent c =
     let looked : Searched c.args.key c.args.n c.search-at.result c.args.state.now = record { sound = c.requires; found = c.search-at.ensures } in
-    new_missing (looked) _ c.in-Absent.is
+    new_missing looked _ c.in-Absent.is

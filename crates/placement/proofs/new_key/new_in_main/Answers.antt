@@ -1,7 +1,6 @@
 -- Takes is required, so file_in_room applies; entry and weight are those of the rules, and the charge is the weight, widened.
 use mathlib.Core.Path.{◌∙◌}
 use Rattle.rules.specs.Placement.{place_result}
-use borrow.Author.Rules.{rules}
 use Rattle.placement.proofs.new_key.new_in_main.Goals as goal
 
 pub file_in_room-requires : goal.file_in_room-requires

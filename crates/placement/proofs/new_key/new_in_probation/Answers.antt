@@ -13,13 +13,13 @@ pub file_in_room-requires : goal.file_in_room-requires
 file_in_room-requires c =
     let made : RoomInProbation c.args.key c.args.n c.make_probation_room-room.result c.args.state.now c.make_probation_room-room.new.state = let r = c.make_probation_room-room in
     record { without = c.requires.0; stamps = c.requires.2; size = r.auto.state; walk = r.ensures.0; leaves = r.ensures.1 } in
-    (probation_takes (made), rw c.new_entry-e.ensures.1 c.requires.1.short)
+    (probation_takes made, rw c.new_entry-e.ensures.1 c.requires.1.short)
 
 pub overflow_add-before : goal.overflow_add-before
 overflow_add-before c =
     let made : RoomInProbation c.args.key c.args.n c.make_probation_room-room.result c.args.state.now c.make_probation_room-room.new.state = let r = c.make_probation_room-room in
     record { without = c.requires.0; stamps = c.requires.2; size = r.auto.state; walk = r.ensures.0; leaves = r.ensures.1 } in
-    omega (arith, c.requires.3, probation_few (made))
+    omega (arith, c.requires.3, probation_few made)
 
 pub returns : goal.returns
 unfolding new_in_probation place_result

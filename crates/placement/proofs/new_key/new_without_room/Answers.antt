@@ -2,7 +2,6 @@
 use mathlib.Core.Path.{refl}
 use Rattle.rules.specs.Placement.{place_result, rejected, new_without_room}
 use Rattle.filing.proofs.FiledInRoom.{rows_there}
-use borrow.Author.Rules.{rules}
 use Rattle.placement.proofs.new_key.new_without_room.Goals as goal
 
 pub returns-in-Uncharged : goal.returns-in-Uncharged

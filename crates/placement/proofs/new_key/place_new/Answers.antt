@@ -2,7 +2,6 @@
 use mathlib.Core.Path.{◌≡◌, sym, ap, ◌∙◌}
 use mathlib.Core.Bool.{Bool}
 use native.Mathlib.Omega.{arith}
-use borrow.Author.Tests.{not-true, not-false}
 use Rattle.types.specs.Paths.{path_weight}
 use Rattle.types.specs.Values.{covers}
 use Rattle.rules.specs.Placement.{place_new}
@@ -28,19 +27,19 @@ make_room-room-requires c = room_asks _ _ _ c.requires.0.sound c.requires.2
 pub new_in_main-requires : goal.new_in_main-requires
 new_in_main-requires c =
     let room : Sought c.args.state.now c.make_room-room.new.state c.args.n c.args.time (path_weight c.args.path) c.make_room-room.result = sought_for c.weight-w.ensures c.make_room-room.auto.state c.make_room-room.ensures in
-    (made_takes c.requires.0 c.requires.2 (room) c.if-room.true, c.requires.1)
+    (made_takes c.requires.0 c.requires.2 room c.if-room.true, c.requires.1)
 
 pub returns-then-room : goal.returns-then-room
 unfolding place_new room_of
 returns-then-room c =
     let covered : (x : Bool) → c.covers.result ≡ x → (covers c.args.funding (path_weight c.args.path) ≡ x) = λ x e. sym (c.covers.ensures ∙ ap (covers _) c.weight-w.ensures) ∙ e in
     let room : Sought c.args.state.now c.make_room-room.new.state c.args.n c.args.time (path_weight c.args.path) c.make_room-room.result = sought_for c.weight-w.ensures c.make_room-room.auto.state c.make_room-room.ensures in
-    rw (covered _ c.if-not-covers.false, ← (room).room, c.if-room.true) c.new_in_main.ensures
+    rw (covered _ c.if-not-covers.false, ← room.room, c.if-room.true) c.new_in_main.ensures
 
 pub new_without_room-requires : goal.new_without_room-requires
 new_without_room-requires c =
     let room : Sought c.args.state.now c.make_room-room.new.state c.args.n c.args.time (path_weight c.args.path) c.make_room-room.result = sought_for c.weight-w.ensures c.make_room-room.auto.state c.make_room-room.ensures in
-    let left = unmade_leaves c.requires.0 c.requires.2 (room) c.if-room.false in
+    let left = unmade_leaves c.requires.0 c.requires.2 room c.if-room.false in
     (left.0, c.requires.1, left.1, omega (arith, left.2))
 
 pub returns : goal.returns
@@ -48,5 +47,5 @@ unfolding place_new room_of
 returns c =
     let covered : (x : Bool) → c.covers.result ≡ x → (covers c.args.funding (path_weight c.args.path) ≡ x) = λ x e. sym (c.covers.ensures ∙ ap (covers _) c.weight-w.ensures) ∙ e in
     let room : Sought c.args.state.now c.make_room-room.new.state c.args.n c.args.time (path_weight c.args.path) c.make_room-room.result = sought_for c.weight-w.ensures c.make_room-room.auto.state c.make_room-room.ensures in
-    rw (covered _ c.if-not-covers.false, ← (room).room, c.if-room.false, without_none _ _ ((room).none c.if-room.false))
+    rw (covered _ c.if-not-covers.false, ← room.room, c.if-room.false, without_none _ _ (room.none c.if-room.false))
     c.new_without_room.ensures

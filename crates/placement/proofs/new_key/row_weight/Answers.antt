@@ -1,7 +1,6 @@
 -- A writable path has at most pathPlaces elements, so its weight is within weightLimit and the cast keeps it.
 use native.Mathlib.Omega.{arith}
 use Rattle.placement.proofs.NewKeys.{light}
-use borrow.Author.Rules.{rules}
 use Rattle.placement.proofs.new_key.row_weight.Goals as goal
 
 pub overflow_cast-result : goal.overflow_cast-result

@@ -1,11 +1,8 @@
 -- The loop has made the bytes from `from` up to i zero, and by `zero_turn` one store more is a run with one zero more.
-use mathlib.Core.Path.{◌≡◌, refl}
-use Prim.Native.Nat.{◌+◌, ◌-◌, ◌≤◌}
-use native.Mathlib.Omega.{arith}
-use lib.ListN.{length, length-set, replicate}
+use mathlib.Core.Path.{◌≡◌}
+use Prim.Native.Nat.{◌-◌, ◌≤◌}
+use lib.ListN.{length, replicate}
 use lib.Seq.{sets}
-use borrow.Author.Rules.{rules}
-use Rattle.raw.proofs.StoreLaws.{zero_turn}
 use Rattle.raw.proofs.moves.fill_zero.Given as goal
 
 abbrev pub invariant-loop-i : goal.invariant-loop-i

@@ -1,11 +1,11 @@
 -- The bytes from `at` up to i are those that stood a row further on; the byte read, at i + ROW, is past every store so far.
 use borrow.Author.Rules.{rules}
 use mathlib.Core.Path.{◌≡◌, refl}
-use Prim.Native.Nat.{◌+◌, ◌-◌, ◌≤◌}
+use Prim.Native.Nat.{◌+◌, ◌-◌}
 use native.Mathlib.Omega.{arith}
 use native.Mathlib.Numerals.{add-one}
-use lib.ListN.{length, length-set}
-use Rattle.raw.proofs.MoveLaws.{down, down_start, down_step}
+use lib.ListN.{length-set}
+use Rattle.raw.proofs.MoveLaws.{down_start, down_step}
 use Rattle.rules.specs.Layout.{row_size}
 use Rattle.raw.proofs.moves.shift_down.Goals as goal
 

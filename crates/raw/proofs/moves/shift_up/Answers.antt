@@ -1,10 +1,9 @@
 -- The bytes from i up to `to` have moved, from the last one down, so the byte read is below every store so far.
 use borrow.Author.Rules.{rules}
 use mathlib.Core.Path.{◌≡◌, refl}
-use Prim.Native.Nat.{◌≤◌}
 use native.Mathlib.Omega.{arith}
-use lib.ListN.{length, length-set}
-use Rattle.raw.proofs.MoveLaws.{up, up_start, up_turn}
+use lib.ListN.{length-set}
+use Rattle.raw.proofs.MoveLaws.{up_start, up_turn}
 use Rattle.rules.specs.Layout.{row_size}
 use Rattle.raw.proofs.moves.shift_up.Goals as goal
 

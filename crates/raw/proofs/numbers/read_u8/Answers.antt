@@ -1,5 +1,4 @@
 -- A cut of one byte holds that byte alone, so its little-endian number is the byte itself.
-use borrow.Author.Rules.{rules}
 use Rattle.raw.proofs.NumberLaws.{byte_number}
 use Rattle.raw.proofs.numbers.read_u8.Goals as goal
 

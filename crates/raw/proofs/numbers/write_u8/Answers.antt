@@ -1,6 +1,5 @@
 -- v is below 256, so it is its own remainder and the store is the run of one byte.
 use Rattle.raw.proofs.NumberLaws.{byte_store}
-use borrow.Author.Rules.{rules}
 use Rattle.raw.proofs.numbers.write_u8.Goals as goal
 
 pub returns : goal.returns

@@ -3,7 +3,6 @@ use mathlib.Core.Path.{refl, ◌∙◌}
 use Rattle.rules.specs.Refusals.{bad_path}
 use Rattle.refusals.proofs.SoundCalls.{shown_seq}
 use Rattle.refusals.proofs.WriteRefusals.{bad_two, spent_three, none_zero}
-use borrow.Author.Rules.{rules}
 use Rattle.refusals.proofs.write.write_refusal.Goals as goal
 
 pub returns-then-len : goal.returns-then-len

@@ -5,7 +5,6 @@ use Rattle.types.proofs.CodeLaws.{as_bit}
 use mathlib.Core.Path.{ap, ◌∙◌}
 use Rattle.rules.specs.Commands.{reply}
 use Rattle.rules.specs.Answers.{demote_said}
-use borrow.Author.Rules.{rules}
 use Rattle.replies.proofs.answer.demote_reply.Goals as goal
 
 pub returns-in-Refused : goal.returns-in-Refused

@@ -1,7 +1,6 @@
 -- The answer's cases are a refusal, a time and none, and `reply` of an optional time has the same values for each.
 use Rattle.rules.specs.Commands.{reply}
 use Rattle.rules.specs.Answers.{expiry_said}
-use borrow.Author.Rules.{rules}
 use Rattle.replies.proofs.answer.expiry_reply.Goals as goal
 
 pub returns-in-Refused : goal.returns-in-Refused

@@ -1,7 +1,6 @@
 -- `hint_said` has two cases, and the contracts of `refused` and `Placed::reply` are the reply of each.
 use Rattle.rules.specs.Commands.{reply}
 use Rattle.rules.specs.Answers.{hint_said}
-use borrow.Author.Rules.{rules}
 use Rattle.replies.proofs.answer.hint_reply.Goals as goal
 
 pub returns-in-Refused : goal.returns-in-Refused

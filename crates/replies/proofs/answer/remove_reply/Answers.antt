@@ -1,7 +1,6 @@
 -- The entry beside the removal does not occur in the reply, so each case holds for every entry.
 use Rattle.rules.specs.Answers.{removal_said}
 use Rattle.rules.specs.Commands.{reply}
-use borrow.Author.Rules.{rules}
 use Rattle.replies.proofs.answer.remove_reply.Goals as goal
 
 pub returns-in-Refused : goal.returns-in-Refused

@@ -1,7 +1,6 @@
 -- A refusal reduces to `refuses` and statistics to `statsReply`, which the method's contract gives.
 use Rattle.rules.specs.Commands.{reply}
 use Rattle.rules.specs.Answers.{stats_said}
-use borrow.Author.Rules.{rules}
 use Rattle.replies.proofs.answer.stats_reply.Goals as goal
 
 pub returns-in-Refused : goal.returns-in-Refused

@@ -1,7 +1,6 @@
 -- The count of removed rows is the first value in `reply` too; the only other variant is the refusal.
 use Rattle.rules.specs.Commands.{reply}
 use Rattle.rules.specs.Answers.{sweep_said}
-use borrow.Author.Rules.{rules}
 use Rattle.replies.proofs.answer.sweep_reply.Goals as goal
 
 pub returns-in-Refused : goal.returns-in-Refused

@@ -1,6 +1,5 @@
 -- `touch_reply` is defined by the same three cases as the match: refused, found with a length, absent.
 use Rattle.rules.specs.Answers.{touch_reply}
-use borrow.Author.Rules.{rules}
 use Rattle.replies.proofs.answer.touch_reply.Goals as goal
 
 pub returns-in-Refused : goal.returns-in-Refused

@@ -1,7 +1,6 @@
 -- For a done insert the goal is the contract of `VerifiedInsert::reply`, and for a refused one that of `refused`.
 use Rattle.rules.specs.Commands.{reply}
 use Rattle.rules.specs.Answers.{verified_said}
-use borrow.Author.Rules.{rules}
 use Rattle.replies.proofs.answer.verified_reply.Goals as goal
 
 pub returns-in-Refused : goal.returns-in-Refused

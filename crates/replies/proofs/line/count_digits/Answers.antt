@@ -1,6 +1,6 @@
 -- The digits counted and those left add up to all; what is left is below 10^(20 − n), so n stays at most 20.
 use native.Mathlib.Omega.{arith}
-use Rattle.replies.proofs.Digits.{Counted, count_start, count_turn, count_end}
+use Rattle.replies.proofs.Digits.{count_start, count_turn, count_end}
 use Rattle.replies.proofs.line.count_digits.Goals as goal
 
 pub loop-rest-init : goal.loop-rest-init

@@ -1,5 +1,4 @@
 -- The test d < 10 is the definition's, and d < 16 keeps 87 + d within a byte.
-use borrow.Author.Rules.{rules}
 use borrow.Author.Tests.{lt-ltb, le-ltb}
 use Rattle.rules.specs.Commands.{hex_digit}
 use Rattle.replies.proofs.line.hex_digit.Goals as goal

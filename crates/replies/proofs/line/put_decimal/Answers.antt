@@ -1,11 +1,8 @@
 -- The last i digits of the rest, stored over what stands, would make the whole text; at i = 0 nothing is left to store.
 use mathlib.Core.Path.{◌≡◌, refl, ap}
-use Prim.Native.Nat.{◌+◌, ◌≤◌}
+use Prim.Native.Nat.{◌+◌}
 use native.Mathlib.Omega.{arith}
-use lib.ListN.{length, length-set}
-use lib.Seq.{sets}
-use borrow.Author.Rules.{rules}
-use Rattle.rules.specs.Commands.{decimal}
+use lib.ListN.{length-set}
 use Rattle.replies.proofs.Digits.{last_digits, all_digits, at_most}
 use Rattle.replies.proofs.Texts.{digit_turn}
 use Rattle.replies.proofs.line.put_decimal.Goals as goal

@@ -1,13 +1,10 @@
 -- The last i digits of the rest, stored over what stands, would make the whole text; at i = 0 nothing is left to store.
-use mathlib.Core.Path.{◌≡◌, refl, ap}
-use Prim.Native.Nat.{◌+◌, ◌≤◌}
-use native.Mathlib.Omega.{arith}
-use lib.ListN.{length, length-set}
+use mathlib.Core.Path.{◌≡◌}
+use Prim.Native.Nat.{◌≤◌}
+use lib.ListN.{length}
 use lib.Seq.{sets}
-use borrow.Author.Rules.{rules}
 use Rattle.rules.specs.Commands.{decimal}
-use Rattle.replies.proofs.Digits.{last_digits, all_digits, at_most}
-use Rattle.replies.proofs.Texts.{digit_turn}
+use Rattle.replies.proofs.Digits.{last_digits}
 use Rattle.replies.proofs.line.put_decimal.Given as goal
 
 -- the digits that are left, written over what stands, lead to the whole number

@@ -1,8 +1,8 @@
 -- Six numbers of at most 20 digits keep the text within 129 bytes, and by `line_written` the stores in order are one run.
-use mathlib.Core.Path.{◌≡◌, ◌∙◌}
+use mathlib.Core.Path.{◌≡◌}
 use Prim.Native.Nat.{ℕ, ◌+◌, ◌≤◌, ◌<◌}
 use native.Mathlib.Omega.{arith}
-use lib.ListN.{length, length-set, length-map}
+use lib.ListN.{length, length-set}
 use borrow.Author.Rules.{rules}
 use Rattle.replies.proofs.Digits.{at_most}
 use Rattle.replies.proofs.Texts.{line_most, line_fits, line_written}

@@ -1,10 +1,7 @@
 -- The text of the values from k on, stored at `end`, makes the whole; each value took at most 21 bytes, so there is room.
-use mathlib.Core.Path.{◌≡◌, refl, ◌∙◌}
-use Prim.Native.Nat.{◌-◌}
+use mathlib.Core.Path.{refl, ◌∙◌}
 use native.Mathlib.Omega.{arith}
-use lib.ListN.{length}
-use borrow.Author.Rules.{rules}
-use Rattle.replies.proofs.Texts.{Written, number_turn, all_written}
+use Rattle.replies.proofs.Texts.{number_turn, all_written}
 use Rattle.replies.proofs.line.put_values.Goals as goal
 
 pub loop-k-init : goal.loop-k-init

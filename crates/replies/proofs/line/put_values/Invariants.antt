@@ -1,10 +1,8 @@
 -- The text of the values from k on, stored at `end`, makes the whole; each value took at most 21 bytes, so there is room.
-use mathlib.Core.Path.{◌≡◌, refl, ◌∙◌}
+use mathlib.Core.Path.{◌≡◌}
 use Prim.Native.Nat.{◌-◌}
-use native.Mathlib.Omega.{arith}
 use lib.ListN.{length}
-use borrow.Author.Rules.{rules}
-use Rattle.replies.proofs.Texts.{Written, number_turn, all_written}
+use Rattle.replies.proofs.Texts.{Written}
 use Rattle.replies.proofs.line.put_values.Given as goal
 
 abbrev pub invariant-loop-k : goal.invariant-loop-k

@@ -1,7 +1,6 @@
 -- The definition asks the same of the number of bytes as the code: none is absent, and any other is so many whole elements.
 use borrow.Author.Tests.{ne_eqb}
 use Rattle.replies.specs.Part.{part_reply}
-use borrow.Author.Rules.{rules}
 use Rattle.replies.proofs.part.part_reply.Goals as goal
 
 pub returns-then-bytes-eq0 : goal.returns-then-bytes-eq0

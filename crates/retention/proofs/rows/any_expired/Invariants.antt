@@ -1,12 +1,7 @@
 -- The first i rows all stay under the expiry test, whatever the address, so false means that all n rows stay.
-use mathlib.Core.Path.{refl}
-use mathlib.Core.Bool.{true}
 use Prim.Native.Nat.{◌-◌, ◌≤◌}
-use native.Mathlib.Omega.{arith}
-use borrow.Author.Rules.{rules}
 use Rattle.types.specs.declared.node_addr.NodeAddr.{NodeAddr}
-use Rattle.rules.proofs.Addresses.{contradiction}
-use Rattle.retention.proofs.KeptRows.{AllStay, stay_start, stay_turn, stay_end, test_expired}
+use Rattle.retention.proofs.KeptRows.{AllStay}
 use Rattle.retention.proofs.rows.any_expired.Given as goal
 
 abbrev pub invariant-loop-i : goal.invariant-loop-i

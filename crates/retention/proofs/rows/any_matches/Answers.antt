@@ -3,7 +3,6 @@ use mathlib.Core.Path.{refl}
 use mathlib.Core.Bool.{true}
 use Rattle.rules.proofs.Addresses.{contradiction}
 use Rattle.retention.proofs.KeptRows.{of_kind}
-use borrow.Author.Rules.{rules}
 use Rattle.retention.proofs.rows.any_matches.Goals as goal
 
 pub returns-then-kind-eq-EXPIRED : goal.returns-then-kind-eq-EXPIRED

@@ -3,11 +3,9 @@ use mathlib.Core.Path.{ap}
 use mathlib.Core.Bool.{not}
 use mathlib.Core.Path.{refl}
 use mathlib.Core.Bool.{true}
-use Prim.Native.Nat.{ℕ, ◌-◌, ◌≤◌}
 use native.Mathlib.Omega.{arith}
-use borrow.Author.Rules.{rules}
 use Rattle.rules.proofs.Addresses.{contradiction}
-use Rattle.retention.proofs.KeptRows.{AllStay, path_at, stay_start, stay_turn, stay_end, test_root}
+use Rattle.retention.proofs.KeptRows.{path_at, stay_start, stay_turn, stay_end, test_root}
 use Rattle.retention.proofs.rows.any_other_root.Goals as goal
 
 pub loop-i-init : goal.loop-i-init

@@ -1,11 +1,6 @@
 -- No path of the rows passed contains the address, so these rows stay, and at the end they are all rows.
-use mathlib.Core.Path.{refl}
-use mathlib.Core.Bool.{true}
 use Prim.Native.Nat.{ℕ, ◌-◌, ◌≤◌}
-use native.Mathlib.Omega.{arith}
-use borrow.Author.Rules.{rules}
-use Rattle.rules.proofs.Addresses.{contradiction}
-use Rattle.retention.proofs.KeptRows.{AllStay, path_at, stay_start, stay_turn, stay_end, test_via}
+use Rattle.retention.proofs.KeptRows.{AllStay}
 use Rattle.retention.proofs.rows.any_via_node.Given as goal
 
 abbrev pub invariant-loop-i : goal.invariant-loop-i

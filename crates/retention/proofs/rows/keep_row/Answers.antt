@@ -1,5 +1,4 @@
 -- keptDown copies only where j is below i, and so does the branch; where j is i the bytes stay.
-use borrow.Author.Rules.{rules}
 use Rattle.retention.proofs.KeptRows.{down, down_stays}
 use Rattle.retention.proofs.rows.keep_row.Goals as goal
 

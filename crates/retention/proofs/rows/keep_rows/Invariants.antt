@@ -1,8 +1,6 @@
 -- The first j rows are those kept of the first i, and the rows from i on are still as they were.
 use Prim.Native.Nat.{◌-◌}
-use native.Mathlib.Omega.{arith}
-use borrow.Author.Rules.{rules}
-use Rattle.retention.proofs.KeptRows.{Kept, kept_start, kept_turn, kept_end, row_fits}
+use Rattle.retention.proofs.KeptRows.{Kept}
 use Rattle.retention.proofs.rows.keep_rows.Given as goal
 
 abbrev pub invariant-loop-i : goal.invariant-loop-i

@@ -1,5 +1,4 @@
 -- The answer of row_matches is sweepTest, and both results of the contract follow it as the branch does.
-use borrow.Author.Rules.{rules}
 use Rattle.retention.proofs.KeptRows.{passed_out, passed_kept}
 use Rattle.retention.proofs.rows.pass_row.Goals as goal
 

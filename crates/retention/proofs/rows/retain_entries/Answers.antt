@@ -1,6 +1,5 @@
 -- Where no row matches, the rows kept are all rows, and the head's count and weight are theirs already.
 use Rattle.retention.proofs.KeptRows.{unswept}
-use borrow.Author.Rules.{rules}
 use Rattle.retention.proofs.rows.retain_entries.Goals as goal
 
 pub returns : goal.returns

@@ -1,6 +1,5 @@
 -- A place below 2 is in main and gives the row's weight, which is one byte; any other place gives 0.
 use mathlib.Core.Path.{◌∙◌}
-use borrow.Author.Rules.{rules}
 use Rattle.retention.proofs.KeptRows.{weighs, weighs_nothing}
 use Rattle.retention.proofs.rows.weight_in_main.Goals as goal
 

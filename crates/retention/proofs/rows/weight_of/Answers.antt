@@ -1,11 +1,8 @@
 -- The sum and the weight of the rows from i on are the whole weight, and at most 256 for each row fits.
 use mathlib.Core.Path.{◌≡◌}
 use mathlib.Core.Bool.{cond}
-use Prim.Native.Nat.{◌+◌, ◌*◌, ◌-◌, ◌≤◌}
 use native.Mathlib.Omega.{arith}
-use lib.ListN.{drop}
-use borrow.Author.Rules.{rules}
-use Rattle.rules.specs.Rows.{in_main, weigh_rows}
+use Rattle.rules.specs.Rows.{in_main}
 use Rattle.rules.specs.Memory.{view_rows}
 use Rattle.rules.proofs.Foreign.{view_length}
 use Rattle.memory.proofs.RowSums.{total_next, total_end}

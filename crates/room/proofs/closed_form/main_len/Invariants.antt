@@ -1,13 +1,7 @@
 -- The count of main rows from i on grows by at most 1 as i falls by 1, so it never passes n.
-use mathlib.Core.Path.{ap}
-use Prim.Native.Nat.{ℕ}
-use native.Mathlib.Omega.{arith}
-use lib.Dec.{ltb}
-use borrow.Author.Rules.{rules}
 use Rattle.rules.specs.Rows.{in_main}
 use Rattle.rules.specs.Memory.{view_rows}
-use Rattle.memory.proofs.RowLaws.{view_length}
-use Rattle.stamps.proofs.RowTotals.{Counted, one_at_most, counted_start, counted_turn, counted_end}
+use Rattle.stamps.proofs.RowTotals.{Counted}
 use Rattle.room.proofs.closed_form.main_len.Given as goal
 
 abbrev pub invariant-loop-i : goal.invariant-loop-i

@@ -1,9 +1,7 @@
 -- Count and weight are those of the rows from i on that are verified in main; at most 255 a row over 1,024 rows fits.
 use native.Mathlib.Omega.{arith}
-use borrow.Author.Rules.{rules}
-use Rattle.rules.specs.Memory.{view_rows}
 use Rattle.memory.proofs.RowLaws.{view_length}
-use Rattle.room.proofs.ClosedForm.{Bounds, Weighed, most, bounds_read, room_asks, weighed_start, weighed_in, weighed_past, weighed_small, weighed_end}
+use Rattle.room.proofs.ClosedForm.{most, bounds_read, room_asks, weighed_start, weighed_in, weighed_past, weighed_small, weighed_end}
 use Rattle.room.proofs.closed_form.room_can_be_made.Goals as goal
 
 pub cut_to_bound-cut-requires : goal.cut_to_bound-cut-requires

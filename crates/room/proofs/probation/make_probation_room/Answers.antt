@@ -1,13 +1,6 @@
 -- Restamping leaves probation at Q rows, its bound in a sound state, so without the first row not stale there is room.
-use mathlib.Core.Path.{◌≡◌}
 use native.Mathlib.Omega.{arith}
-use borrow.Author.Rules.{rules}
-use Rattle.rules.specs.Records.{probation}
-use Rattle.rules.specs.Rows.{lowest_stamp, total}
-use Rattle.rules.specs.Room.{probation_visits}
-use Rattle.rules.specs.Memory.{view_rows}
-use Rattle.stamps.specs.Walked.{lowest_of}
-use Rattle.room.proofs.ProbationVictims.{Evicting, Taken, Turned, room_free, evict_start, evict_ends, taken, key_fits, restamp_asks, stale_turn, fresh_yields}
+use Rattle.room.proofs.ProbationVictims.{Taken, Turned, room_free, evict_start, evict_ends, taken, key_fits, restamp_asks, stale_turn, fresh_yields}
 use Rattle.room.proofs.probation.make_probation_room.Goals as goal
 
 pub returns-then-count-bound : goal.returns-then-count-bound
@@ -26,7 +19,7 @@ returns-in-Nothing c =
 pub overflow_add-examined : goal.overflow_add-examined
 overflow_add-examined c =
     let up : Taken c.args.n c.loop-victim.examined c.stored_weight-stored.result c.in-At.i c.args.state.now c.loop-victim.state = let v = c.loop-victim.invariant in taken v.0 v.1 c.in-At.is in
-    omega (arith, key_fits (up))
+    omega (arith, key_fits up)
 
 pub is_stale-requires : goal.is_stale-requires
 is_stale-requires c =
@@ -36,27 +29,27 @@ is_stale-requires c =
 pub restamp-requires : goal.restamp-requires
 restamp-requires c =
     let up : Taken c.args.n c.loop-victim.examined c.stored_weight-stored.result c.in-At.i c.args.state.now c.loop-victim.state = let v = c.loop-victim.invariant in taken v.0 v.1 c.in-At.is in
-    restamp_asks (up)
+    restamp_asks up
 
 pub lowest_stamp-again-requires : goal.lowest_stamp-again-requires
 lowest_stamp-again-requires c =
     let up : Taken c.args.n c.loop-victim.examined c.stored_weight-stored.result c.in-At.i c.args.state.now c.loop-victim.state = let v = c.loop-victim.invariant in taken v.0 v.1 c.in-At.is in
-    let restamped : Turned c.args.n c.loop-victim.examined c.stored_weight-stored.result c.args.state.now c.loop-victim.state c.restamp.new.state = stale_turn (up) c.is_stale.ensures c.if-is_stale.true c.restamp.auto.state c.restamp.ensures in
-    (restamped).going.size
+    let restamped : Turned c.args.n c.loop-victim.examined c.stored_weight-stored.result c.args.state.now c.loop-victim.state c.restamp.new.state = stale_turn up c.is_stale.ensures c.if-is_stale.true c.restamp.auto.state c.restamp.ensures in
+    restamped.going.size
 
 pub loop-victim-smaller : goal.loop-victim-smaller
 loop-victim-smaller c =
     let up : Taken c.args.n c.loop-victim.examined c.stored_weight-stored.result c.in-At.i c.args.state.now c.loop-victim.state = let v = c.loop-victim.invariant in taken v.0 v.1 c.in-At.is in
-    let restamped : Turned c.args.n c.loop-victim.examined c.stored_weight-stored.result c.args.state.now c.loop-victim.state c.restamp.new.state = stale_turn (up) c.is_stale.ensures c.if-is_stale.true c.restamp.auto.state c.restamp.ensures in
-    (restamped).less
+    let restamped : Turned c.args.n c.loop-victim.examined c.stored_weight-stored.result c.args.state.now c.loop-victim.state c.restamp.new.state = stale_turn up c.is_stale.ensures c.if-is_stale.true c.restamp.auto.state c.restamp.ensures in
+    restamped.less
 
 pub loop-victim-preserved : goal.loop-victim-preserved
 loop-victim-preserved c =
     let up : Taken c.args.n c.loop-victim.examined c.stored_weight-stored.result c.in-At.i c.args.state.now c.loop-victim.state = let v = c.loop-victim.invariant in taken v.0 v.1 c.in-At.is in
-    let restamped : Turned c.args.n c.loop-victim.examined c.stored_weight-stored.result c.args.state.now c.loop-victim.state c.restamp.new.state = stale_turn (up) c.is_stale.ensures c.if-is_stale.true c.restamp.auto.state c.restamp.ensures in
-    ((restamped).going, c.lowest_stamp-again.ensures.row)
+    let restamped : Turned c.args.n c.loop-victim.examined c.stored_weight-stored.result c.args.state.now c.loop-victim.state c.restamp.new.state = stale_turn up c.is_stale.ensures c.if-is_stale.true c.restamp.auto.state c.restamp.ensures in
+    (restamped.going, c.lowest_stamp-again.ensures.row)
 
 pub returns-else-is_stale : goal.returns-else-is_stale
 returns-else-is_stale c =
     let up : Taken c.args.n c.loop-victim.examined c.stored_weight-stored.result c.in-At.i c.args.state.now c.loop-victim.state = let v = c.loop-victim.invariant in taken v.0 v.1 c.in-At.is in
-    fresh_yields (up) c.is_stale.ensures c.if-is_stale.false
+    fresh_yields up c.is_stale.ensures c.if-is_stale.false

@@ -1,13 +1,11 @@
 -- Restamping leaves probation at Q rows, its bound in a sound state, so without the first row not stale there is room.
 use mathlib.Core.Path.{◌≡◌}
-use native.Mathlib.Omega.{arith}
-use borrow.Author.Rules.{rules}
 use Rattle.rules.specs.Records.{probation}
 use Rattle.rules.specs.Rows.{lowest_stamp, total}
 use Rattle.rules.specs.Room.{probation_visits}
 use Rattle.rules.specs.Memory.{view_rows}
 use Rattle.stamps.specs.Walked.{lowest_of}
-use Rattle.room.proofs.ProbationVictims.{Evicting, Taken, Turned, room_free, evict_start, evict_ends, taken, key_fits, restamp_asks, stale_turn, fresh_yields}
+use Rattle.room.proofs.ProbationVictims.{Evicting}
 use Rattle.room.proofs.probation.make_probation_room.Given as goal
 
 abbrev pub invariant-loop-victim : goal.invariant-loop-victim

@@ -1,14 +1,9 @@
 -- Each victim set aside takes 1 from the count and its weight from main's sum; what is still to choose stays the same.
-use mathlib.Core.Path.{◌≡◌, refl, sym, ◌∙◌}
-use Prim.Native.Nat.{◌+◌, ◌-◌}
-use native.Mathlib.Omega.{arith}
+use mathlib.Core.Path.{◌≡◌}
 use mathlib.Core.Bool.{false}
-use borrow.Author.Rules.{rules}
 use Rattle.rules.specs.Memory.{view_rows}
-use Rattle.rules.proofs.Addresses.{contradiction}
 use Rattle.stamps.specs.Walked.{MainIs}
-use Rattle.room.specs.Rooms.{chosen_of}
-use Rattle.room.proofs.ChosenVictims.{Call, fits, Choice, Victim, Came, choice_start, choice_asks, choice_seq, chosen_enough, set_aside_lem, came}
+use Rattle.room.proofs.ChosenVictims.{Call, fits, Choice}
 use Rattle.room.proofs.victims.choose_victims.Given as goal
 
 abbrev pub invariant-loop-i : goal.invariant-loop-i

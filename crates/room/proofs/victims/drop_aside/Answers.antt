@@ -1,6 +1,5 @@
 -- For this kind sweepTest asks only whether the row is aside, so the sweep keeps exactly the others.
 use Rattle.retention.specs.Sweep.{sweep_test, kept_rows}
-use borrow.Author.Rules.{rules}
 use Rattle.room.proofs.victims.drop_aside.Goals as goal
 
 pub returns : goal.returns

@@ -1,7 +1,6 @@
 -- The first i rows were put back and the rest left; after n turns that is putBack on every row.
 use Prim.Native.Nat.{◌-◌}
-use borrow.Author.Rules.{rules}
-use Rattle.room.proofs.RowsAside.{Backed, backed_start, backed_turn, backed_end}
+use Rattle.room.proofs.RowsAside.{Backed}
 use Rattle.room.proofs.victims.put_back.Given as goal
 
 abbrev pub invariant-loop-i : goal.invariant-loop-i

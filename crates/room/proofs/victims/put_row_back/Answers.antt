@@ -1,7 +1,6 @@
 -- putBack changes only a row that is aside: there the place becomes BY_USE, and any other row is left.
 use mathlib.Core.Path.{sym, ◌∙◌}
 use Rattle.room.proofs.RowsAside.{back_here, back_not_here}
-use borrow.Author.Rules.{rules}
 use Rattle.room.proofs.victims.put_row_back.Goals as goal
 
 pub returns-then-place-eq-ASIDE : goal.returns-then-place-eq-ASIDE

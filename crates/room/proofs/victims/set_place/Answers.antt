@@ -1,6 +1,5 @@
 -- The stamp written is the one just read from the row, so only its place changes.
 use Rattle.room.proofs.RowsAside.{placed}
-use borrow.Author.Rules.{rules}
 use Rattle.room.proofs.victims.set_place.Goals as goal
 
 pub returns : goal.returns

@@ -6,7 +6,6 @@ use Rattle.rules.specs.Memory.{row_bytes, view_rows}
 use Rattle.rules.proofs.ViewLaws.{row_length, row_view}
 use Rattle.rows.specs.Insertions.{row_from, exchanged}
 use Rattle.rows.proofs.ExchangeLaws.{exchange_view}
-use borrow.Author.Rules.{rules}
 use Rattle.rows.proofs.exchange.exchange_row.Goals as goal
 
 pub returns : goal.returns

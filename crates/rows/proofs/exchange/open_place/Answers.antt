@@ -1,6 +1,5 @@
 -- The parts that a shift leaves are the rows but row i, with a place at j: by `opened_down` where i < j, else by `opened_up`.
 use Rattle.rows.proofs.ExchangeLaws.{opened_down, opened_up}
-use borrow.Author.Rules.{rules}
 use Rattle.rows.proofs.exchange.open_place.Goals as goal
 
 pub returns-then-i-j : goal.returns-then-i-j

@@ -5,7 +5,6 @@ use Rattle.rules.specs.Memory.{row_bytes, view_rows}
 use Rattle.rules.proofs.ViewLaws.{row_length, row_view}
 use Rattle.rows.specs.Insertions.{row_from, inserted}
 use Rattle.rows.proofs.InsertLaws.{insert_view}
-use borrow.Author.Rules.{rules}
 use Rattle.rows.proofs.insert.insert_row.Goals as goal
 
 pub returns : goal.returns

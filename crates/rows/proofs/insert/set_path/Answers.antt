@@ -1,6 +1,5 @@
 -- The path's bytes fill the first field of the entry exactly, so by `path_view` no other field is changed.
 use Rattle.rows.proofs.PathLaws.{path_view}
-use borrow.Author.Rules.{rules}
 use Rattle.rows.proofs.insert.set_path.Goals as goal
 
 pub returns : goal.returns

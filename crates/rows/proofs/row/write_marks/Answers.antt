@@ -10,7 +10,6 @@ use Rattle.rules.specs.Memory.{le_bytes, source_bytes}
 use Rattle.rules.proofs.MemoryLaws.{length_le}
 use Rattle.rules.proofs.Sizes.{small}
 use Rattle.memory.proofs.StoreRuns.{three_from}
-use borrow.Author.Rules.{rules}
 use Rattle.rows.proofs.row.write_marks.Goals as goal
 
 pub returns : goal.returns

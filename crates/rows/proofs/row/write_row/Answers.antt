@@ -1,8 +1,6 @@
 -- Five parts stored end to end are one run of the row's bytes, and each part's contract says that its values fit.
 use Rattle.rows.proofs.RowImage.{row_stored, new_row_fits}
-use mathlib.Core.Path.{◌∙◌}
 use native.Mathlib.Omega.{arith}
-use borrow.Author.Rules.{rules}
 use Rattle.rows.proofs.row.write_row.Goals as goal
 
 pub write_stamp-requires : goal.write_stamp-requires

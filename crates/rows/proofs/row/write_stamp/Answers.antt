@@ -5,7 +5,6 @@ use Rattle.rules.specs.Memory.{le_bytes}
 use Rattle.rules.proofs.MemoryLaws.{length_le}
 use Rattle.rules.proofs.Sizes.{small}
 use Rattle.memory.proofs.StoreRuns.{four_from}
-use borrow.Author.Rules.{rules}
 use Rattle.rows.proofs.row.write_stamp.Goals as goal
 
 pub returns : goal.returns

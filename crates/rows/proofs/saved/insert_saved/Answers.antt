@@ -1,7 +1,6 @@
 -- The saved array is as long as a row, so `insert_view` applies to its bytes, whatever row they are read as.
 use mathlib.Core.Path.{◌∙◌}
 use Rattle.rows.proofs.InsertLaws.{insert_view}
-use borrow.Author.Rules.{rules}
 use Rattle.rows.proofs.saved.insert_saved.Goals as goal
 
 pub returns : goal.returns

@@ -1,10 +1,8 @@
 -- The loop has copied the first k bytes of row i; the rest of the array is as it was made.
-use mathlib.Core.Path.{◌≡◌, refl}
-use mathlib.Core.List.{◌++◌}
-use Prim.Native.Nat.{ℕ, ◌+◌, ◌*◌, ◌-◌, ◌≤◌}
+use mathlib.Core.Path.{refl}
+use Prim.Native.Nat.{ℕ, ◌+◌, ◌*◌}
 use native.Mathlib.Omega.{arith}
-use lib.ListN.{length, take, drop, length-set, length-replicate}
-use borrow.Author.Rules.{rules}
+use lib.ListN.{length-set, length-replicate}
 use Rattle.rules.specs.Memory.{cut}
 use Rattle.rules.proofs.MemoryLaws.{length_cut}
 use Rattle.rules.specs.Layout.{head_size, row_size}

@@ -1,14 +1,10 @@
 -- The loop has copied the first k bytes of row i; the rest of the array is as it was made.
-use mathlib.Core.Path.{◌≡◌, refl}
+use mathlib.Core.Path.{◌≡◌}
 use mathlib.Core.List.{◌++◌}
-use Prim.Native.Nat.{ℕ, ◌+◌, ◌*◌, ◌-◌, ◌≤◌}
-use native.Mathlib.Omega.{arith}
-use lib.ListN.{length, take, drop, length-set, length-replicate}
-use borrow.Author.Rules.{rules}
+use Prim.Native.Nat.{◌+◌, ◌*◌, ◌-◌, ◌≤◌}
+use lib.ListN.{length, take, drop}
 use Rattle.rules.specs.Memory.{cut}
-use Rattle.rules.proofs.MemoryLaws.{length_cut}
 use Rattle.rules.specs.Layout.{head_size, row_size}
-use Rattle.raw.proofs.CopyLaws.{cut_byte, stored, copied}
 use Rattle.rows.proofs.saved.save_row.Given as goal
 
 abbrev pub invariant-loop-k : goal.invariant-loop-k

@@ -1,10 +1,7 @@
 -- The loop has stored the array's first i bytes; it ends at i = ROW, which is the array's length.
-use Rattle.memory.proofs.StoreRuns.{Run, run_turn, run_end}
+use Rattle.memory.proofs.StoreRuns.{run_turn, run_end}
 use mathlib.Core.Path.{refl}
-use Prim.Native.Nat.{◌-◌}
 use native.Mathlib.Omega.{arith}
-use borrow.Author.Rules.{rules}
-use Rattle.rules.specs.Layout.{row_size}
 use Rattle.rows.proofs.saved.store_saved.Goals as goal
 
 pub loop-i-preserved : goal.loop-i-preserved

@@ -1,11 +1,8 @@
 -- By `one_more` the run of the first i bytes grows by one; owning an address tells that it has 16 bytes, each below 256.
 use Rattle.memory.proofs.OwnedValues.{owned_addr}
-use Rattle.memory.proofs.StoreRuns.{Run, run_turn, run_end}
+use Rattle.memory.proofs.StoreRuns.{run_turn, run_end}
 use mathlib.Core.Path.{refl}
-use Prim.Native.Nat.{◌-◌}
 use native.Mathlib.Omega.{arith}
-use borrow.Author.Rules.{rules}
-use Rattle.rules.specs.Layout.{address_size}
 use Rattle.rows.proofs.values.store_addr.Goals as goal
 
 pub loop-i-preserved : goal.loop-i-preserved

@@ -6,7 +6,6 @@ use Rattle.rules.proofs.MemoryLaws.{length_le}
 use Rattle.rules.specs.Layout.{number_size, sequence_offset, timestamp_offset}
 use Rattle.memory.proofs.OwnedValues.{owned_entry}
 use Rattle.memory.proofs.StoreRuns.{three}
-use borrow.Author.Rules.{rules}
 use Rattle.rows.proofs.values.store_coord_entry.Goals as goal
 
 pub returns : goal.returns

@@ -1,9 +1,7 @@
 -- Behind the length stand the bytes of the first i elements; the zeros stored past the last are those of zero elements.
 use mathlib.Core.Path.{◌≡◌, ◌∙◌}
-use Prim.Native.Nat.{◌+◌, ◌-◌, ◌≤◌}
+use Prim.Native.Nat.{◌+◌}
 use native.Mathlib.Omega.{arith}
-use lib.ListN.{length, take}
-use lib.Seq.{sets}
 use borrow.Author.Rules.{rules}
 use Rattle.rules.specs.Memory.{coord_entries_bytes}
 use Rattle.memory.proofs.OwnedValues.{owned_path}

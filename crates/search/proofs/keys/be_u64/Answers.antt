@@ -1,6 +1,5 @@
 -- Each byte is below 256, so the sum fits, and by Horner's rule it is the base-256 number of the eight bytes.
 use native.Mathlib.Omega.{arith}
-use borrow.Author.Rules.{rules}
 use Rattle.search.proofs.BigEndianLaws.{eight_number}
 use Rattle.search.proofs.keys.be_u64.Goals as goal
 

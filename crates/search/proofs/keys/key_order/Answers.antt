@@ -1,6 +1,5 @@
 -- The sixteen bytes where row i begins are that row's key in the view, so order_to compares the right address.
 use mathlib.Core.Path.{◌∙◌, ap}
-use borrow.Author.Rules.{rules}
 use Rattle.types.specs.declared.node_addr.NodeAddr.{NodeAddr}
 use Rattle.search.specs.ByKey.{order_of}
 use Rattle.search.proofs.KeyBytes.{key_bytes}

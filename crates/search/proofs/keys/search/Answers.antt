@@ -1,11 +1,9 @@
 -- Each turn compares one row of those of which it is not known whether they stand before the key or behind it.
 use mathlib.Core.Path.{sym, ◌∙◌}
-use Prim.Native.Nat.{◌-◌, ◌≤◌}
 use native.Mathlib.Omega.{arith}
 use borrow.Author.Rules.{rules}
-use Rattle.rules.specs.Memory.{view_rows}
 use Rattle.rules.proofs.Foreign.{view_length}
-use Rattle.search.proofs.RisingRows.{Halved, halved_start, halved_less, halved_equal, halved_greater, halved_end}
+use Rattle.search.proofs.RisingRows.{halved_start, halved_less, halved_equal, halved_greater, halved_end}
 use Rattle.search.proofs.keys.search.Goals as goal
 
 pub slice_bounds-be_u64-end : goal.slice_bounds-be_u64-end

@@ -1,6 +1,5 @@
 -- A row at another place leaves the best as it is; one at this place gives its two stamp fields to the comparison.
 use mathlib.Core.Path.{sym, ◌∙◌}
-use borrow.Author.Rules.{rules}
 use borrow.Author.Tests.{eq-eqb, ne_eqb}
 use Rattle.rules.specs.Rows.{at_place}
 use Rattle.stamps.specs.Walked.{lower_row}

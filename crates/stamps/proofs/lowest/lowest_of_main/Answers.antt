@@ -3,13 +3,10 @@ use mathlib.Core.Path.{ap, ◌∙◌}
 use Prim.Native.Nat.{ℕ}
 use native.Mathlib.Omega.{arith}
 use lib.Dec.{ltb}
-use borrow.Author.Rules.{rules}
-use Rattle.rules.specs.Records.{by_use, parked}
 use Rattle.rules.specs.Rows.{in_main}
-use Rattle.rules.specs.Memory.{view_rows}
 use Rattle.memory.proofs.RowLaws.{view_length}
-use Rattle.stamps.proofs.RowTotals.{Counted, one_at_most, counted_start, counted_turn, counted_end}
-use Rattle.stamps.proofs.LowestLaws.{Down, down_start, down_row, down_end}
+use Rattle.stamps.proofs.RowTotals.{one_at_most, counted_start, counted_turn, counted_end}
+use Rattle.stamps.proofs.LowestLaws.{down_start, down_row, down_end}
 use Rattle.stamps.proofs.lowest.lowest_of_main.Goals as goal
 
 pub loop-i-init : goal.loop-i-init

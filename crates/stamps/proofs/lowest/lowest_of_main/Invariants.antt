@@ -1,15 +1,9 @@
 -- Each place has its own best of the rows from i on, and the count of main rows plus i is at most n, so it fits.
-use mathlib.Core.Path.{ap, ◌∙◌}
-use Prim.Native.Nat.{ℕ}
-use native.Mathlib.Omega.{arith}
-use lib.Dec.{ltb}
-use borrow.Author.Rules.{rules}
 use Rattle.rules.specs.Records.{by_use, parked}
 use Rattle.rules.specs.Rows.{in_main}
 use Rattle.rules.specs.Memory.{view_rows}
-use Rattle.memory.proofs.RowLaws.{view_length}
-use Rattle.stamps.proofs.RowTotals.{Counted, one_at_most, counted_start, counted_turn, counted_end}
-use Rattle.stamps.proofs.LowestLaws.{Down, down_start, down_row, down_end}
+use Rattle.stamps.proofs.RowTotals.{Counted}
+use Rattle.stamps.proofs.LowestLaws.{Down}
 use Rattle.stamps.proofs.lowest.lowest_of_main.Given as goal
 
 abbrev pub invariant-loop-i : goal.invariant-loop-i

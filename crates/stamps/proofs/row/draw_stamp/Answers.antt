@@ -1,6 +1,5 @@
 -- next_key raised seq by one and returned it, so writing that stamp to row i is the rule's stamp.
 use Rattle.stamps.proofs.StampedRows.{drawn}
-use borrow.Author.Rules.{rules}
 use Rattle.stamps.proofs.row.draw_stamp.Goals as goal
 
 pub returns : goal.returns

@@ -1,6 +1,5 @@
 -- Both fields are read as the view has them, and their inequality is the definition of stale.
 use Rattle.rules.specs.Room.{stale}
-use borrow.Author.Rules.{rules}
 use Rattle.stamps.proofs.row.is_stale.Goals as goal
 
 pub returns : goal.returns

@@ -1,6 +1,5 @@
 -- A stamp drawn at PARKED with the row's own verified_until changes the row as parkedAt does.
 use Rattle.stamps.proofs.StampedRows.{parked_anew}
-use borrow.Author.Rules.{rules}
 use Rattle.stamps.proofs.row.park.Goals as goal
 
 pub returns : goal.returns

@@ -4,7 +4,6 @@ use Prim.Native.Nat.{ℕ}
 use mathlib.Core.Bool.{cond}
 use lib.Dec.{ltb}
 use Rattle.stamps.proofs.StampedRows.{restamped}
-use borrow.Author.Rules.{rules}
 use Rattle.stamps.proofs.row.restamp.Goals as goal
 
 pub returns : goal.returns

@@ -2,15 +2,9 @@
 use Prim.Native.Nat.{ℕ}
 use native.Mathlib.Omega.{arith}
 use mathlib.Core.List.{List}
-use mathlib.Core.Path.{◌≡◌}
-use borrow.Author.Rules.{rules}
 use Rattle.rules.specs.Records.{by_use}
-use Rattle.rules.specs.Rows.{lowest_stamp, total}
-use Rattle.rules.specs.Room.{main_visits}
-use Rattle.rules.specs.Memory.{view_rows}
 use Rattle.rules.proofs.Loops.{seeking}
-use Rattle.stamps.specs.Walked.{lowest_of}
-use Rattle.stamps.proofs.WalkLaws.{Going, Found, Turned, found_row, found_none, seek_start, some_left, stale_turn, park_turn, none_yielded, yielded}
+use Rattle.stamps.proofs.WalkLaws.{Found, Turned, found_row, found_none, seek_start, some_left, stale_turn, park_turn, none_yielded, yielded}
 use Rattle.stamps.proofs.walk.next_victim.Goals as goal
 
 pub loop-next-init : goal.loop-next-init
@@ -42,8 +36,8 @@ lowest_stamp-again-requires c =
     Found seeking by_use c.args.time c.args.n c.return_lapsed-returned.result.rows l.examined c.in-At.i c.return_lapsed-returned.new.state l.state = let l = c.loop-next in found_row l.invariant.0 l.invariant.1 c.in-At.is in
     let Goes : List ℕ → Type 0 = λ x. let l = c.loop-next in
     Turned seeking c.args.time c.args.n c.return_lapsed-returned.result.rows l.examined c.return_lapsed-returned.new.state l.state x in
-    let restamped : Goes c.restamp.new.state = stale_turn (found) c.is_stale.ensures c.if-is_stale.true c.restamp.auto.state c.restamp.ensures in
-    (restamped).going.size
+    let restamped : Goes c.restamp.new.state = stale_turn found c.is_stale.ensures c.if-is_stale.true c.restamp.auto.state c.restamp.ensures in
+    restamped.going.size
 
 pub loop-next-smaller-then-is_stale : goal.loop-next-smaller-then-is_stale
 loop-next-smaller-then-is_stale c =
@@ -51,8 +45,8 @@ loop-next-smaller-then-is_stale c =
     Found seeking by_use c.args.time c.args.n c.return_lapsed-returned.result.rows l.examined c.in-At.i c.return_lapsed-returned.new.state l.state = let l = c.loop-next in found_row l.invariant.0 l.invariant.1 c.in-At.is in
     let Goes : List ℕ → Type 0 = λ x. let l = c.loop-next in
     Turned seeking c.args.time c.args.n c.return_lapsed-returned.result.rows l.examined c.return_lapsed-returned.new.state l.state x in
-    let restamped : Goes c.restamp.new.state = stale_turn (found) c.is_stale.ensures c.if-is_stale.true c.restamp.auto.state c.restamp.ensures in
-    (restamped).less
+    let restamped : Goes c.restamp.new.state = stale_turn found c.is_stale.ensures c.if-is_stale.true c.restamp.auto.state c.restamp.ensures in
+    restamped.less
 
 pub loop-next-preserved-then-is_stale : goal.loop-next-preserved-then-is_stale
 loop-next-preserved-then-is_stale c =
@@ -60,8 +54,8 @@ loop-next-preserved-then-is_stale c =
     Found seeking by_use c.args.time c.args.n c.return_lapsed-returned.result.rows l.examined c.in-At.i c.return_lapsed-returned.new.state l.state = let l = c.loop-next in found_row l.invariant.0 l.invariant.1 c.in-At.is in
     let Goes : List ℕ → Type 0 = λ x. let l = c.loop-next in
     Turned seeking c.args.time c.args.n c.return_lapsed-returned.result.rows l.examined c.return_lapsed-returned.new.state l.state x in
-    let restamped : Goes c.restamp.new.state = stale_turn (found) c.is_stale.ensures c.if-is_stale.true c.restamp.auto.state c.restamp.ensures in
-    ((restamped).going, c.lowest_stamp-again.ensures.row)
+    let restamped : Goes c.restamp.new.state = stale_turn found c.is_stale.ensures c.if-is_stale.true c.restamp.auto.state c.restamp.ensures in
+    (restamped.going, c.lowest_stamp-again.ensures.row)
 
 pub is_verified-requires : goal.is_verified-requires
 is_verified-requires c =
@@ -81,8 +75,8 @@ lowest_stamp-again-requires-then-is_verified c =
     Found seeking by_use c.args.time c.args.n c.return_lapsed-returned.result.rows l.examined c.in-At.i c.return_lapsed-returned.new.state l.state = let l = c.loop-next in found_row l.invariant.0 l.invariant.1 c.in-At.is in
     let Goes : List ℕ → Type 0 = λ x. let l = c.loop-next in
     Turned seeking c.args.time c.args.n c.return_lapsed-returned.result.rows l.examined c.return_lapsed-returned.new.state l.state x in
-    let parked : Goes c.park.new.state = park_turn (found) c.is_stale.ensures c.if-is_stale.false c.is_verified.ensures c.if-is_verified.true c.park.auto.state c.park.ensures in
-    (parked).going.size
+    let parked : Goes c.park.new.state = park_turn found c.is_stale.ensures c.if-is_stale.false c.is_verified.ensures c.if-is_verified.true c.park.auto.state c.park.ensures in
+    parked.going.size
 
 pub loop-next-smaller : goal.loop-next-smaller
 loop-next-smaller c =
@@ -90,8 +84,8 @@ loop-next-smaller c =
     Found seeking by_use c.args.time c.args.n c.return_lapsed-returned.result.rows l.examined c.in-At.i c.return_lapsed-returned.new.state l.state = let l = c.loop-next in found_row l.invariant.0 l.invariant.1 c.in-At.is in
     let Goes : List ℕ → Type 0 = λ x. let l = c.loop-next in
     Turned seeking c.args.time c.args.n c.return_lapsed-returned.result.rows l.examined c.return_lapsed-returned.new.state l.state x in
-    let parked : Goes c.park.new.state = park_turn (found) c.is_stale.ensures c.if-is_stale.false c.is_verified.ensures c.if-is_verified.true c.park.auto.state c.park.ensures in
-    (parked).less
+    let parked : Goes c.park.new.state = park_turn found c.is_stale.ensures c.if-is_stale.false c.is_verified.ensures c.if-is_verified.true c.park.auto.state c.park.ensures in
+    parked.less
 
 pub loop-next-preserved : goal.loop-next-preserved
 loop-next-preserved c =
@@ -99,8 +93,8 @@ loop-next-preserved c =
     Found seeking by_use c.args.time c.args.n c.return_lapsed-returned.result.rows l.examined c.in-At.i c.return_lapsed-returned.new.state l.state = let l = c.loop-next in found_row l.invariant.0 l.invariant.1 c.in-At.is in
     let Goes : List ℕ → Type 0 = λ x. let l = c.loop-next in
     Turned seeking c.args.time c.args.n c.return_lapsed-returned.result.rows l.examined c.return_lapsed-returned.new.state l.state x in
-    let parked : Goes c.park.new.state = park_turn (found) c.is_stale.ensures c.if-is_stale.false c.is_verified.ensures c.if-is_verified.true c.park.auto.state c.park.ensures in
-    ((parked).going, c.lowest_stamp-again-then-is_verified.ensures.row)
+    let parked : Goes c.park.new.state = park_turn found c.is_stale.ensures c.if-is_stale.false c.is_verified.ensures c.if-is_verified.true c.park.auto.state c.park.ensures in
+    (parked.going, c.lowest_stamp-again-then-is_verified.ensures.row)
 
 pub returns-in-Nothing : goal.returns-in-Nothing
 returns-in-Nothing c = none_yielded _ c.loop-next.invariant.0 (found_none _ _ c.loop-next.invariant.1 c.in-Nothing.is) c.return_lapsed-returned.ensures.0
@@ -110,4 +104,4 @@ returns-else-is_verified c =
     let found : let l = c.loop-next in
     Found seeking by_use c.args.time c.args.n c.return_lapsed-returned.result.rows l.examined c.in-At.i c.return_lapsed-returned.new.state l.state = let l = c.loop-next in found_row l.invariant.0 l.invariant.1 c.in-At.is in
     let r = c.return_lapsed-returned.ensures in
-    yielded (found) c.is_stale.ensures c.if-is_stale.false c.is_verified.ensures _ c.if-is_verified.false r.0
+    yielded found c.is_stale.ensures c.if-is_stale.false c.is_verified.ensures _ c.if-is_verified.false r.0

@@ -1,16 +1,12 @@
 -- A row restamped or parked leaves one visit fewer and the same victim to find; the visits left bound seq and examined.
-use Prim.Native.Nat.{ℕ}
-use native.Mathlib.Omega.{arith}
-use mathlib.Core.List.{List}
 use mathlib.Core.Path.{◌≡◌}
-use borrow.Author.Rules.{rules}
 use Rattle.rules.specs.Records.{by_use}
 use Rattle.rules.specs.Rows.{lowest_stamp, total}
 use Rattle.rules.specs.Room.{main_visits}
 use Rattle.rules.specs.Memory.{view_rows}
 use Rattle.rules.proofs.Loops.{seeking}
 use Rattle.stamps.specs.Walked.{lowest_of}
-use Rattle.stamps.proofs.WalkLaws.{Going, Found, Turned, found_row, found_none, seek_start, some_left, stale_turn, park_turn, none_yielded, yielded}
+use Rattle.stamps.proofs.WalkLaws.{Going}
 use Rattle.stamps.proofs.walk.next_victim.Given as goal
 
 abbrev pub invariant-loop-next : goal.invariant-loop-next

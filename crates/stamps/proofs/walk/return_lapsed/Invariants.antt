@@ -1,14 +1,12 @@
 -- Each lapsed row that is restamped takes one visit off those left, and what the walk still has to do stays the same.
-use mathlib.Core.Path.{◌≡◌, refl}
-use native.Mathlib.Omega.{arith}
-use borrow.Author.Rules.{rules}
+use mathlib.Core.Path.{◌≡◌}
 use Rattle.rules.specs.Records.{by_use, parked}
 use Rattle.rules.specs.Rows.{lowest_stamp, total}
 use Rattle.rules.specs.Room.{main_visits}
 use Rattle.rules.specs.Memory.{view_rows}
 use Rattle.rules.proofs.Loops.{waking}
 use Rattle.stamps.specs.Walked.{lowest_of}
-use Rattle.stamps.proofs.WalkLaws.{Going, Found, Turned, found_row, found_none, lapsed_left, lapsed_turn, lapsed_rests, lapsed_ends}
+use Rattle.stamps.proofs.WalkLaws.{Going}
 use Rattle.stamps.proofs.walk.return_lapsed.Given as goal
 
 abbrev pub invariant-loop-parked : goal.invariant-loop-parked

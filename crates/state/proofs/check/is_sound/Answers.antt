@@ -1,8 +1,6 @@
 -- Head and rows together are `sound`; a head that passes counts no more rows than fit.
 use mathlib.Core.Path.{sym, ◌∙◌}
 use native.Mathlib.Omega.{arith}
-use borrow.Author.Tests.{not-false}
-use borrow.Author.Rules.{rules}
 use Rattle.rules.specs.Memory.{capacity}
 use Rattle.state.proofs.PassLaws.{head_facts, none_sound, head_stops, rows_decide}
 use Rattle.state.proofs.check.is_sound.Goals as goal

@@ -1,11 +1,9 @@
 -- Refusal 5 is the negation of headSound for no row; where it does not apply, the memory has the rows that make_fresh writes.
 use mathlib.Core.Bool.{true, false}
 use mathlib.Core.Path.{sym, ap}
-use borrow.Author.Tests.{not-true, not-false}
 use Rattle.rules.specs.Answers.{refusal_of}
 use Rattle.rules.proofs.MemoryLaws.{all_bytes}
 use Rattle.rules.proofs.Public.{fresh_refused, fresh_is_done}
-use borrow.Author.Rules.{rules}
 use Rattle.state.proofs.FreshSizes.{rows_there, size_said}
 use Rattle.state.proofs.fresh.fresh.Goals as goal
 

@@ -2,7 +2,6 @@
 use Prim.Native.Nat.{◌+◌, ◌≤◌, ◌<◌}
 use native.Mathlib.Omega.{arith}
 use borrow.Author.Tests.{lt-leb, le-leb}
-use borrow.Author.Rules.{rules}
 use Rattle.rules.specs.Records.{probation_bound, max_rows}
 use Rattle.state.specs.Parts.{head_sound}
 use Rattle.state.proofs.head.head_is_sound.Goals as goal

@@ -1,10 +1,6 @@
 -- The loop has the rest of the bytes still to compare, and the answer depends on them alone.
-use mathlib.Core.Path.{◌≡◌, sym, ◌∙◌}
-use Prim.Native.Nat.{◌-◌, ◌≤◌}
+use mathlib.Core.Path.{sym, ◌∙◌}
 use native.Mathlib.Omega.{arith}
-use lib.ListN.{drop}
-use borrow.Author.Rules.{rules}
-use Rattle.types.specs.Addresses.{bytes_before}
 use Rattle.types.proofs.PathLaws.{before_end}
 use Rattle.rules.specs.Memory.{cut}
 use Rattle.rules.proofs.MemoryLaws.{length_cut}

@@ -1,11 +1,7 @@
 -- The loop has the rest of the rows still to check, and the totals are those of the rows passed.
-use Prim.Native.Nat.{◌-◌, ◌≤◌, ◌<◌}
-use native.Mathlib.Omega.{arith}
-use lib.ListN.{length}
-use borrow.Author.Rules.{rules}
+use Prim.Native.Nat.{◌-◌, ◌≤◌}
 use Rattle.rules.specs.Memory.{view_rows}
-use Rattle.rules.proofs.Foreign.{view_length}
-use Rattle.state.proofs.PassLaws.{Passing, passing_start, passing_turn, passing_end, row_stops, key_stops}
+use Rattle.state.proofs.PassLaws.{Passing}
 use Rattle.state.proofs.pass.rows_are_sound.Given as goal
 
 abbrev pub invariant-loop-i : goal.invariant-loop-i

@@ -1,5 +1,4 @@
 -- The expression is the definition once each field is read.
-use borrow.Author.Rules.{rules}
 use Rattle.types.specs.Paths.{path_weight}
 use Rattle.rules.specs.Rows.{at_place}
 use Rattle.rules.specs.Sound.{legal, weighed, sourced, row_sound}

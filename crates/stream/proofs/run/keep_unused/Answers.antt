@@ -1,11 +1,10 @@
 -- The loop has moved the first n of the bytes left, as shifting down by `used` would.
 use mathlib.Core.Path.{◌≡◌, refl}
-use Prim.Native.Nat.{◌+◌, ◌-◌, ◌≤◌}
+use Prim.Native.Nat.{◌+◌, ◌-◌}
 use native.Mathlib.Omega.{arith}
 use native.Mathlib.Numerals.{add-one}
-use lib.ListN.{length, length-set}
-use borrow.Author.Rules.{rules}
-use Rattle.raw.proofs.MoveLaws.{down, down_start, down_step}
+use lib.ListN.{length-set}
+use Rattle.raw.proofs.MoveLaws.{down_start, down_step}
 use Rattle.stream.proofs.run.keep_unused.Goals as goal
 
 pub loop-n-init : goal.loop-n-init

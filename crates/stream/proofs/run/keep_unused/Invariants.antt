@@ -1,11 +1,8 @@
 -- The loop has moved the first n of the bytes left, as shifting down by `used` would.
-use mathlib.Core.Path.{◌≡◌, refl}
-use Prim.Native.Nat.{◌+◌, ◌-◌, ◌≤◌}
-use native.Mathlib.Omega.{arith}
-use native.Mathlib.Numerals.{add-one}
-use lib.ListN.{length, length-set}
-use borrow.Author.Rules.{rules}
-use Rattle.raw.proofs.MoveLaws.{down, down_start, down_step}
+use mathlib.Core.Path.{◌≡◌}
+use Prim.Native.Nat.{◌-◌, ◌≤◌}
+use lib.ListN.{length}
+use Rattle.raw.proofs.MoveLaws.{down}
 use Rattle.stream.proofs.run.keep_unused.Given as goal
 
 abbrev pub invariant-loop-n : goal.invariant-loop-n

@@ -5,7 +5,6 @@ use native.Mathlib.Omega.{arith}
 use lib.ListN.{drop, length-drop}
 use Rattle.commands.specs.Widths.{width_is}
 use Rattle.stream.proofs.Turns.{next_full, next_whole, next_last, next_unknown, next_cut}
-use borrow.Author.Rules.{rules}
 use Rattle.stream.proofs.run.next_command.Goals as goal
 
 pub returns-then-room-lt-LINE : goal.returns-then-room-lt-LINE

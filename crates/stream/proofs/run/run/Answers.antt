@@ -1,17 +1,14 @@
 -- Where the loop stands the whole run is the lines so far and the run from there on; a command found is one turn more, and the others end it.
 use mathlib.Core.Path.{◌≡◌, refl, sym, ◌∙◌}
-use Prim.Native.Nat.{◌+◌, ◌-◌, ◌≤◌}
+use Prim.Native.Nat.{◌+◌, ◌-◌}
 use native.Mathlib.Omega.{arith}
 use lib.ListN.{length, drop, get_or}
-use Rattle.rules.specs.Sound.{sound}
-use Rattle.rules.specs.Memory.{capacity, view}
 use Rattle.commands.specs.OnMemory.{session}
 use Rattle.stream.specs.Runs.{run_part}
-use borrow.Author.Rules.{rules}
 use mir.Val.{Fits}
 use mir.Syntax.{w64}
 use Rattle.stream.specs.declared.run.Next.{Next}
-use Rattle.stream.specs.Running.{Going, next_is}
+use Rattle.stream.specs.Running.{next_is}
 use Rattle.stream.proofs.Turns.{Turn, start, same_room, over, ended, stops_full, stops_cut, ample, used, stops_six, goes_on}
 use Rattle.stream.proofs.run.run.Goals as goal
 
@@ -47,7 +44,7 @@ put_line-put-requires c =
     → let l = c.loop-at in next_is (length c.args.output.now - l.put) c.args.last (get_or c.args.input.now l.at 0) (drop (l.at + 1) c.args.input.now) ≡ n = λ n e. same_room _ _ _ _ _ _ c.loop-at.invariant.2 ∙ sym c.next_command-found.ensures ∙ e in
     let turn : let l = c.loop-at in Turn (run_part (length c.args.input.now) c.args.last (length c.args.output.now) (session c.args.state.now c.args.sender) c.args.input.now)
     c.args.last c.args.input.now c.args.output.now c.args.tally l.at l.put l.from l.counts l.state l.output c.in-Command.width = record { going = c.loop-at.invariant.4; left = c.loop-at-test.true; next = next _ c.in-Command.is } in
-    omega (arith, ample (turn), c.loop-at.invariant.2)
+    omega (arith, ample turn, c.loop-at.invariant.2)
 
 pub overflow_add-at-in-Command : goal.overflow_add-at-in-Command
 overflow_add-at-in-Command c =
@@ -55,8 +52,8 @@ overflow_add-at-in-Command c =
     → let l = c.loop-at in next_is (length c.args.output.now - l.put) c.args.last (get_or c.args.input.now l.at 0) (drop (l.at + 1) c.args.input.now) ≡ n = λ n e. same_room _ _ _ _ _ _ c.loop-at.invariant.2 ∙ sym c.next_command-found.ensures ∙ e in
     let turn : let l = c.loop-at in Turn (run_part (length c.args.input.now) c.args.last (length c.args.output.now) (session c.args.state.now c.args.sender) c.args.input.now)
     c.args.last c.args.input.now c.args.output.now c.args.tally l.at l.put l.from l.counts l.state l.output c.in-Command.width = record { going = c.loop-at.invariant.4; left = c.loop-at-test.true; next = next _ c.in-Command.is } in
-    let used_fits : Fits w64 (c.loop-at.at + (1 + c.in-Command.width)) = record { fits = omega (arith, used (turn)) } in
-    record { fits = omega (arith, (used_fits).fits) }
+    let used_fits : Fits w64 (c.loop-at.at + (1 + c.in-Command.width)) = record { fits = omega (arith, used turn) } in
+    record { fits = omega (arith, used_fits.fits) }
 
 pub overflow_add-at-in-Command-2 : goal.overflow_add-at-in-Command-2
 overflow_add-at-in-Command-2 c =
@@ -64,7 +61,7 @@ overflow_add-at-in-Command-2 c =
     → let l = c.loop-at in next_is (length c.args.output.now - l.put) c.args.last (get_or c.args.input.now l.at 0) (drop (l.at + 1) c.args.input.now) ≡ n = λ n e. same_room _ _ _ _ _ _ c.loop-at.invariant.2 ∙ sym c.next_command-found.ensures ∙ e in
     let turn : let l = c.loop-at in Turn (run_part (length c.args.input.now) c.args.last (length c.args.output.now) (session c.args.state.now c.args.sender) c.args.input.now)
     c.args.last c.args.input.now c.args.output.now c.args.tally l.at l.put l.from l.counts l.state l.output c.in-Command.width = record { going = c.loop-at.invariant.4; left = c.loop-at-test.true; next = next _ c.in-Command.is } in
-    let used_fits : Fits w64 (c.loop-at.at + (1 + c.in-Command.width)) = record { fits = omega (arith, used (turn)) } in
+    let used_fits : Fits w64 (c.loop-at.at + (1 + c.in-Command.width)) = record { fits = omega (arith, used turn) } in
     used_fits
 
 pub returns-then-refusal-eq6 : goal.returns-then-refusal-eq6
@@ -84,7 +81,7 @@ loop-at-smaller c =
     → let l = c.loop-at in next_is (length c.args.output.now - l.put) c.args.last (get_or c.args.input.now l.at 0) (drop (l.at + 1) c.args.input.now) ≡ n = λ n e. same_room _ _ _ _ _ _ c.loop-at.invariant.2 ∙ sym c.next_command-found.ensures ∙ e in
     let turn : let l = c.loop-at in Turn (run_part (length c.args.input.now) c.args.last (length c.args.output.now) (session c.args.state.now c.args.sender) c.args.input.now)
     c.args.last c.args.input.now c.args.output.now c.args.tally l.at l.put l.from l.counts l.state l.output c.in-Command.width = record { going = c.loop-at.invariant.4; left = c.loop-at-test.true; next = next _ c.in-Command.is } in
-    omega (arith, used (turn))
+    omega (arith, used turn)
 
 pub loop-at-preserved : goal.loop-at-preserved
 loop-at-preserved c =

@@ -1,18 +1,12 @@
 -- Where the loop stands the whole run is the lines so far and the run from there on; a command found is one turn more, and the others end it.
-use mathlib.Core.Path.{◌≡◌, refl, sym, ◌∙◌}
-use Prim.Native.Nat.{◌+◌, ◌-◌, ◌≤◌}
-use native.Mathlib.Omega.{arith}
-use lib.ListN.{length, drop, get_or}
+use mathlib.Core.Path.{◌≡◌}
+use Prim.Native.Nat.{◌-◌, ◌≤◌}
+use lib.ListN.{length}
 use Rattle.rules.specs.Sound.{sound}
 use Rattle.rules.specs.Memory.{capacity, view}
 use Rattle.commands.specs.OnMemory.{session}
 use Rattle.stream.specs.Runs.{run_part}
-use borrow.Author.Rules.{rules}
-use mir.Val.{Fits}
-use mir.Syntax.{w64}
-use Rattle.stream.specs.declared.run.Next.{Next}
-use Rattle.stream.specs.Running.{Going, next_is}
-use Rattle.stream.proofs.Turns.{Turn, start, same_room, over, ended, stops_full, stops_cut, ample, used, stops_six, goes_on}
+use Rattle.stream.specs.Running.{Going}
 use Rattle.stream.proofs.run.run.Given as goal
 
 abbrev pub invariant-loop-at : goal.invariant-loop-at

@@ -1,7 +1,6 @@
 -- Past the first test the lengths are equal, so an index of a is one of b too.
 use Prim.Native.Nat.{◌-◌, ◌≤◌}
 use lib.ListN.{length}
-use borrow.Author.Rules.{rules}
 use Rattle.vectors.proofs.compare.same.Given as goal
 
 abbrev pub invariant-loop-i : goal.invariant-loop-i

@@ -1,7 +1,6 @@
 -- i is at most the length of s, so the loop's test puts s[i] in range and the bytes left fall.
 use Prim.Native.Nat.{◌-◌, ◌≤◌}
 use lib.ListN.{length}
-use borrow.Author.Rules.{rules}
 use Rattle.vectors.proofs.compare.zeros.Given as goal
 
 abbrev pub invariant-loop-i : goal.invariant-loop-i

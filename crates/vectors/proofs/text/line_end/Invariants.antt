@@ -1,7 +1,6 @@
 -- i is at least `from`: at a newline i + 1 is over it, and without one i is the length, over it by the precondition.
 use Prim.Native.Nat.{◌-◌, ◌≤◌}
 use lib.ListN.{length}
-use borrow.Author.Rules.{rules}
 use Rattle.vectors.proofs.text.line_end.Given as goal
 
 abbrev pub invariant-loop-i : goal.invariant-loop-i

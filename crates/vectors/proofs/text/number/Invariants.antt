@@ -1,7 +1,6 @@
 -- i is at most the line's length, so line[i] is in range, and fed has no precondition on the byte.
 use Prim.Native.Nat.{◌-◌, ◌≤◌}
 use lib.ListN.{length}
-use borrow.Author.Rules.{rules}
 use Rattle.vectors.proofs.text.number.Given as goal
 
 abbrev pub invariant-loop-i : goal.invariant-loop-i

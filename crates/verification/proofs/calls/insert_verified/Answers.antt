@@ -1,7 +1,6 @@
 -- Number 1 is asked before 2, 3 and 4, so an unsound memory gives it; a sound one is what insert_verified_unchecked requires.
 use Rattle.rules.specs.Answers.{verified_said}
 use Rattle.refusals.proofs.RefusalsSaid.{checked, one_said}
-use borrow.Author.Rules.{rules}
 use Rattle.verification.proofs.calls.insert_verified.Goals as goal
 
 pub returns-then-not-is_sound : goal.returns-then-not-is_sound

@@ -4,7 +4,6 @@ use Rattle.rules.proofs.MemoryLaws.{all_bytes}
 use Rattle.refusals.proofs.SoundCalls.{head_there}
 use Rattle.refusals.proofs.WriteRefusals.{passed}
 use Rattle.verification.proofs.VerifiedCalls.{Underway, rows_sound_lem, refused_early, refused_by_four, insert_asked, insert_done}
-use borrow.Author.Rules.{rules}
 use Rattle.verification.proofs.calls.verify.Goals as goal
 
 pub write_refusal-number-requires : goal.write_refusal-number-requires
@@ -28,7 +27,7 @@ returns-then-no_place_for c =
       counted = c.row_count-n.ensures;
       full = c.no_place_for.ensures;
     } in
-    unfold verified_said in refused_by_four (underway) c.args.mtu c.if-no_place_for.true
+    unfold verified_said in refused_by_four underway c.args.mtu c.if-no_place_for.true
 
 pub file_verified-requires : goal.file_verified-requires
 file_verified-requires c =
@@ -38,7 +37,7 @@ file_verified-requires c =
       counted = c.row_count-n.ensures;
       full = c.no_place_for.ensures;
     } in
-    insert_asked (underway) c.if-no_place_for.false
+    insert_asked underway c.if-no_place_for.false
 
 pub returns : goal.returns
 unfolding verified_said
@@ -50,5 +49,5 @@ returns c =
       full = c.no_place_for.ensures;
     } in
     let r = c.file_verified in
-    insert_done (underway) c.args.mtu _ _ c.if-no_place_for.false
+    insert_done underway c.args.mtu _ _ c.if-no_place_for.false
     (all_bytes r.new.state (λ j. (c.slice_known-2-1.given j).fits)) r.auto.state r.ensures.0 r.ensures.1

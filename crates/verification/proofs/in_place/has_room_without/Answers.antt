@@ -5,7 +5,6 @@ use native.Mathlib.Omega.{arith}
 use Rattle.rules.specs.Records.{State}
 use Rattle.rules.specs.Rows.{row_at, in_main}
 use Rattle.rules.specs.Memory.{view_rows}
-use Rattle.rules.proofs.Foreign.{view_length}
 use Rattle.memory.proofs.Fields.{same_head}
 use Rattle.room.proofs.ClosedForm.{sound_small}
 use Rattle.room.proofs.RoomToFile.{laid_out}
@@ -24,31 +23,31 @@ max_entries-max-requires c = omega (arith, laid_out _ _ c.requires.0)
 pub other_main_rows-others-requires : goal.other_main_rows-others-requires
 other_main_rows-others-requires c =
     let state : State = view_rows c.args.n c.args.state.now in
-    let row_in_main : in_main (row_at c.args.i (state).rows) ≡ true = in_main_lem c.args.i (state) c.place.ensures c.if-place-ge-PROBATION.false in
-    (laid_out _ _ c.requires.0, main_some _ _ _ c.requires.1 (row_in_main))
+    let row_in_main : in_main (row_at c.args.i state.rows) ≡ true = in_main_lem c.args.i state c.place.ensures c.if-place-ge-PROBATION.false in
+    (laid_out _ _ c.requires.0, main_some _ _ _ c.requires.1 row_in_main)
 
 pub stored_without-stored-requires : goal.stored_without-stored-requires
 stored_without-stored-requires c =
     let state : State = view_rows c.args.n c.args.state.now in
-    let row_in_main : in_main (row_at c.args.i (state).rows) ≡ true = in_main_lem c.args.i (state) c.place.ensures c.if-place-ge-PROBATION.false in
+    let row_in_main : in_main (row_at c.args.i state.rows) ≡ true = in_main_lem c.args.i state c.place.ensures c.if-place-ge-PROBATION.false in
     (c.requires.0, c.requires.1, row_in_main)
 
 pub cut_to_bound-requires : goal.cut_to_bound-requires
 cut_to_bound-requires c =
     let state : State = view_rows c.args.n c.args.state.now in
-    let max_is : c.max_entries-max.result ≡ (state).max_entries = c.max_entries-max.ensures ∙ (same_head 0 c.args.n c.args.state.now).max_entries in
+    let max_is : c.max_entries-max.result ≡ state.max_entries = c.max_entries-max.ensures ∙ (same_head 0 c.args.n c.args.state.now).max_entries in
     omega (arith, max_is, (sound_small _ _ c.requires.0).max)
 
 pub has_room-requires : goal.has_room-requires
 has_room-requires c =
     let state : State = view_rows c.args.n c.args.state.now in
-    let max_is : c.max_entries-max.result ≡ (state).max_entries = c.max_entries-max.ensures ∙ (same_head 0 c.args.n c.args.state.now).max_entries in
+    let max_is : c.max_entries-max.result ≡ state.max_entries = c.max_entries-max.ensures ∙ (same_head 0 c.args.n c.args.state.now).max_entries in
     let h = c.requires.0 in
-    (omega (arith, max_is, (sound_small _ _ h).max), omega (arith, c.stored_without-stored.ensures, stored_few _ c.args.i (state) h), omega (arith, c.cut_to_bound.ensures))
+    (omega (arith, max_is, (sound_small _ _ h).max), omega (arith, c.stored_without-stored.ensures, stored_few _ c.args.i state h), omega (arith, c.cut_to_bound.ensures))
 
 pub returns : goal.returns
 returns c =
     let state : State = view_rows c.args.n c.args.state.now in
-    let row_in_main : in_main (row_at c.args.i (state).rows) ≡ true = in_main_lem c.args.i (state) c.place.ensures c.if-place-ge-PROBATION.false in
-    let max_is : c.max_entries-max.result ≡ (state).max_entries = c.max_entries-max.ensures ∙ (same_head 0 c.args.n c.args.state.now).max_entries in
-    room_out _ _ _ _ _ c.requires.1 (row_in_main) (max_is) c.other_main_rows-others.ensures c.stored_without-stored.ensures c.cut_to_bound.ensures c.has_room.ensures
+    let row_in_main : in_main (row_at c.args.i state.rows) ≡ true = in_main_lem c.args.i state c.place.ensures c.if-place-ge-PROBATION.false in
+    let max_is : c.max_entries-max.result ≡ state.max_entries = c.max_entries-max.ensures ∙ (same_head 0 c.args.n c.args.state.now).max_entries in
+    room_out _ _ _ _ _ c.requires.1 row_in_main max_is c.other_main_rows-others.ensures c.stored_without-stored.ensures c.cut_to_bound.ensures c.has_room.ensures

@@ -1,7 +1,6 @@
 -- set_source with VERIFIED and addTimes of the time and VERIFIED_TTL_MS rewrites the entry as markVerified does.
 use mathlib.Core.Path.{◌∙◌}
 use Rattle.verification.proofs.Marks.{verified_source_lem}
-use borrow.Author.Rules.{rules}
 use Rattle.verification.proofs.in_place.mark_verified.Goals as goal
 
 pub returns : goal.returns

@@ -3,7 +3,6 @@ use mathlib.Core.Path.{ap}
 use Prim.Native.Nat.{ℕ, ◌-◌}
 use lib.Dec.{ltb}
 use Rattle.verification.proofs.InPlace.{few_rows}
-use borrow.Author.Rules.{rules}
 use Rattle.verification.proofs.in_place.other_main_rows.Goals as goal
 
 pub overflow_sub-result : goal.overflow_sub-result

@@ -1,7 +1,6 @@
 -- Known is a rewrite by setMtu; Unknown writes nothing, and a rewrite by the identity leaves the state as it is.
 use mathlib.Core.Path.{◌∙◌}
 use Rattle.verification.proofs.Marks.{no_mtu_lem, some_mtu_lem}
-use borrow.Author.Rules.{rules}
 use Rattle.verification.proofs.in_place.set_given_mtu.Goals as goal
 
 pub returns-in-Unknown : goal.returns-in-Unknown

@@ -3,7 +3,6 @@ use mathlib.Core.Path.{◌∙◌}
 use native.Mathlib.Omega.{arith}
 use Rattle.room.proofs.RoomToFile.{laid_out}
 use Rattle.verification.proofs.InPlace.{weight_out}
-use borrow.Author.Rules.{rules}
 use Rattle.verification.proofs.in_place.stored_without.Goals as goal
 
 pub stored_weight-stored-requires : goal.stored_weight-stored-requires

@@ -8,7 +8,6 @@ use Rattle.rules.specs.Memory.{view_rows}
 use Rattle.memory.proofs.Fields.{same_head}
 use Rattle.room.proofs.RoomToFile.{shown, laid_out}
 use Rattle.verification.proofs.InPlace.{stored_few, verified_back}
-use borrow.Author.Rules.{rules}
 use Rattle.verification.proofs.in_place.verify_in_place.Goals as goal
 
 pub default_ttl-ttl-requires : goal.default_ttl-ttl-requires

@@ -6,7 +6,6 @@ use Rattle.rules.proofs.Others.{weight_ok}
 use Rattle.room.proofs.RoomToFile.{shown}
 use Rattle.verification.proofs.NoPlace.{rows_searchable, row_inside}
 use Rattle.verification.proofs.RowKept.{room_told, kept_said, kept_left}
-use borrow.Author.Rules.{rules}
 use Rattle.verification.proofs.insert.file_verified.Goals as goal
 
 pub search-at-requires : goal.search-at-requires

@@ -2,7 +2,6 @@
 use mathlib.Core.Path.{◌∙◌}
 use Rattle.memory.proofs.Fields.{same_head}
 use Rattle.verification.proofs.VerifiedRows.{within, entry_held, entry_new}
-use borrow.Author.Rules.{rules}
 use Rattle.verification.proofs.insert.plain_entry.Goals as goal
 
 pub updated_entry-requires : goal.updated_entry-requires

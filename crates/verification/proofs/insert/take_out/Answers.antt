@@ -2,7 +2,6 @@
 use native.Mathlib.Omega.{arith}
 use Rattle.room.proofs.RoomToFile.{shown, laid_out}
 use Rattle.verification.proofs.VerifiedRows.{within, out_held, out_absent}
-use borrow.Author.Rules.{rules}
 use Rattle.verification.proofs.insert.take_out.Goals as goal
 
 pub remove_row-requires : goal.remove_row-requires

@@ -1,7 +1,6 @@
 -- verifiedEntry with an MTU is setMtu of the one without, so the cases of mtu are those of mtuOf.
 use mathlib.Core.Path.{◌∙◌}
 use Rattle.verification.proofs.VerifiedRows.{entry_plain, entry_with_mtu}
-use borrow.Author.Rules.{rules}
 use Rattle.verification.proofs.insert.verified_entry_of.Goals as goal
 
 pub returns-in-Unknown : goal.returns-in-Unknown

@@ -1,6 +1,5 @@
 -- The search's answer is find's: place < PROBATION is inMain of the row found, and an absent key is not in main.
 use Rattle.verification.proofs.NoPlace.{rows_searchable, row_inside, held_in_main, absent_in_main}
-use borrow.Author.Rules.{rules}
 use Rattle.verification.proofs.no_place.key_in_main.Goals as goal
 
 pub search-at-requires : goal.search-at-requires

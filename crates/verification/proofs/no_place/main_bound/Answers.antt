@@ -1,7 +1,6 @@
 -- In a sound state Q is at most R, so the subtraction does not underflow, and R - Q is mainLimit.
 use native.Mathlib.Omega.{arith}
 use Rattle.verification.proofs.NoPlace.{bound_is}
-use borrow.Author.Rules.{rules}
 use Rattle.room.proofs.RoomToFile.{rows_searchable}
 use Rattle.verification.proofs.no_place.main_bound.Goals as goal
 

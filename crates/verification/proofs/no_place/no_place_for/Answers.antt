@@ -6,7 +6,6 @@ use Rattle.rules.specs.Memory.{view_rows}
 use Rattle.rules.proofs.Foreign.{view_length}
 use Rattle.stamps.proofs.RowTotals.{count_few}
 use Rattle.verification.proofs.NoPlace.{held_place, free_place, made_place}
-use borrow.Author.Rules.{rules}
 use Rattle.room.proofs.RoomToFile.{rows_searchable}
 use Rattle.verification.proofs.no_place.no_place_for.Goals as goal
 

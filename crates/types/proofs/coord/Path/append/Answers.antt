@@ -1,6 +1,5 @@
 -- The test of the length decides the definition's case too; below 32 the index is in the array and n + 1 is in range.
 use borrow.Author.Tests.{lt-ltb, le-ltb}
-use borrow.Author.Rules.{rules}
 use Rattle.types.specs.Paths.{appended}
 use Rattle.types.proofs.coord.Path.append.Goals as goal
 

@@ -1,6 +1,6 @@
 -- What owning a path tells: its array has 32 places, so that no more elements can be taken than that.
 use native.Mathlib.Omega.{arith}
-use lib.ListN.{length-map, length-take}
+use lib.ListN.{length-take}
 use Rattle.types.specs.Paths.{elements}
 use Rattle.types.proofs.coord.Path.count.Goals as goal
 

@@ -1,6 +1,5 @@
 -- Every place holds the zero entry, as emptyPath says.
 use Rattle.types.specs.Paths.{empty_path}
-use borrow.Author.Rules.{rules}
 use Rattle.types.proofs.coord.Path.empty.Goals as goal
 
 pub returns : goal.returns

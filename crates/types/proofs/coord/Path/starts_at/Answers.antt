@@ -1,6 +1,5 @@
 -- With a count of 0 there is no first element; otherwise the first element is the one in place 0, by `first_element`.
 use mathlib.Core.Path.{sym, ◌∙◌}
-use borrow.Author.Rules.{rules}
 use Rattle.types.specs.Paths.{elements, starts_at}
 use Rattle.types.proofs.PathLaws.{no_first, first_element}
 use Rattle.types.proofs.coord.Path.starts_at.Goals as goal

@@ -1,10 +1,7 @@
 -- The bytes before i agree, so that the addresses are the same where their bytes from i on are.
-use mathlib.Core.Path.{◌≡◌, sym, ◌∙◌}
-use Prim.Native.Nat.{◌-◌, ◌≤◌}
+use mathlib.Core.Path.{sym, ◌∙◌}
 use native.Mathlib.Omega.{arith}
-use lib.ListN.{length, drop}
-use borrow.Author.Rules.{rules}
-use Rattle.types.specs.Addresses.{address_bytes, same_bytes, same_addr}
+use Rattle.types.specs.Addresses.{same_addr}
 use Rattle.types.proofs.PathLaws.{same_stop, same_go, same_end}
 use Rattle.types.proofs.node_addr.NodeAddr.same_as.Goals as goal
 

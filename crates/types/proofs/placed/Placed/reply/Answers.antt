@@ -1,5 +1,4 @@
 -- Both codes are the definition's by their contracts, and the flag cast to a number is its bit by `as_bit`.
-use borrow.Author.Rules.{rules}
 use Rattle.types.specs.Values.{placed_reply}
 use Rattle.types.proofs.CodeLaws.{as_bit}
 use Rattle.types.proofs.placed.Placed.reply.Goals as goal

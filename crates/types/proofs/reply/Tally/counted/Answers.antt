@@ -1,6 +1,4 @@
 -- One number of the tally goes up, by whether the refusal is 0.
-use mathlib.Core.Path.{◌≡◌, ap, sym, ◌∙◌}
-use borrow.Author.Rules.{rules}
 use borrow.Author.Tests.{eq-eqb, ne_eqb}
 use Rattle.types.specs.Values.{tallied}
 use Rattle.types.proofs.reply.Tally.counted.Goals as goal

@@ -1,6 +1,5 @@
 -- The sender comes back with the empty path, by what with_pending says.
 use mathlib.Core.Path.{◌∙◌}
-use borrow.Author.Rules.{rules}
 use Rattle.types.proofs.sender.Sender.emptied.Goals as goal
 
 pub returns : goal.returns

@@ -1,5 +1,4 @@
 -- The pending path is the empty one, and a sender has nothing else.
-use borrow.Author.Rules.{rules}
 use Rattle.types.proofs.sender.Sender.new.Goals as goal
 
 pub returns : goal.returns
