@@ -1,4 +1,4 @@
--- One command on the lent memory: what Commands says of a state, said of its bytes (stream, OnStates.on-states).
+-- One command on the lent memory: what Commands says of a state, said of its bytes (stream, OnStates.on_states).
 use Rattle.std.specs.Prelude.{ℕ, List, cond, eqb}
 use Rattle.types.specs.declared.sender.Sender.{Sender}
 use Rattle.types.specs.declared.coord.Appended.{Appended}

@@ -15,6 +15,6 @@ max_of l = l.max_entries
 abbrev pub ttl_of : Limits → ℕ
 ttl_of l = l.default_ttl
 
--- probationLimit s is probationOf (limitsOf s)
+-- probation_limit s is probation_of (limits_of s)
 abbrev pub probation_of : Limits → ℕ
 probation_of l = probation_bound l.max_entries

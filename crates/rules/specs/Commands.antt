@@ -36,7 +36,7 @@ reply (ExpiryGiven o) = maybe o (says 0 0 0 0 0) (λ t. says 1 t 0 0 0)
 
 -- ---- operands: widths, and where each stands
 
--- a key alone, or an address, has addressSize bytes, and a time alone numberSize
+-- a key alone, or an address, has address_size bytes, and a time alone number_size
 
 -- 00: max, ttl
 abbrev pub fresh_max_size : ℕ
@@ -228,7 +228,7 @@ pub record Output : Type 0 where
   pub lines : List Line
   pub session : Session
 
--- it stops after a 6; n is enough where it is at least the number of bytes (CommandRuns.fuel-enough)
+-- it stops after a 6; n is enough where it is at least the number of bytes (CommandRuns.fuel_enough)
 unfoldable pub run_commands : ℕ → ℕ → Session → List ℕ → Output
 run_commands zero R s bs = record { lines = []; session = s }
 run_commands (suc n) R s bs =

@@ -59,7 +59,7 @@ parked = 1
 abbrev pub probation : ℕ
 probation = 2
 
--- where a victim waits until it is known whether there is room; no state at rest has it (SoundKept.no-row-aside)
+-- where a victim waits until it is known whether there is room; no state at rest has it (SoundKept.no_row_aside)
 abbrev pub aside : ℕ
 aside = 3
 
@@ -77,7 +77,7 @@ no_mtu = 0
 abbrev pub some_mtu : ℕ
 some_mtu = 1
 
--- ---- entries, made and with some fields changed; what makes or changes an entry is made of these, but for Memory.entryOf
+-- ---- entries, made and with some fields changed; what makes or changes an entry is made of these, but for Memory.entry_of
 
 -- created at this time; path, times and source are still to be set
 abbrev pub empty_entry : ℕ → Entry

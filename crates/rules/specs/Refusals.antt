@@ -26,7 +26,7 @@ pub data Request : Type 0 where
 
 -- ---- the table
 
--- every call draws fewer stamps (Bounds.step-stamps)
+-- every call draws fewer stamps (Bounds.step_stamps)
 abbrev pub stamps_of_call : ℕ
 stamps_of_call = 4096
 

@@ -1,4 +1,4 @@
--- Soundness in the parts that the check goes by: the head, and the rows. Together they are `sound` (PassLaws.sound-parts).
+-- Soundness in the parts that the check goes by: the head, and the rows. Together they are `sound` (PassLaws.sound_parts).
 use Rattle.std.specs.Prelude.{ℕ, ◌+◌, List, Bool, cond, ◌&&◌, ltb, leb, eqb}
 use Rattle.rules.specs.Records.{Row, max_rows, probation, probation_bound}
 use Rattle.rules.specs.Rows.{in_main, in_probation, count_rows, weigh_rows}

@@ -13,7 +13,7 @@ pub record Run : Type 0 where
   pub lines : List Line
   pub session : Session
 
--- as runCommands of the rules, on the memory; n is enough where it is at least the number of bytes
+-- as run_commands of the rules, on the memory; n is enough where it is at least the number of bytes
 unfoldable pub run_all : ℕ → Session → List ℕ → Run
 run_all zero h bs = record { lines = []; session = h }
 run_all (suc n) h bs =

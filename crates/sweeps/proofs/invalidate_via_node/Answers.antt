@@ -1,4 +1,4 @@
--- By one-said, Refused(1) and the untouched memory are the call's result where is_sound fails; else the unchecked contract is the same.
+-- By one_said, Refused(1) and the untouched memory are the call's result where is_sound fails; else the unchecked contract is the same.
 use Rattle.rules.specs.Answers.{sweep_said}
 use Rattle.refusals.proofs.RefusalsSaid.{checked, one_said}
 use Rattle.sweeps.proofs.invalidate_via_node.Goals as goal

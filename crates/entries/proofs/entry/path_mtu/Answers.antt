@@ -1,4 +1,4 @@
--- A mark of 1 is the test by which `entryValue` has an MTU; at any other mark it has none.
+-- A mark of 1 is the test by which `entry_value` has an MTU; at any other mark it has none.
 use Rattle.rules.specs.Rows.{row_at}
 use Rattle.rules.specs.Memory.{view_rows}
 use Rattle.entries.proofs.EntryValues.{mtu_known, mtu_unknown}

@@ -1,4 +1,4 @@
--- The record is newEntry field by field, with add_times giving expires_at.
+-- The record is new_entry field by field, with add_times giving expires_at.
 use Rattle.rules.specs.Entries.{new_entry, update}
 use Rattle.entries.specs.NewEntries.{entry_from}
 use mathlib.Core.Path.{refl}

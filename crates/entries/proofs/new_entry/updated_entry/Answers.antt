@@ -1,4 +1,4 @@
--- entryFrom of the result is update once created_at, MTU and mark are read from row i and expires is known as addTimes.
+-- entry_from of the result is update once created_at, MTU and mark are read from row i and expires is known as add_times.
 use Rattle.rules.specs.Entries.{update}
 use Rattle.entries.specs.NewEntries.{entry_from}
 use mathlib.Core.Path.{refl}

@@ -1,4 +1,4 @@
--- markVerified sets the same two fields, source and verified_until, and add_times gives the second.
+-- mark_verified sets the same two fields, source and verified_until, and add_times gives the second.
 use Rattle.rules.specs.Entries.{mark_verified}
 use Rattle.entries.specs.NewEntries.{entry_from}
 use mathlib.Core.Path.{refl}

@@ -1,4 +1,4 @@
--- `expired` is the same comparison once the number read is replaced by the entry's expiresAt.
+-- `expired` is the same comparison once the number read is replaced by the entry's expires_at.
 use Rattle.rules.specs.Entries.{expired}
 use Rattle.entries.proofs.times.is_expired.Goals as goal
 

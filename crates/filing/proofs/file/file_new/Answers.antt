@@ -1,4 +1,4 @@
--- The search's index is where insertInOrder puts the row, and stored_weight, the sum over main rows, grows by the weight of a main row.
+-- The search's index is where insert_in_order puts the row, and stored_weight, the sum over main rows, grows by the weight of a main row.
 use mathlib.Core.Path.{refl}
 use Rattle.rows.specs.Insertions.{row_from}
 use Rattle.entries.specs.NewEntries.{entry_from}

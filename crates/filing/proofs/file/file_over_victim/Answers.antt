@@ -1,4 +1,4 @@
--- Exchanging row i for the new one is takeOut, then fileNew: the row count stays n, and the zero row that takeOut adds is the one fileNew drops.
+-- Exchanging row i for the new one is take_out, then file_new: the row count stays n, and the zero row that take_out adds is the one file_new drops.
 use mathlib.Core.Path.{refl}
 use Rattle.rows.specs.Insertions.{row_from}
 use Rattle.entries.specs.NewEntries.{entry_from}

@@ -1,4 +1,4 @@
--- Stamping row i after its insertion is inserting it stamped, so the steps are fileNew with the saved entry and weight (filed-unchanged).
+-- Stamping row i after its insertion is inserting it stamped, so the steps are file_new with the saved entry and weight (filed_unchanged).
 use native.Mathlib.Omega.{arith}
 use Rattle.rules.specs.Memory.{row_of}
 use Rattle.filing.proofs.FiledRows.{Standing, index_asks, one_more_fits, place_inside, same_seq, row_there, count_asks, seq_left, filed_unchanged}

@@ -1,4 +1,4 @@
--- Takes says what each case requires: a sound state with a free row without a victim, Over with one; withoutVictim has the same two cases.
+-- Takes says what each case requires: a sound state with a free row without a victim, Over with one; without_victim has the same two cases.
 use Rattle.room.proofs.LeftVictims.{without_at, without_none}
 use Rattle.filing.proofs.FiledInRoom.{rows_there}
 use borrow.Author.Rules.{rules}

@@ -1,4 +1,4 @@
--- The update changes row i's entry alone, so refiling it afterwards is refiling the old row with the updated entry (rewritten-refiled).
+-- The update changes row i's entry alone, so refiling it afterwards is refiling the old row with the updated entry (rewritten_refiled).
 use native.Mathlib.Omega.{arith}
 use Rattle.memory.proofs.RowLaws.{view_length}
 use Rattle.filing.proofs.RefiledRows.{rewritten_seq, rewritten_refiled}

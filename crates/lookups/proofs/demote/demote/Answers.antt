@@ -1,4 +1,4 @@
--- Refused(1) reads as the rules' answer to an unsound memory (one-said); where is_sound is true, demote_unchecked's contract is this one.
+-- Refused(1) reads as the rules' answer to an unsound memory (one_said); where is_sound is true, demote_unchecked's contract is this one.
 use Rattle.rules.specs.Answers.{demote_said}
 use Rattle.refusals.proofs.RefusalsSaid.{checked, one_said}
 use Rattle.lookups.proofs.demote.demote.Goals as goal

@@ -1,4 +1,4 @@
--- A seq over LAST_SEQ is refusal 3; up to it the call is not refused, and its state is demotedAt i where find gives i, else the same state.
+-- A seq over LAST_SEQ is refusal 3; up to it the call is not refused, and its state is demoted_at i where find gives i, else the same state.
 use Rattle.rules.specs.Answers.{demote_said}
 use Rattle.rules.proofs.MemoryLaws.{all_bytes}
 use Rattle.refusals.proofs.SoundCalls.{head_there, searchable}

@@ -1,4 +1,4 @@
--- On an unsound memory gotPart is empty and the number is 1; on a sound one Get is not refused, so the number is 0 (get-zero).
+-- On an unsound memory got_part is empty and the number is 1; on a sound one Get is not refused, so the number is 0 (get_zero).
 use Rattle.refusals.proofs.RefusalsSaid.{checked, unsound, one_numbered}
 use Rattle.lookups.proofs.UnsoundLookups.{one_got}
 use Rattle.lookups.proofs.FoundRows.{get_zero}

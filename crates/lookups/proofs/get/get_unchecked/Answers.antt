@@ -1,4 +1,4 @@
--- The slice from start to end is the cut of place.bytes bytes at start, and StandsAt equates that cut with gotPart.
+-- The slice from start to end is the cut of place.bytes bytes at start, and StandsAt equates that cut with got_part.
 use Rattle.lookups.proofs.FoundRows.{part_from}
 use Rattle.lookups.proofs.get.get_unchecked.Goals as goal
 

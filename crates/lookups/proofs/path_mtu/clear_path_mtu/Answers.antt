@@ -1,4 +1,4 @@
--- refusalOf gives number 1 for an unsound memory (one-numbered); a sound one is all that clear_path_mtu_unchecked requires.
+-- refusal_of gives number 1 for an unsound memory (one_numbered); a sound one is all that clear_path_mtu_unchecked requires.
 use Rattle.refusals.proofs.RefusalsSaid.{checked, one_numbered}
 use Rattle.lookups.proofs.path_mtu.clear_path_mtu.Goals as goal
 

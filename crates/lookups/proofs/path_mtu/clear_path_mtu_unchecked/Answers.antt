@@ -1,4 +1,4 @@
--- A call without path or stamps is not refused on a sound memory; dropMtu rewrites the row that find gives, or nothing where it gives none.
+-- A call without path or stamps is not refused on a sound memory; drop_mtu rewrites the row that find gives, or nothing where it gives none.
 use Rattle.rules.proofs.MemoryLaws.{all_bytes}
 use Rattle.refusals.proofs.SoundCalls.{head_there, searchable}
 use Rattle.refusals.proofs.SearchedKeys.{Searched, held, absent, row_asked}

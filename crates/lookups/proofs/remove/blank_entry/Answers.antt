@@ -1,4 +1,4 @@
--- The literal is blankEntry once its path is known to be the empty one.
+-- The literal is blank_entry once its path is known to be the empty one.
 use Rattle.lookups.proofs.RemovedRows.{blank_made}
 use Rattle.lookups.proofs.remove.blank_entry.Goals as goal
 

@@ -1,4 +1,4 @@
--- entryGiven of refusal 1 is the blank entry (one-removed); a sound memory meets the precondition of remove_unchecked.
+-- entry_given of refusal 1 is the blank entry (one_removed); a sound memory meets the precondition of remove_unchecked.
 use Rattle.refusals.proofs.RefusalsSaid.{checked, unsound}
 use Rattle.lookups.proofs.RemovedRows.{one_removed}
 use Rattle.lookups.proofs.remove.remove.Goals as goal

@@ -1,4 +1,4 @@
--- A refused call keeps the memory, so the part after it is empty too (one-got-after); on a sound memory the number is 0 (touch-zero).
+-- A refused call keeps the memory, so the part after it is empty too (one_got_after); on a sound memory the number is 0 (touch_zero).
 use Rattle.refusals.proofs.RefusalsSaid.{checked, unsound, one_numbered}
 use Rattle.lookups.proofs.UnsoundLookups.{one_got_after}
 use Rattle.lookups.proofs.TouchedRows.{touch_zero}

@@ -1,4 +1,4 @@
--- set_times with addTimes time default_ttl is refresh, and the head has the same default_ttl in a view of n rows as in one of none.
+-- set_times with add_times time default_ttl is refresh, and the head has the same default_ttl in a view of n rows as in one of none.
 use mathlib.Core.Path.{ap, ◌∙◌}
 use Prim.Native.Nat.{ℕ}
 use Rattle.rules.specs.Entries.{add_times}

@@ -1,4 +1,4 @@
--- Where is_sound is false, the answer is refusal 1 and the memory is kept (one-touched); where it is true, touch_unchecked applies.
+-- Where is_sound is false, the answer is refusal 1 and the memory is kept (one_touched); where it is true, touch_unchecked applies.
 use Rattle.refusals.proofs.RefusalsSaid.{checked, unsound}
 use Rattle.lookups.proofs.TouchedRows.{one_touched}
 use Rattle.lookups.proofs.touch.touch.Goals as goal

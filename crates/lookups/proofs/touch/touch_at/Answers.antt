@@ -1,4 +1,4 @@
--- Both branches are those of touchedAt: with row i out the memory shows n - 1 rows, with row i refreshed it still shows n.
+-- Both branches are those of touched_at: with row i out the memory shows n - 1 rows, with row i refreshed it still shows n.
 use mathlib.Core.Path.{sym, ◌∙◌}
 use Rattle.lookups.proofs.TouchedRows.{touched_out, touched_kept}
 use Rattle.lookups.proofs.touch.touch_at.Goals as goal

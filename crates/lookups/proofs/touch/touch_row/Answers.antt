@@ -1,4 +1,4 @@
--- touchSays is Found only where row i is not expired, so the answer tells whether touchedPlace is the path's place or no place.
+-- touch_says is Found only where row i is not expired, so the answer tells whether touched_place is the path's place or no place.
 use mathlib.Core.Path.{ap}
 use Rattle.lookups.proofs.FoundRows.{finds}
 use Rattle.lookups.proofs.PathPlaces.{placed, unplaced}

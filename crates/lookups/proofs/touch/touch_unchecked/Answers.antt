@@ -1,4 +1,4 @@
--- Where find gives i, the call's state is touchedAt i and its answer touchSays i; where it gives none, Absent and the same state.
+-- Where find gives i, the call's state is touched_at i and its answer touch_says i; where it gives none, Absent and the same state.
 use Rattle.rules.proofs.MemoryLaws.{all_bytes}
 use Rattle.refusals.proofs.SoundCalls.{head_there, searchable}
 use Rattle.refusals.proofs.SearchedKeys.{Searched, held, absent, removal_asked}

@@ -1,4 +1,4 @@
--- Unfolded, `drop_mtu` is `withMtu` with mark 0 and MTU 0, and with these `set_mtu` is called.
+-- Unfolded, `drop_mtu` is `with_mtu` with mark 0 and MTU 0, and with these `set_mtu` is called.
 use Rattle.rules.specs.Entries.{drop_mtu}
 use Rattle.memory.proofs.row.drop_mtu.Goals as goal
 

@@ -1,4 +1,4 @@
--- The gap closed and the last row zeroed leave the other rows and their weight, which is `takeOut` by `out_view`.
+-- The gap closed and the last row zeroed leave the other rows and their weight, which is `take_out` by `out_view`.
 use mathlib.Core.Path.{◌∙◌}
 use Rattle.memory.proofs.RowLaws.{out_view}
 use Rattle.memory.proofs.rows.remove_row.Goals as goal

@@ -1,4 +1,4 @@
--- one-said gives refusal 1 of InsertStated where is_sound is false; the other branch returns what insert_stated_unchecked ensures.
+-- one_said gives refusal 1 of InsertStated where is_sound is false; the other branch returns what insert_stated_unchecked ensures.
 use Rattle.rules.specs.Answers.{hint_said}
 use Rattle.refusals.proofs.RefusalsSaid.{checked, one_said}
 use Rattle.placement.proofs.calls.insert_stated.Goals as goal

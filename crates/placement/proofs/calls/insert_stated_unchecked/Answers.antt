@@ -1,4 +1,4 @@
--- Places for InsertStated needs two equations: ttl is the state's defaultTtl, and stated is startsAt of the key and the path.
+-- Places for InsertStated needs two equations: ttl is the state's default_ttl, and stated is starts_at of the key and the path.
 use mathlib.Core.Path.{◌∙◌}
 use Rattle.refusals.proofs.SoundCalls.{head_there}
 use Rattle.placement.proofs.HintCalls.{inserts_stated, shown_ttl}

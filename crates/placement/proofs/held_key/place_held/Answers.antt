@@ -1,4 +1,4 @@
--- Each rejecting test implies staysVerified, and past both it is false; the row's place then chooses main or probation.
+-- Each rejecting test implies stays_verified, and past both it is false; the row's place then chooses main or probation.
 use mathlib.Core.Path.{◌≡◌, refl, ap, ◌∙◌}
 use mathlib.Core.Bool.{Bool, true, false, cond}
 use Rattle.types.specs.declared.placed.HintOutcome.TheVariants.{Changed, Unchanged}

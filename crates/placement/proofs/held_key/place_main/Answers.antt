@@ -1,4 +1,4 @@
--- w <= old and covers are the two conditions of placeMain; past the first, old < w, so w - old is the growth.
+-- w <= old and covers are the two conditions of place_main; past the first, old < w, so w - old is the growth.
 use mathlib.Core.Path.{◌≡◌, refl}
 use mathlib.Core.Bool.{Bool}
 use Prim.Native.Nat.{◌-◌}

@@ -1,4 +1,4 @@
--- The charge is the larger of the two weights, and whether the funding covers it chooses between refile and promote as in placeProbation.
+-- The charge is the larger of the two weights, and whether the funding covers it chooses between refile and promote as in place_probation.
 use mathlib.Core.Path.{◌≡◌, sym, ap, ◌∙◌}
 use mathlib.Core.Bool.{Bool}
 use Prim.Native.Nat.{max}

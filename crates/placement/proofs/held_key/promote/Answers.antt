@@ -1,4 +1,4 @@
--- The row taken out leaves probation below Q, so without a victim a row is free whether or not room was made in main (out-takes).
+-- The row taken out leaves probation below Q, so without a victim a row is free whether or not room was made in main (out_takes).
 use Prim.Native.Nat.{◌-◌}
 use Rattle.filing.proofs.RoomSought.{Sought, sought_for}
 use Rattle.placement.proofs.HeldKeys.{Out, row_there, out_asks, out_room_asks, out_takes, promoted_is}

@@ -1,4 +1,4 @@
--- Each branch of the if is one side of the cond in promotedAs.
+-- Each branch of the if is one side of the cond in promoted_as.
 use Rattle.placement.proofs.held_key.promoted.Goals as goal
 
 pub returns-then-made : goal.returns-then-made

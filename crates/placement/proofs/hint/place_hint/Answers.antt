@@ -1,4 +1,4 @@
--- A number other than 0 is the refusal; at 0, Stands tells the key's row, and its field placed equates placeHint with placeHeld or placeNew.
+-- A number other than 0 is the refusal; at 0, Stands tells the key's row, and its field placed equates place_hint with place_held or place_new.
 use mathlib.Core.Path.{◌∙◌}
 use Rattle.rules.specs.Answers.{hint_said}
 use Rattle.rules.proofs.MemoryLaws.{all_bytes}

@@ -1,4 +1,4 @@
--- A found row that is not expired gives HeldAt; an expired one, taken out, or none gives NewIn; these are the cases of placeHint.
+-- A found row that is not expired gives HeldAt; an expired one, taken out, or none gives NewIn; these are the cases of place_hint.
 use native.Mathlib.Omega.{arith}
 use Rattle.placement.proofs.HeldKeys.{row_there, out_asks}
 use Rattle.placement.proofs.PlacedHints.{Searched, search_asks, holds_found, held_here, new_expired, new_missing}

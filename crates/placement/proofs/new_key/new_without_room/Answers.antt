@@ -1,4 +1,4 @@
--- Both fundings are clauses of newWithoutRoom: Upto by new_in_probation, and Uncharged with the memory as it is.
+-- Both fundings are clauses of new_without_room: Upto by new_in_probation, and Uncharged with the memory as it is.
 use mathlib.Core.Path.{refl}
 use Rattle.rules.specs.Placement.{place_result, rejected, new_without_room}
 use Rattle.filing.proofs.FiledInRoom.{rows_there}

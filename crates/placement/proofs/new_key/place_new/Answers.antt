@@ -1,4 +1,4 @@
--- covers and room.made choose as in placeNew; by Sought, room that was made gives Takes, and room that was not, no victim and enough stamps.
+-- covers and room.made choose as in place_new; by Sought, room that was made gives Takes, and room that was not, no victim and enough stamps.
 use mathlib.Core.Path.{◌≡◌, sym, ap, ◌∙◌}
 use mathlib.Core.Bool.{Bool}
 use native.Mathlib.Omega.{arith}

@@ -1,4 +1,4 @@
--- A writable path has at most pathPlaces elements, so its weight is within weightLimit and the cast keeps it.
+-- A writable path has at most path_places elements, so its weight is within weight_limit and the cast keeps it.
 use native.Mathlib.Omega.{arith}
 use Rattle.placement.proofs.NewKeys.{light}
 use Rattle.placement.proofs.new_key.row_weight.Goals as goal

@@ -1,4 +1,4 @@
--- The returns are the cases of writeRefusal in its order: a bad path, else a seq over the last, else neither.
+-- The returns are the cases of write_refusal in its order: a bad path, else a seq over the last, else neither.
 use mathlib.Core.Path.{refl, ◌∙◌}
 use Rattle.rules.specs.Refusals.{bad_path}
 use Rattle.refusals.proofs.SoundCalls.{shown_seq}

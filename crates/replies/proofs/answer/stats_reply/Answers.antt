@@ -1,4 +1,4 @@
--- A refusal reduces to `refuses` and statistics to `statsReply`, which the method's contract gives.
+-- A refusal reduces to `refuses` and statistics to `stats_reply`, which the method's contract gives.
 use Rattle.rules.specs.Commands.{reply}
 use Rattle.rules.specs.Answers.{stats_said}
 use Rattle.replies.proofs.answer.stats_reply.Goals as goal

@@ -1,4 +1,4 @@
--- keptDown copies only where j is below i, and so does the branch; where j is i the bytes stay.
+-- kept_down copies only where j is below i, and so does the branch; where j is i the bytes stay.
 use Rattle.retention.proofs.KeptRows.{down, down_stays}
 use Rattle.retention.proofs.rows.keep_row.Goals as goal
 

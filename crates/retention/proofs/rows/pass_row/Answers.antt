@@ -1,4 +1,4 @@
--- The answer of row_matches is sweepTest, and both results of the contract follow it as the branch does.
+-- The answer of row_matches is sweep_test, and both results of the contract follow it as the branch does.
 use Rattle.retention.proofs.KeptRows.{passed_out, passed_kept}
 use Rattle.retention.proofs.rows.pass_row.Goals as goal
 

@@ -1,4 +1,4 @@
--- The kind selects one test of sweepTest, and a path of 1 to 32 elements is within what its reader asks.
+-- The kind selects one test of sweep_test, and a path of 1 to 32 elements is within what its reader asks.
 use Rattle.retention.proofs.KeptRows.{test_expired, test_via, test_root, test_aside}
 use Rattle.retention.proofs.rows.row_matches.Goals as goal
 

@@ -1,4 +1,4 @@
--- For this kind sweepTest asks only whether the row is aside, so the sweep keeps exactly the others.
+-- For this kind sweep_test asks only whether the row is aside, so the sweep keeps exactly the others.
 use Rattle.retention.specs.Sweep.{sweep_test, kept_rows}
 use Rattle.room.proofs.victims.drop_aside.Goals as goal
 

@@ -1,4 +1,4 @@
--- The first i rows were put back and the rest left; after n turns that is putBack on every row.
+-- The first i rows were put back and the rest left; after n turns that is put_back on every row.
 use Rattle.room.proofs.RowsAside.{backed_start, backed_turn, backed_end}
 use Rattle.room.proofs.victims.put_back.Goals as goal
 

@@ -1,4 +1,4 @@
--- The first i rows were put back and the rest left; after n turns that is putBack on every row.
+-- The first i rows were put back and the rest left; after n turns that is put_back on every row.
 use Prim.Native.Nat.{◌-◌}
 use Rattle.room.proofs.RowsAside.{Backed}
 use Rattle.room.proofs.victims.put_back.Given as goal

@@ -1,4 +1,4 @@
--- putBack changes only a row that is aside: there the place becomes BY_USE, and any other row is left.
+-- put_back changes only a row that is aside: there the place becomes BY_USE, and any other row is left.
 use mathlib.Core.Path.{sym, ◌∙◌}
 use Rattle.room.proofs.RowsAside.{back_here, back_not_here}
 use Rattle.room.proofs.victims.put_row_back.Goals as goal

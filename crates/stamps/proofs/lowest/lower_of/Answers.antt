@@ -1,4 +1,4 @@
--- The test is the condition of lowerBest, and each of the two returns is the branch that it selects.
+-- The test is the condition of lower_best, and each of the two returns is the branch that it selects.
 use Rattle.stamps.specs.Walked.{lower_best}
 use Rattle.stamps.proofs.lowest.lower_of.Goals as goal
 

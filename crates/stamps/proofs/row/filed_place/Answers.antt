@@ -1,4 +1,4 @@
--- Below PROBATION the cond gives byUse and else the place itself, as the branches do.
+-- Below PROBATION the cond gives by_use and else the place itself, as the branches do.
 use borrow.Author.Tests.{lt-ltb, le-ltb}
 use Rattle.stamps.proofs.row.filed_place.Goals as goal
 

@@ -1,4 +1,4 @@
--- A stamp drawn at PARKED with the row's own verified_until changes the row as parkedAt does.
+-- A stamp drawn at PARKED with the row's own verified_until changes the row as parked_at does.
 use Rattle.stamps.proofs.StampedRows.{parked_anew}
 use Rattle.stamps.proofs.row.park.Goals as goal
 

@@ -1,4 +1,4 @@
--- Refusal 5 is the negation of headSound for no row; where it does not apply, the memory has the rows that make_fresh writes.
+-- Refusal 5 is the negation of head_sound for no row; where it does not apply, the memory has the rows that make_fresh writes.
 use mathlib.Core.Bool.{true, false}
 use mathlib.Core.Path.{sym, ap}
 use Rattle.rules.specs.Answers.{refusal_of}

@@ -1,4 +1,4 @@
--- Refusal 1 holds whatever the MTU (one-said); on a sound memory the unchecked form ensures the same of the same call.
+-- Refusal 1 holds whatever the MTU (one_said); on a sound memory the unchecked form ensures the same of the same call.
 use Rattle.rules.specs.Answers.{verified_said}
 use Rattle.refusals.proofs.RefusalsSaid.{checked, one_said}
 use Rattle.verification.proofs.calls.insert_verified_with_path_mtu.Goals as goal

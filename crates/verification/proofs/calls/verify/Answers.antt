@@ -1,4 +1,4 @@
--- 2 and 3 are writeRefusal's and 4 is noPlaceFor's; where none is given the call is done, and file_verified leaves its state.
+-- 2 and 3 are write_refusal's and 4 is no_place_for's; where none is given the call is done, and file_verified leaves its state.
 use Rattle.rules.specs.Answers.{verified_said}
 use Rattle.rules.proofs.MemoryLaws.{all_bytes}
 use Rattle.refusals.proofs.SoundCalls.{head_there}

@@ -1,4 +1,4 @@
--- A probation row makes the conjunction false; for a main row, the count less 1 and the weight less its own are those of takeOut.
+-- A probation row makes the conjunction false; for a main row, the count less 1 and the weight less its own are those of take_out.
 use mathlib.Core.Path.{◌≡◌, ◌∙◌}
 use mathlib.Core.Bool.{true}
 use native.Mathlib.Omega.{arith}

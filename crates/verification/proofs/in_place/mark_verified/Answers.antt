@@ -1,4 +1,4 @@
--- set_source with VERIFIED and addTimes of the time and VERIFIED_TTL_MS rewrites the entry as markVerified does.
+-- set_source with VERIFIED and add_times of the time and VERIFIED_TTL_MS rewrites the entry as mark_verified does.
 use mathlib.Core.Path.{◌∙◌}
 use Rattle.verification.proofs.Marks.{verified_source_lem}
 use Rattle.verification.proofs.in_place.mark_verified.Goals as goal

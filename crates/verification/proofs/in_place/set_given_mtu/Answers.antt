@@ -1,4 +1,4 @@
--- Known is a rewrite by setMtu; Unknown writes nothing, and a rewrite by the identity leaves the state as it is.
+-- Known is a rewrite by set_mtu; Unknown writes nothing, and a rewrite by the identity leaves the state as it is.
 use mathlib.Core.Path.{◌∙◌}
 use Rattle.verification.proofs.Marks.{no_mtu_lem, some_mtu_lem}
 use Rattle.verification.proofs.in_place.set_given_mtu.Goals as goal

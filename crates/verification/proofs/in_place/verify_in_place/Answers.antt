@@ -1,4 +1,4 @@
--- Keys ascend, so a row of the same key is inserted at i again: fileNew after takeOut is a refile, and the later rewrites keep last_used.
+-- Keys ascend, so a row of the same key is inserted at i again: file_new after take_out is a refile, and the later rewrites keep last_used.
 use Prim.Native.Nat.{◌+◌, ◌*◌, ◌≤◌}
 use mathlib.Core.Path.{◌∙◌}
 use native.Mathlib.Omega.{arith}

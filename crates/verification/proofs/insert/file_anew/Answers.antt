@@ -1,4 +1,4 @@
--- Reached says that the key is out, Sought what room was made; since noPlaceFor is false main is below M, so Takes holds.
+-- Reached says that the key is out, Sought what room was made; since no_place_for is false main is below M, so Takes holds.
 use mathlib.Core.Path.{ap}
 use native.Mathlib.Omega.{arith}
 use Rattle.types.specs.declared.coord.Path.{Path}

@@ -1,4 +1,4 @@
--- The search decides as find does in verifiedEntry: update of the row found, or newEntry; markVerified follows in both cases.
+-- The search decides as find does in verified_entry: update of the row found, or new_entry; mark_verified follows in both cases.
 use mathlib.Core.Path.{◌∙◌}
 use Rattle.memory.proofs.Fields.{same_head}
 use Rattle.verification.proofs.VerifiedRows.{within, entry_held, entry_new}

@@ -1,4 +1,4 @@
--- withoutKey has the search's two cases: takeOut of row i where it was found, the state itself where it was not.
+-- without_key has the search's two cases: take_out of row i where it was found, the state itself where it was not.
 use native.Mathlib.Omega.{arith}
 use Rattle.room.proofs.RoomToFile.{shown, laid_out}
 use Rattle.verification.proofs.VerifiedRows.{within, out_held, out_absent}

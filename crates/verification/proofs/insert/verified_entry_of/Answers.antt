@@ -1,4 +1,4 @@
--- verifiedEntry with an MTU is setMtu of the one without, so the cases of mtu are those of mtuOf.
+-- verified_entry with an MTU is set_mtu of the one without, so the cases of mtu are those of mtu_of.
 use mathlib.Core.Path.{◌∙◌}
 use Rattle.verification.proofs.VerifiedRows.{entry_plain, entry_with_mtu}
 use Rattle.verification.proofs.insert.verified_entry_of.Goals as goal

@@ -1,4 +1,4 @@
--- The search's answer is find's: place < PROBATION is inMain of the row found, and an absent key is not in main.
+-- The search's answer is find's: place < PROBATION is in_main of the row found, and an absent key is not in main.
 use Rattle.verification.proofs.NoPlace.{rows_searchable, row_inside, held_in_main, absent_in_main}
 use Rattle.verification.proofs.no_place.key_in_main.Goals as goal
 

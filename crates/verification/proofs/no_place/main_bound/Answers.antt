@@ -1,4 +1,4 @@
--- In a sound state Q is at most R, so the subtraction does not underflow, and R - Q is mainLimit.
+-- In a sound state Q is at most R, so the subtraction does not underflow, and R - Q is main_limit.
 use native.Mathlib.Omega.{arith}
 use Rattle.verification.proofs.NoPlace.{bound_is}
 use Rattle.room.proofs.RoomToFile.{rows_searchable}

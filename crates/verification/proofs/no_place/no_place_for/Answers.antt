@@ -1,4 +1,4 @@
--- The conjunction is false for a key in main or fewer than M main rows; else the key's row is outside main and roomCanBeMade does not count it.
+-- The conjunction is false for a key in main or fewer than M main rows; else the key's row is outside main and room_can_be_made does not count it.
 use mathlib.Core.Path.{refl}
 use native.Mathlib.Omega.{arith}
 use Rattle.rules.specs.Rows.{in_main}

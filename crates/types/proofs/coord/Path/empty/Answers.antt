@@ -1,4 +1,4 @@
--- Every place holds the zero entry, as emptyPath says.
+-- Every place holds the zero entry, as empty_path says.
 use Rattle.types.specs.Paths.{empty_path}
 use Rattle.types.proofs.coord.Path.empty.Goals as goal
 
