@@ -54,9 +54,6 @@ OTHERWISE = {
     "set-aside": "set_aside_lem",
     "touched-at": "touched_at_lem",
     "with-path": "made_with_path",
-    "apart-from": "apart_from_lem",
-    "is-number": "is_number_lem",
-    "is-head-number": "is_head_number_lem",
 }
 WORDS = set("record let in elim with data mod use pub abbrev unfoldable unfolding where if then else section variable".split())
 

@@ -5,10 +5,10 @@ use native.Mathlib.Nat.{not-suc-le-zero, le_of_suc-le-suc}
 use native.Mathlib.Omega.{arith}
 use mathlib.Core.Logic.{inl, inr}
 use mathlib.Core.List.{List, [], ◌∷◌, append_assoc}
-use mathlib.Core.Bool.{Bool, true, false, cond, ◌&&◌}
+use mathlib.Core.Bool.{Bool, true, false, cond}
 use lib.Dec.{eqb, leb}
 use borrow.Author.Tests.{eqb-true, leb-true}
-use lib.ListN.{length, take, drop, length-append, length-drop}
+use lib.ListN.{length, take, drop, get_or, length-append, length-drop}
 use lib.Seq.{sets, sets-eq, drop_at, drop-drop, length-take-le, length-sets}
 use Rattle.rules.specs.Records.{Entry, Row, State, empty_entry, with_mtu, with_source, with_times}
 use Rattle.rules.specs.Rows.{row_at, change_row, with_rows}
@@ -23,7 +23,6 @@ use Rattle.rules.specs.Layout.{created_at_in_row, expires_at_in_row, last_used_i
 use Rattle.rules.proofs.MemoryLaws.{num_le, length_le}
 use Rattle.rules.proofs.EntryLaws.{Stored, times_read, mtu_read, source_read}
 use Rattle.rules.proofs.Sizes.{small}
-use Rattle.rules.proofs.SoundTest.{and_case}
 use Rattle.rules.proofs.RowLists.{change_twice}
 use Rattle.raw.proofs.StoreLaws.{take_sets_le, drop_sets_ge, take_sets_in, drop_sets_add, cut_else, cut_same, cut_cut}
 use Rattle.memory.proofs.StoreRuns.{two_from}
@@ -182,30 +181,15 @@ source_store l n i source until a b h k =
 abbrev apart : ℕ → ℕ → ℕ → ℕ → Bool
 apart o w k m = cond (eqb o k) (eqb w m) (cond (leb (k + m) o) true (leb (o + w) k))
 
--- an offset and a width
-abbrev Field : Type 0
-Field = ℕ × ℕ
+abbrev all : List Bool → Bool
+all [] = true
+all (b ∷ bs) = cond b (all bs) false
 
--- the same of each of these fields
-abbrev apart_from : ℕ → ℕ → List Field → Bool
-apart_from o w [] = true
-apart_from o w (f ∷ fs) = cond (apart o w f.0 f.1) (apart_from o w fs) false
-
--- the m bytes at k are one of them
-abbrev among : ℕ → ℕ → List Field → Bool
-among k m [] = false
-among k m (f ∷ fs) = cond (eqb k f.0) (cond (eqb m f.1) true (among k m fs)) (among k m fs)
-
-apart_from_lem : (o w : ℕ) (fs : List Field) → apart_from o w fs ≡ true → (k m : ℕ) → among k m fs ≡ true → apart o w k m ≡ true
-apart_from_lem o w [] e k m i = cc
-apart_from_lem o w (f ∷ fs) e k m i = go (apart o w f.0 f.1) refl e (eqb k f.0) refl (eqb m f.1) refl i (λ r. apart_from_lem o w fs r k m)
-  where
-    go : (a : Bool) → apart o w f.0 f.1 ≡ a → cond a (apart_from o w fs) false ≡ true → (x : Bool) → eqb k f.0 ≡ x → (y : Bool) → eqb m f.1 ≡ y → cond x (cond y true (among k m fs)) (among k m fs) ≡ true
-        → (apart_from o w fs ≡ true → among k m fs ≡ true → apart o w k m ≡ true) → apart o w k m ≡ true
-    go false p e x q y r i ih = cc
-    go true p e true q true r i ih = rw (eqb-true k f.0 q, eqb-true m f.1 r) p
-    go true p e true q false r i ih = ih e i
-    go true p e false q y r i ih = ih e i
+all_true : (bs : List Bool) → all bs ≡ true → (i : ℕ) → get_or bs i true ≡ true
+all_true [] e i = refl
+all_true (true ∷ bs) e zero = refl
+all_true (true ∷ bs) e (suc i) = all_true bs e i
+all_true (false ∷ bs) e i = cc
 
 -- what stands at k, once v stands at o
 abbrev put : ℕ → ℕ → ℕ → ℕ → ℕ
@@ -228,20 +212,10 @@ field_stored o w v c s h k m = here (eqb o k) refl
 
 -- ---- numbers stored in a row, behind its entry
 
-abbrev row_fields : List Field
-row_fields = (place_offset, byte_size) ∷ (stamp_first_offset, number_size) ∷ (stamp_seq_offset, number_size) ∷ (weight_offset, byte_size) ∷ []
-
--- w bytes at o are such a number: each of them is at o, or apart from these bytes
-abbrev pub is_number : ℕ → ℕ → Bool
-is_number o w = leb place_offset o && (leb (o + w) row_size && apart_from o w row_fields)
-
-record IsNumber (o w : ℕ) : Type 0 where
-  behind : place_offset ≤ o
-  within : o + w ≤ row_size
-  others : (k m : ℕ) → among k m row_fields ≡ true → apart o w k m ≡ true
-
-is_number_lem : (o w : ℕ) → is_number o w ≡ true → IsNumber o w
-is_number_lem o w e = and_case _ _ e (λ a f. and_case _ _ f (λ b g. record { behind = leb-true place_offset o a; within = leb-true (o + w) row_size b; others = apart_from_lem o w row_fields g }))
+-- w bytes at o are a number of a row behind its entry: each such number is at o, or apart from them
+abbrev pub is_number : ℕ → ℕ → List Bool
+is_number o w =
+    leb place_offset o ∷ leb (o + w) row_size ∷ apart o w place_offset byte_size ∷ apart o w stamp_first_offset number_size ∷ apart o w stamp_seq_offset number_size ∷ apart o w weight_offset byte_size ∷ []
 
 -- the row with v as its number at o
 unfoldable pub with_number : ℕ → ℕ → Row → Row
@@ -256,21 +230,21 @@ with_number o v r =
       weight = at weight_offset r.weight;
     }
 
-number_row : (o w v : ℕ) → is_number o w ≡ true → Small w v → (c : List ℕ) → length c ≡ row_size → row_of (sets c o (le_bytes w v)) ≡ with_number o v (row_of c)
+number_row : (o w v : ℕ) → all (is_number o w) ≡ true → Small w v → (c : List ℕ) → length c ≡ row_size → row_of (sets c o (le_bytes w v)) ≡ with_number o v (row_of c)
 unfolding row_of with_number
 number_row o w v e s c h =
-    let t = is_number_lem o w e in
+    let t = all_true (is_number o w) e in
     let vs : List ℕ = le_bytes w v in
-    let b = t.behind in
-    let x = t.within in
-    let f : (k m : ℕ) → among k m row_fields ≡ true → le_number (cut k m (sets c o vs)) ≡ put o v k (le_number (cut k m c)) = λ k m i. field_stored o w v c s (omega arith) k m (t.others k m i) in
+    let b = leb-true place_offset o (t 0) in
+    let x = leb-true (o + w) row_size (t 1) in
+    let f = field_stored o w v c s (omega arith) in
     rw (
       cut_else c vs o key_offset address_size (inl (omega arith)),
       cut_else c vs o entry_offset entry_size (inl (omega arith)),
-      f place_offset byte_size refl,
-      f stamp_first_offset number_size refl,
-      f stamp_seq_offset number_size refl,
-      f weight_offset byte_size refl,
+      f place_offset byte_size (t 2),
+      f stamp_first_offset number_size (t 3),
+      f stamp_seq_offset number_size (t 4),
+      f weight_offset byte_size (t 5),
     )
 
 -- an offset, a width and a value
@@ -292,32 +266,22 @@ change_none zero (r ∷ rs) = refl
 change_none (suc i) (r ∷ rs) = ap (λ (xs : List Row). r ∷ xs) (change_none i rs)
 
 -- numbers stored in row i, one after the other, are that row changed in the view
-pub field_store : (xs : List Store) → Every (λ x. (is_number x.0 x.1 ≡ true) × (x.2 < 256 ^ x.1)) xs → (l : List ℕ) (n i : ℕ) → i < n → head_size + n * row_size ≤ length l
+pub field_store : (xs : List Store) → Every (λ x. (all (is_number x.0 x.1) ≡ true) × (x.2 < 256 ^ x.1)) xs → (l : List ℕ) (n i : ℕ) → i < n → head_size + n * row_size ≤ length l
     → view_rows n (stores (head_size + i * row_size) xs l) ≡ with_rows (change_row (with_numbers xs) i (view_rows n l).rows) (view_rows n l)
 unfolding with_rows
 field_store [] e l n i h k = rw (change_none i (view_rows n l).rows)
 field_store (x ∷ xs) e l n i h k =
     let f = with_number x.0 x.2 in
     let b = length_le x.1 x.2 in
-    let t = (is_number_lem x.0 x.1 e.0.0).within in
+    let t = leb-true (x.0 + x.1) row_size (all_true (is_number x.0 x.1) e.0.0 1) in
     let v = row_store f x.0 (le_bytes x.1 x.2) (omega arith) (number_row x.0 x.1 x.2 e.0.0 (small x.1 x.2 e.0.1)) n i l h k in
     field_store xs e.1 _ n i h (rw length-sets k) ∙ rw v (ap (λ (rs : List Row). with_rows rs (view_rows n l)) (change_twice f (with_numbers xs) i (view_rows n l).rows))
 
 -- ---- a number stored in the head
 
-abbrev head_fields : List Field
-head_fields = (max_entries_offset, number_size) ∷ (default_ttl_offset, number_size) ∷ (seq_offset, number_size) ∷ (stored_weight_offset, number_size) ∷ (row_count_offset, number_size) ∷ []
-
 -- the bytes at o are a number of the head
-abbrev pub is_head_number : ℕ → Bool
-is_head_number o = leb (o + number_size) head_size && apart_from o number_size head_fields
-
-record IsHeadNumber (o : ℕ) : Type 0 where
-  within : o + number_size ≤ head_size
-  others : (k : ℕ) → among k number_size head_fields ≡ true → apart o number_size k number_size ≡ true
-
-is_head_number_lem : (o : ℕ) → is_head_number o ≡ true → IsHeadNumber o
-is_head_number_lem o e = and_case _ _ e (λ a f. record { within = leb-true (o + number_size) head_size a; others = λ k. apart_from_lem o number_size head_fields f k number_size })
+abbrev pub is_head_number : ℕ → List Bool
+is_head_number o = leb (o + number_size) head_size ∷ apart o number_size max_entries_offset number_size ∷ apart o number_size default_ttl_offset number_size ∷ apart o number_size seq_offset number_size ∷ apart o number_size stored_weight_offset number_size ∷ apart o number_size row_count_offset number_size ∷ []
 
 -- the state with v as its number of the head at o
 unfoldable pub with_head_number : ℕ → ℕ → State → State
@@ -333,20 +297,19 @@ with_head_number o v s =
       rest = s.rest;
     }
 
-pub head_store : (o v : ℕ) → is_head_number o ≡ true → v < 256 ^ number_size → (n : ℕ) (l : List ℕ) → head_size ≤ length l → view_rows n (sets l o (le_bytes number_size v)) ≡ with_head_number o v (view_rows n l)
+pub head_store : (o v : ℕ) → all (is_head_number o) ≡ true → v < 256 ^ number_size → (n : ℕ) (l : List ℕ) → head_size ≤ length l → view_rows n (sets l o (le_bytes number_size v)) ≡ with_head_number o v (view_rows n l)
 unfolding view_rows with_head_number
 head_store o v e s n l h =
-    let t = is_head_number_lem o e in
-    let b = t.within in
+    let t = all_true (is_head_number o) e in
+    let b = leb-true (o + number_size) head_size (t 0) in
     let w = length_le number_size v in
-    let f : (k : ℕ) → among k number_size head_fields ≡ true → le_number (cut k number_size (sets l o (le_bytes number_size v))) ≡ put o v k (le_number (cut k number_size l)) =
-    λ k i. field_stored o number_size v l (small number_size v s) (omega arith) k number_size (t.others k i) in
+    let f = field_stored o number_size v l (small number_size v s) (omega arith) in
     rw (
-      f max_entries_offset refl,
-      f default_ttl_offset refl,
-      f seq_offset refl,
-      f stored_weight_offset refl,
-      f row_count_offset refl,
+      f max_entries_offset number_size (t 1),
+      f default_ttl_offset number_size (t 2),
+      f seq_offset number_size (t 3),
+      f stored_weight_offset number_size (t 4),
+      f row_count_offset number_size (t 5),
       drop_sets_ge head_size (le_bytes number_size v) l o (omega arith),
       drop_sets_ge (head_size + n * row_size) (le_bytes number_size v) l o (omega arith),
     )
