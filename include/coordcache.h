@@ -1,4 +1,4 @@
-/* The coordinate cache for C: libcoordcache.a, made by `rt staticlib coordcache`.
+/* The coordinate cache for C: libcoordcache.a, made by `tests/staticlib coordcache`.
  *
  * The state is memory that the caller lends: COORD_CACHE_HEAD bytes and COORD_CACHE_ROW for each row (docs/PACKING.md), any alignment.
  * Every call takes it as a pointer and its length in bytes. Make it by coord_cache_fresh.

@@ -1,19 +1,22 @@
-//! Links libcoordcache.a: the one in the folder COORDCACHE_LIB_DIR where that is set, else the one that `rt staticlib coordcache`
-//! proves and builds in this repository, which takes a minute or more.
+//! Links libcoordcache.a: the one in the folder COORDCACHE_LIB_DIR where that is set, else the one that `tests/staticlib coordcache`
+//! proves and builds in this repository, which takes some minutes.
 
 use std::env;
-use std::io::ErrorKind;
+use std::fs;
 use std::path::{Path, PathBuf};
 use std::process::Command;
 
 const VARIABLE: &str = "COORDCACHE_LIB_DIR";
 const ARCHIVE: &str = "libcoordcache.a";
 
-/// What a failure says of rt's time.
-const TIME: &str = "in a minute or more";
+/// What a failure says of the time.
+const TIME: &str = "in some minutes";
 
-/// Lines of rt's output that it shows.
+/// Lines of the output that it shows.
 const SHOWN: usize = 15;
+
+/// How `tests/staticlib` ends where rt is not on the PATH.
+const NO_RT: i32 = 127;
 
 fn main() {
     println!("cargo::rerun-if-changed=build.rs");
@@ -43,31 +46,43 @@ fn given(folder: &Path) -> PathBuf {
     }
 }
 
-/// The folder to which rt builds the archive, once every crate beneath it is proved.
-fn proved() -> PathBuf {
-    println!("cargo::rerun-if-changed=../crates");
+/// Has cargo run this again where a source of the crates changes. `out/`, beside those, is rt's own.
+fn watch(root: &Path) {
     println!("cargo::rerun-if-changed=../crates.txt");
-    let root = Path::new(env!("CARGO_MANIFEST_DIR")).parent().expect("the package stands in the repository");
-    let otherwise = format!("You can also set {VARIABLE} to a folder that holds {ARCHIVE}.");
-    let ran = match Command::new("rt").args(["staticlib", "coordcache"]).current_dir(root).output() {
-        Ok(ran) => ran,
-        Err(why) if why.kind() == ErrorKind::NotFound => {
-            panic!("`rt staticlib coordcache` is to prove and build {ARCHIVE}, {TIME}, but rt is not on the PATH.\n{otherwise}")
+    let crates = fs::read_dir(root.join("crates")).expect("the repository has its crates");
+    for one in crates.flatten() {
+        for part in ["src", "specs", "proofs"].map(|part| one.path().join(part)) {
+            if part.is_dir() {
+                println!("cargo::rerun-if-changed={}", part.display());
+            }
         }
-        Err(why) => panic!("`rt staticlib coordcache` does not start: {why}\n{otherwise}"),
+    }
+}
+
+/// The folder to which `tests/staticlib` copies the archive, once every crate beneath it is proved.
+fn proved() -> PathBuf {
+    let root = Path::new(env!("CARGO_MANIFEST_DIR")).parent().expect("the package stands in the repository");
+    watch(root);
+    let otherwise = format!("You can also set {VARIABLE} to a folder that holds {ARCHIVE}.");
+    let ran = match Command::new(root.join("tests/staticlib")).arg("coordcache").output() {
+        Ok(ran) => ran,
+        Err(why) => panic!("`tests/staticlib coordcache` does not start: {why}\n{otherwise}"),
     };
+    if ran.status.code() == Some(NO_RT) {
+        panic!("`tests/staticlib coordcache` is to prove and build {ARCHIVE}, {TIME}, but rt is not on the PATH.\n{otherwise}");
+    }
     if !ran.status.success() {
         let said = [ran.stdout, ran.stderr].concat();
         let said = String::from_utf8_lossy(&said);
         let lines: Vec<&str> = said.lines().collect();
         let last = lines[lines.len().saturating_sub(SHOWN)..].join("\n");
         panic!(
-            "`rt staticlib coordcache`, which proves and builds {ARCHIVE}, {TIME}, failed ({}); its last lines:\n{last}\n{otherwise}",
+            "`tests/staticlib coordcache`, which proves and builds {ARCHIVE}, {TIME}, failed ({}); its last lines:\n{last}\n{otherwise}",
             ran.status
         );
     }
     let folder = root.join("target/staticlib");
     let archive = folder.join(ARCHIVE);
-    assert!(archive.is_file(), "`rt staticlib coordcache` ended well, but there is no {}", archive.display());
+    assert!(archive.is_file(), "`tests/staticlib coordcache` ended well, but there is no {}", archive.display());
     folder
 }

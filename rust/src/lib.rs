@@ -38,7 +38,7 @@
 //! # What it is linked with
 //!
 //! `build.rs` links `libcoordcache.a`: from the folder that the variable `COORDCACHE_LIB_DIR` names, else it has
-//! `rt staticlib coordcache` prove and build it, which takes a minute or more the first time.
+//! `tests/staticlib coordcache` prove and build it, which takes some minutes the first time.
 
 #![deny(unsafe_code)]
 #![warn(missing_docs)]
