@@ -26,7 +26,7 @@ class Definitions:
             text = re.sub(r'--[^\n]*', '', self.file(module)[0].read_text())
             sums = re.findall(r'^abbrev pub (\w+) : ℕ\n\1 =(.+(?:\n .+)*)', text, flags=re.M)
             uses = re.findall(r'^use \S+\.(\w+)\.\{([^}]*)\}', text, flags=re.M)
-            self.files[module] = dict(sums), {name: used for used, names in uses for name in re.findall(r'[\w′]+', names)}
+            self.files[module] = dict(sums), {name: used for used, names in uses for name in re.findall(r"[\w']+", names)}
         return self.files[module]
 
     def number(self, module, name):
@@ -38,7 +38,7 @@ class Definitions:
         raise Unread(f'{module}.{name} is no abbreviation of a number')
 
     def computed(self, text, module=None):
-        """A sum, whose names stand in that module or have theirs before them (`Layout.rowSize`)."""
+        """A sum, whose names stand in that module or have theirs before them (`Layout.row_size`)."""
         words = re.findall(r'0x[0-9a-f]+|\d+|[A-Za-z][\w.]*|\S', text)
         value = self.sum(words, module)
         if words:

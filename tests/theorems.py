@@ -1,6 +1,5 @@
 """Numbers held to the definitions by the prover: each becomes a theorem `definition ≡ number` of a scratch crate over `rules`, proved by
 computation or refused by name. What tests/numbers runs."""
-import os
 import re
 import shutil
 import subprocess
@@ -27,9 +26,9 @@ def specs_of(name):
     """The folder of specs that a definition's module is in, and what the module is called from outside."""
     for crate in ('rules', 'types'):
         if (HERE / f'crates/{crate}/specs/{name}.antt').is_file():
-            return HERE / f'crates/{crate}/specs/{name}.antt', f'Rattle·{crate}.specs.{name}'
+            return HERE / f'crates/{crate}/specs/{name}.antt', f'Rattle.{crate}.specs.{name}'
     if name == 'Held':
-        return HERE / 'tests/numbers.antt.in', 'Rattle·numbers·specs.specs.Held'
+        return HERE / 'tests/numbers.antt.in', 'Rattle.numbers.specs.Held'
     raise Unread(f'there is no module {name} of definitions')
 
 
@@ -50,47 +49,30 @@ def theorems(claims):
         statement = re.sub(r'\b[A-Z]\w*\.(\w+)', r'\1', statement)
         line = f"unfolding {' '.join(sorted(set(unfolded)))}\n" if unfolded else ''
         said.append(f'-- {claim}\nn{i} : {statement}\n{line}n{i} = refl\n')
-    head = 'use Prim.Native.Nat.{_+_}\nuse mathlib.Core.Path.{_≡_, refl}\nuse mathlib.Core.Option.{some}\n'
+    head = 'use Rattle.std.specs.Prelude.{◌+◌, ◌≡◌, refl}\nuse Rattle.std.proofs.Math.Option.{some}\n'
     head += ''.join(f"use {path}.{{{', '.join(sorted(names))}}}\n" for path, names in sorted(uses.items()))
     return head + '\n' + '\n'.join(said)
 
 
 def scratch(claims):
-    """A repository of `types`, `rules` and the theorems. What is proved of the two in this one is not proved again; where they have
-    changed since, the definitions alone are checked."""
+    """A repository of `types`, `rules` and the theorems. Of `rules` the definitions alone are checked, whatever is proved of them. What rt
+    kept of an earlier check, here or of the same crate elsewhere, is not proved again."""
     place = WORK / 'repository'
-    shutil.rmtree(place / 'crates', ignore_errors=True)
     lines = dict(re.findall(r'^(\w+):(.*)$', (HERE / 'crates.txt').read_text(), flags=re.M))
-    target = HERE / 'target'
-    for crate in ('types', 'rules'):
-        stamp, proved = target / 'stamp' / crate, target / 'rlib' / f'{crate}.rlib'
-        files = [path for path in (HERE / 'crates' / crate).rglob('*') if path.is_file()]
-        known = stamp.is_file() and proved.is_dir() and all(path.stat().st_mtime <= stamp.stat().st_mtime for path in files)
-        for part in ('src', 'specs') + (('proofs',) if known or crate != 'rules' else ()):
-            if (HERE / 'crates' / crate / part).is_dir():
-                shutil.copytree(HERE / 'crates' / crate / part, place / 'crates' / crate / part)
-        if known:
-            for folder in ('stamp', 'rlib'):
-                (place / 'target' / folder).mkdir(parents=True, exist_ok=True)
-            shutil.copy(stamp, place / 'target/stamp' / crate)
-            shutil.rmtree(place / f'target/rlib/{crate}.rlib', ignore_errors=True)
-            shutil.copytree(proved, place / f'target/rlib/{crate}.rlib', copy_function=linked)
+    for crate, parts in (('types', ('src', 'specs', 'proofs')), ('rules', ('src', 'specs')), ('numbers', ())):
+        for part in ('src', 'specs', 'proofs'):
+            shutil.rmtree(place / 'crates' / crate / part, ignore_errors=True)
+        for part in parts:
+            shutil.copytree(HERE / 'crates' / crate / part, place / 'crates' / crate / part)
     (place / 'crates.txt').write_text(f"types:{lines['types']}\nrules:{lines['rules']}\nnumbers: rules types\n")
     specs, src = place / 'crates/numbers/specs', place / 'crates/numbers/src'
     specs.mkdir(parents=True)
     src.mkdir()
-    (src / 'lib.rt').write_text('pub fn one() -> u8 {\n    1\n}\n')
+    (src / 'lib.rt').write_text('#![tactic(auto)]\n\npub fn one() -> u8 {\n    1\n}\n')
     (specs / 'Lib.antt').write_text('pub mod Held\npub mod Claims\n')
     shutil.copy(HERE / 'tests/numbers.antt.in', specs / 'Held.antt')
     (specs / 'Claims.antt').write_text(theorems(claims))
     return place
-
-
-def linked(source, target):
-    try:
-        os.link(source, target)
-    except OSError:
-        shutil.copy(source, target)
 
 
 def refused(claims):
@@ -99,7 +81,7 @@ def refused(claims):
         raise Unread('there is no rt')
     WORK.mkdir(parents=True, exist_ok=True)
     place = scratch(claims)
-    ran = subprocess.run(['rt', 'check', 'numbers'], cwd=place, capture_output=True, text=True, env={**os.environ, 'RT_JOBS': '1', 'RT_CUT': '0'})
+    ran = subprocess.run(['rt', 'check'], cwd=place / 'crates/numbers', capture_output=True, text=True)
     said = ran.stdout + ran.stderr
     (WORK / 'check.log').write_text(said)
     named, others, lines = {}, [], said.splitlines()

@@ -1,7 +1,7 @@
 //! Fields, sizes, limits and codes, once for every test program here and for the crate's own tests. What is derived is written so; what
 //! is not, `tests/numbers --write` writes from the definitions.
 //!
-//! Behind each number stands what `tests/numbers` holds it to: a definition (`Layout.headSize`: `crates/rules/specs/Layout.antt`), a
+//! Behind each number stands what `tests/numbers` holds it to: a definition (`Layout.head_size`: `crates/rules/specs/Layout.antt`), a
 //! name of `tests/numbers.antt.in`, a constant of the proved code (`replies::line::LINE`), or for a command byte the call that it is
 //! read as (`Calls.Insert`).
 #![allow(dead_code, reason = "no program uses all of them")]
@@ -9,39 +9,39 @@
 // ---- widths, in bytes
 
 /// A mark, a code, a length, a weight.
-pub const BYTE: usize = 1; // Layout.byteSize
+pub const BYTE: usize = 1; // Layout.byte_size
 /// An MTU, and the limit that a command sets.
-pub const SHORT: usize = 2; // Layout.mtuSize
+pub const SHORT: usize = 2; // Layout.mtu_size
 /// A number of 64 bits.
-pub const NUMBER: usize = 8; // Layout.numberSize
-pub const ADDRESS: usize = 16; // Layout.addressSize
+pub const NUMBER: usize = 8; // Layout.number_size
+pub const ADDRESS: usize = 16; // Layout.address_size
 
 pub type Addr = [u8; ADDRESS];
 
 // ---- limits
 
 /// The most rows of a state.
-pub const MAX_ROWS: u64 = 1024; // Records.maxRows
+pub const MAX_ROWS: u64 = 1024; // Records.max_rows
 /// The most elements of a path: a row has so many places, used or not.
-pub const PLACES: usize = 32; // Paths.pathPlaces
+pub const PLACES: usize = 32; // Paths.path_places
 /// The least that a path weighs, and what main may weigh for each entry of max.
-pub const ADDRS_PER_ENTRY: u64 = 16; // Paths.addrsPerEntry
+pub const ADDRS_PER_ENTRY: u64 = 16; // Paths.addrs_per_entry
 /// The most that a row weighs.
-pub const WEIGHT_LIMIT: u64 = PLACES as u64; // Records.weightLimit
+pub const WEIGHT_LIMIT: u64 = PLACES as u64; // Records.weight_limit
 /// Probation holds this part of max, and at least one row.
-pub const PROBATION_DIVISOR: u64 = 32; // Records.probationDivisor
+pub const PROBATION_DIVISOR: u64 = 32; // Records.probation_divisor
 /// The largest max that the most rows are enough for.
-pub const MOST_ENTRIES: u64 = MAX_ROWS - MAX_ROWS / (PROBATION_DIVISOR + 1); // Held.mostEntries
+pub const MOST_ENTRIES: u64 = MAX_ROWS - MAX_ROWS / (PROBATION_DIVISOR + 1); // Held.most_entries
 /// How long a verified entry yields to no hint, in milliseconds.
-pub const VERIFIED_TTL_MS: u64 = 300_000; // Entries.verifiedTtl
+pub const VERIFIED_TTL_MS: u64 = 300_000; // Entries.verified_ttl
 /// Every call draws fewer stamps.
-pub const STAMPS_OF_CALL: u64 = 4096; // Refusals.stampsOfCall
+pub const STAMPS_OF_CALL: u64 = 4096; // Refusals.stamps_of_call
 /// The last seq at which a call that stamps is not refused.
-pub const LAST_SEQ: u64 = 18446744073709547519; // Refusals.lastSeq
+pub const LAST_SEQ: u64 = 18446744073709547519; // Refusals.last_seq
 /// The rows of coordrun's state.
-pub const COORDRUN_ROWS: u64 = 24; // Commands.coordrunRows
+pub const COORDRUN_ROWS: u64 = 24; // Commands.coordrun_rows
 /// The largest max that these are enough for.
-pub const COORDRUN_MOST_ENTRIES: u64 = COORDRUN_ROWS - 1; // Held.coordrunMostEntries
+pub const COORDRUN_MOST_ENTRIES: u64 = COORDRUN_ROWS - 1; // Held.coordrun_most_entries
 
 // ---- fields
 
@@ -66,39 +66,39 @@ macro_rules! fields {
 
 // ---- the head
 
-fields! { HEAD_FIELDS, HEAD: // Layout.headSize
-    MAX_ENTRIES "max_entries" NUMBER; // Layout.maxEntriesOffset
-    DEFAULT_TTL_MS "default_ttl_ms" NUMBER; // Layout.defaultTtlOffset
-    SEQ "seq" NUMBER; // Layout.seqOffset
-    STORED_WEIGHT "stored_weight" NUMBER; // Layout.storedWeightOffset
-    ROW_COUNT "row count" NUMBER; // Layout.rowCountOffset
+fields! { HEAD_FIELDS, HEAD: // Layout.head_size
+    MAX_ENTRIES "max_entries" NUMBER; // Layout.max_entries_offset
+    DEFAULT_TTL_MS "default_ttl_ms" NUMBER; // Layout.default_ttl_offset
+    SEQ "seq" NUMBER; // Layout.seq_offset
+    STORED_WEIGHT "stored_weight" NUMBER; // Layout.stored_weight_offset
+    ROW_COUNT "row count" NUMBER; // Layout.row_count_offset
 }
 
 // ---- a path element, and a path
 
-pub const SEQUENCE: usize = ADDRESS; // Layout.sequenceOffset
-pub const TIMESTAMP: usize = SEQUENCE + NUMBER; // Layout.timestampOffset
-pub const ELEMENT: usize = TIMESTAMP + NUMBER; // Layout.coordEntrySize
+pub const SEQUENCE: usize = ADDRESS; // Layout.sequence_offset
+pub const TIMESTAMP: usize = SEQUENCE + NUMBER; // Layout.timestamp_offset
+pub const ELEMENT: usize = TIMESTAMP + NUMBER; // Layout.coord_entry_size
 /// A length and all places; also the pending path.
-pub const PATH: usize = BYTE + PLACES * ELEMENT; // Layout.pathSize
+pub const PATH: usize = BYTE + PLACES * ELEMENT; // Layout.path_size
 
 // ---- a row
 
-fields! { ROW_FIELDS, ROW: // Layout.rowSize
-    KEY "key" ADDRESS; // Layout.keyOffset
-    PATH_LENGTH "path length" BYTE; // Layout.entryOffset + Layout.lengthOffset
-    PATH_PLACES "places" PLACES * ELEMENT; // Layout.placesInRow
-    CREATED_AT "created_at" NUMBER; // Layout.createdAtInRow
-    LAST_USED "last_used" NUMBER; // Layout.lastUsedInRow
-    EXPIRES_AT "expires_at" NUMBER; // Layout.expiresAtInRow
-    MTU_MARK "MTU mark" BYTE; // Layout.mtuMarkInRow
-    MTU_VALUE "MTU value" SHORT; // Layout.mtuInRow
-    SOURCE "source" BYTE; // Layout.sourceInRow
-    VERIFIED_UNTIL "verified_until" NUMBER; // Layout.verifiedUntilInRow
-    PLACE "place" BYTE; // Layout.placeOffset
-    STAMP_FIRST "stamp first" NUMBER; // Layout.stampFirstOffset
-    STAMP_SEQ "stamp seq" NUMBER; // Layout.stampSeqOffset
-    WEIGHT "weight" BYTE; // Layout.weightOffset
+fields! { ROW_FIELDS, ROW: // Layout.row_size
+    KEY "key" ADDRESS; // Layout.key_offset
+    PATH_LENGTH "path length" BYTE; // Layout.entry_offset + Layout.length_offset
+    PATH_PLACES "places" PLACES * ELEMENT; // Layout.places_in_row
+    CREATED_AT "created_at" NUMBER; // Layout.created_at_in_row
+    LAST_USED "last_used" NUMBER; // Layout.last_used_in_row
+    EXPIRES_AT "expires_at" NUMBER; // Layout.expires_at_in_row
+    MTU_MARK "MTU mark" BYTE; // Layout.mtu_mark_in_row
+    MTU_VALUE "MTU value" SHORT; // Layout.mtu_in_row
+    SOURCE "source" BYTE; // Layout.source_in_row
+    VERIFIED_UNTIL "verified_until" NUMBER; // Layout.verified_until_in_row
+    PLACE "place" BYTE; // Layout.place_offset
+    STAMP_FIRST "stamp first" NUMBER; // Layout.stamp_first_offset
+    STAMP_SEQ "stamp seq" NUMBER; // Layout.stamp_seq_offset
+    WEIGHT "weight" BYTE; // Layout.weight_offset
 }
 
 /// A number of up to eight bytes, little-endian.
@@ -109,15 +109,15 @@ pub fn number(bytes: &[u8]) -> u64 {
 // ---- what stands in a row
 
 /// Places.
-pub const BY_USE: u8 = 0; // Records.byUse
+pub const BY_USE: u8 = 0; // Records.by_use
 pub const PARKED: u8 = 1; // Records.parked
 pub const PROBATION: u8 = 2; // Records.probation
 /// Sources.
-pub const VERIFIED: u8 = 0; // Records.verifiedSource
-pub const HINT: u8 = 1; // Records.hintSource
+pub const VERIFIED: u8 = 0; // Records.verified_source
+pub const HINT: u8 = 1; // Records.hint_source
 /// MTU marks.
-pub const NO_MTU: u8 = 0; // Records.noMtu
-pub const SOME_MTU: u8 = 1; // Records.someMtu
+pub const NO_MTU: u8 = 0; // Records.no_mtu
+pub const SOME_MTU: u8 = 1; // Records.some_mtu
 
 // ---- what calls take and answer
 
@@ -125,27 +125,27 @@ pub const SOME_MTU: u8 = 1; // Records.someMtu
 pub const UNCHARGED: u8 = 0; // Held.uncharged
 pub const UPTO: u8 = 1; // Held.upto
 /// The numbers of an answer.
-pub const VALUES: usize = 5; // Held.valueCount
+pub const VALUES: usize = 5; // Held.value_count
 /// What became of a hint.
 pub const INSERTED: u64 = 0; // Held.inserted
 pub const CHANGED: u64 = 1; // Held.changed
 pub const UNCHANGED: u64 = 2; // Held.unchanged
 pub const REJECTED: u64 = 3; // Held.rejected
 /// Where it stands.
-pub const IN_MAIN: u64 = 0; // Held.inMain
-pub const IN_PROBATION: u64 = 1; // Held.inProbation
+pub const IN_MAIN: u64 = 0; // Held.in_main
+pub const IN_PROBATION: u64 = 1; // Held.in_probation
 
 pub type Values = [u64; VALUES];
 
 /// Numbers of refusals. Where several hold, `NO_COMMAND` comes first, then `ROW_COUNT`, then the others from the least.
 pub mod refusal {
-    pub const NOT_SOUND: u8 = 1; // Held.notSound
-    pub const PATH_LENGTH: u8 = 2; // Held.pathLength
-    pub const SEQUENCE_USED_UP: u8 = 3; // Held.sequenceUsedUp
-    pub const NO_MAIN_ROW: u8 = 4; // Held.noMainRow
-    pub const ROW_COUNT: u8 = 5; // Held.rowCount
+    pub const NOT_SOUND: u8 = 1; // Held.not_sound
+    pub const PATH_LENGTH: u8 = 2; // Held.path_length
+    pub const SEQUENCE_USED_UP: u8 = 3; // Held.sequence_used_up
+    pub const NO_MAIN_ROW: u8 = 4; // Held.no_main_row
+    pub const ROW_COUNT: u8 = 5; // Held.row_count
     /// A command that is unknown or cut, or a funding kind over 1.
-    pub const NO_COMMAND: u8 = 6; // Held.noCommand
+    pub const NO_COMMAND: u8 = 6; // Held.no_command
 }
 
 // ---- the command stream
@@ -182,7 +182,7 @@ pub mod code {
     pub const STATS: u8 = 0x40; // Calls.Stats
     pub const NEXT_EXPIRY: u8 = 0x41; // Calls.NextExpiry
 
-    /// Each with the bytes of its operands. The widths of a code and their number are `Held.width` and `Held.codeCount`.
+    /// Each with the bytes of its operands. The widths of a code and their number are `Held.width` and `Held.code_count`.
     pub const ALL: [(u8, &[usize]); 19] = [
         (FRESH, &[SHORT, NUMBER]),
         (ELEMENT, &[ADDRESS, NUMBER, NUMBER]),
