@@ -4,21 +4,19 @@ use crate::cache::{Funding, HintOutcome, Segment};
 use std::collections::BTreeMap;
 use std::fmt::Write;
 
-const USES: &str = "use mathlib.Core.Path.{_≡_, refl}
-use mathlib.Core.List.{List, [], _∷_}
-use mathlib.Core.Bool.{true, false}
+const USES: &str = "use Rattle.std.specs.Prelude.{◌≡◌, refl, List, [], ◌∷◌, true, false}
 ";
 
-const CRATE: &str = "Rattle·tried·specs.specs";
+const CRATE: &str = "Rattle.tried.specs";
 
 /// The words of the prelude.
 const VALUES: &str = "Address, Element, address, element";
-const LISTS: &str = "Element, Row, Answer, asked, noMtu, mtu, verified, hint, byUse, parked, probation, entry, row, state, \
-    uncharged, upto, inserted, changed, unchanged, rejected, inMain, inProbation, \
-    insert, insertWithTtl, insertFunded, insertStated, insertVerified, insertVerifiedWithPathMtu, get, getAndTouch, remove, demote, \
-    clearPathMtu, purgeExpired, clear, invalidateViaNode, invalidateOtherRoots, stats, nextExpiry, \
-    refused, hinted, verifiedAt, found, notFound, took, tookNothing, held, done, removed, counts, soonest, noExpiry, \
-    calling, freshening, settingSeq, Seen, saw, put, new, cut, byRules, byRust, answerByRules, headByRules, rowsByRules, keysOf, fieldsOf, pathsOf";
+const LISTS: &str = "Element, Row, Answer, asked, no_mtu, mtu, verified, hint, by_use, parked, probation, entry, row, state, \
+    uncharged, upto, inserted, changed, unchanged, rejected, in_main, in_probation, \
+    insert, insert_with_ttl, insert_funded, insert_stated, insert_verified, insert_verified_with_path_mtu, get, get_and_touch, remove, demote, \
+    clear_path_mtu, purge_expired, clear, invalidate_via_node, invalidate_other_roots, stats, next_expiry, \
+    refused, hinted, verified_at, found, not_found, took, took_nothing, held, done, removed, counts, soonest, no_expiry, \
+    calling, freshening, setting_seq, Seen, saw, put, new, cut, by_rules, by_rust, answer_by_rules, head_by_rules, rows_by_rules, keys_of, fields_of, paths_of";
 
 /// Addresses and elements under names that all files share.
 pub struct Names {
@@ -105,7 +103,7 @@ impl<'a> Writer<'a> {
             e.created_at,
             e.last_used,
             e.expires_at,
-            e.path_mtu.map_or("noMtu".to_string(), |m| format!("(mtu {m})")),
+            e.path_mtu.map_or("no_mtu".to_string(), |m| format!("(mtu {m})")),
             if e.verified { "verified" } else { "hint" },
             e.verified_until
         )
@@ -113,7 +111,7 @@ impl<'a> Writer<'a> {
 
     fn row(&self, r: &Row) -> String {
         let place = match r.place {
-            Place::ByUse => "byUse",
+            Place::ByUse => "by_use",
             Place::Parked => "parked",
             Place::Probation => "probation",
         };
@@ -129,30 +127,30 @@ impl<'a> Writer<'a> {
         };
         let words = match call {
             Call::Fresh { max, ttl } => return format!("(freshening {max} {ttl})"),
-            Call::SetSeq { seq } => return format!("(settingSeq {seq})"),
+            Call::SetSeq { seq } => return format!("(setting_seq {seq})"),
             Call::Insert { key, path, time } => format!("insert {} {} {time}", k(key), p(path)),
-            Call::InsertWithTtl { key, path, time, ttl } => format!("insertWithTtl {} {} {time} {ttl}", k(key), p(path)),
+            Call::InsertWithTtl { key, path, time, ttl } => format!("insert_with_ttl {} {} {time} {ttl}", k(key), p(path)),
             Call::InsertFunded { key, path, time, funding } => {
-                format!("insertFunded {} {} {time} {}", k(key), p(path), f(funding))
+                format!("insert_funded {} {} {time} {}", k(key), p(path), f(funding))
             }
             Call::InsertStated { key, path, time, funding } => {
-                format!("insertStated {} {} {time} {}", k(key), p(path), f(funding))
+                format!("insert_stated {} {} {time} {}", k(key), p(path), f(funding))
             }
-            Call::InsertVerified { key, path, time } => format!("insertVerified {} {} {time}", k(key), p(path)),
+            Call::InsertVerified { key, path, time } => format!("insert_verified {} {} {time}", k(key), p(path)),
             Call::InsertVerifiedWithPathMtu { key, path, time, mtu } => {
-                format!("insertVerifiedWithPathMtu {} {} {time} {mtu}", k(key), p(path))
+                format!("insert_verified_with_path_mtu {} {} {time} {mtu}", k(key), p(path))
             }
             Call::Get { key, time } => format!("get {} {time}", k(key)),
-            Call::GetAndTouch { key, time } => format!("getAndTouch {} {time}", k(key)),
+            Call::GetAndTouch { key, time } => format!("get_and_touch {} {time}", k(key)),
             Call::Remove { key } => format!("remove {}", k(key)),
             Call::Demote { key } => format!("demote {}", k(key)),
-            Call::ClearPathMtu { key } => format!("clearPathMtu {}", k(key)),
-            Call::PurgeExpired { time } => format!("purgeExpired {time}"),
+            Call::ClearPathMtu { key } => format!("clear_path_mtu {}", k(key)),
+            Call::PurgeExpired { time } => format!("purge_expired {time}"),
             Call::Clear => "clear".to_string(),
-            Call::InvalidateViaNode { addr } => format!("invalidateViaNode {}", k(addr)),
-            Call::InvalidateOtherRoots { addr } => format!("invalidateOtherRoots {}", k(addr)),
+            Call::InvalidateViaNode { addr } => format!("invalidate_via_node {}", k(addr)),
+            Call::InvalidateOtherRoots { addr } => format!("invalidate_other_roots {}", k(addr)),
             Call::Stats { time } => format!("stats {time}"),
-            Call::NextExpiry => "nextExpiry".to_string(),
+            Call::NextExpiry => "next_expiry".to_string(),
         };
         format!("(calling ({words}))")
     }
@@ -168,21 +166,21 @@ impl<'a> Writer<'a> {
                     HintOutcome::Rejected => "rejected",
                 };
                 let segment = match placed.segment {
-                    Segment::Main => "inMain",
-                    Segment::Probation => "inProbation",
+                    Segment::Main => "in_main",
+                    Segment::Probation => "in_probation",
                 };
                 format!("hinted {outcome} {} {segment} {} {examined}", placed.added_weight, placed.unfunded)
             }
-            Answer::Verified { weight, examined } => format!("verifiedAt {weight} {examined}"),
-            Answer::Looked(None) => "notFound".to_string(),
+            Answer::Verified { weight, examined } => format!("verified_at {weight} {examined}"),
+            Answer::Looked(None) => "not_found".to_string(),
             Answer::Looked(Some(path)) => format!("found {}", self.path(path)),
-            Answer::Taken(None) => "tookNothing".to_string(),
+            Answer::Taken(None) => "took_nothing".to_string(),
             Answer::Taken(Some(e)) => format!("took {}", self.entry(e)),
             Answer::Held(b) => format!("held {b}"),
             Answer::Done => "done".to_string(),
             Answer::Removed(n) => format!("removed {n}"),
             Answer::Counts { entries, max, expired, mean, .. } => format!("counts {entries} {max} {expired} {mean}"),
-            Answer::Soonest(None) => "noExpiry".to_string(),
+            Answer::Soonest(None) => "no_expiry".to_string(),
             Answer::Soonest(Some(t)) => format!("soonest {t}"),
             Answer::Stopped => unreachable!("the run ended there"),
         };
@@ -246,7 +244,7 @@ impl<'a> Writer<'a> {
         let rows = self.list.rows;
         write!(
             out,
-            "    []\n\nlist{at} : byRules {rows} seen{at} ≡ byRust seen{at}\nunfolding byRules byRust\nlist{at} = refl\n"
+            "    []\n\nlist{at} : by_rules {rows} seen{at} ≡ by_rust seen{at}\nunfolding by_rules by_rust\nlist{at} = refl\n"
         )
         .unwrap();
     }
@@ -272,13 +270,13 @@ impl<'a> Writer<'a> {
             );
             let ours = |rule| format!("{rule} {} {before} {d}", self.list.rows);
             let mut say = |part: &str, ours: String, theirs: String, open: &str| {
-                write!(out, "\n{part}-{i} : {ours} ≡ {theirs}\nunfolding {open}\n{part}-{i} = refl\n").unwrap();
+                write!(out, "\n{part}_{i} : {ours} ≡ {theirs}\nunfolding {open}\n{part}_{i} = refl\n").unwrap();
             };
-            say("answer", ours("answerByRules"), self.answer(&made.answer), "answerByRules put new cut");
-            say("head", ours("headByRules"), head, "headByRules put new cut");
-            for (part, read) in [("keys", "keysOf"), ("fields", "fieldsOf"), ("paths", "pathsOf")] {
+            say("answer", ours("answer_by_rules"), self.answer(&made.answer), "answer_by_rules put new cut");
+            say("head", ours("head_by_rules"), head, "head_by_rules put new cut");
+            for (part, read) in [("keys", "keys_of"), ("fields", "fields_of"), ("paths", "paths_of")] {
                 let theirs = format!("{read} rows{i}");
-                say(part, format!("{read} ({})", ours("rowsByRules")), theirs, &format!("{read} rowsByRules put new cut"));
+                say(part, format!("{read} ({})", ours("rows_by_rules")), theirs, &format!("{read} rows_by_rules put new cut"));
             }
             rows = format!("rows{i}");
             before = format!("(state {} {} {} {} {rows})", h.max_entries, h.default_ttl_ms, h.seq, h.stored_weight);
