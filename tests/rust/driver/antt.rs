@@ -4,8 +4,7 @@ use crate::cache::{Funding, HintOutcome, Segment};
 use std::collections::BTreeMap;
 use std::fmt::Write;
 
-const USES: &str = "use Rattle.std.specs.Prelude.{◌≡◌, refl, List, [], ◌∷◌, true, false}
-";
+const USES: &str = "use Rattle.std.specs.Prelude.{◌≡◌, refl, List, [], ◌∷◌, true, false}\n";
 
 const CRATE: &str = "Rattle.tried.specs";
 
@@ -13,10 +12,12 @@ const CRATE: &str = "Rattle.tried.specs";
 const VALUES: &str = "Address, Element, address, element";
 const LISTS: &str = "Element, Row, Answer, asked, no_mtu, mtu, verified, hint, by_use, parked, probation, entry, row, state, \
     uncharged, upto, inserted, changed, unchanged, rejected, in_main, in_probation, \
-    insert, insert_with_ttl, insert_funded, insert_stated, insert_verified, insert_verified_with_path_mtu, get, get_and_touch, remove, demote, \
-    clear_path_mtu, purge_expired, clear, invalidate_via_node, invalidate_other_roots, stats, next_expiry, \
+    insert, insert_with_ttl, insert_funded, insert_stated, insert_verified, insert_verified_with_path_mtu, \
+    get, get_and_touch, remove, demote, clear_path_mtu, \
+    purge_expired, clear, invalidate_via_node, invalidate_other_roots, stats, next_expiry, \
     refused, hinted, verified_at, found, not_found, took, took_nothing, held, done, removed, counts, soonest, no_expiry, \
-    calling, freshening, setting_seq, Seen, saw, put, new, cut, by_rules, by_rust, answer_by_rules, head_by_rules, rows_by_rules, keys_of, fields_of, paths_of";
+    calling, freshening, setting_seq, Seen, saw, put, new, cut, by_rules, by_rust, \
+    answer_by_rules, head_by_rules, rows_by_rules, keys_of, fields_of, paths_of";
 
 /// Addresses and elements under names that all files share.
 pub struct Names {
