@@ -25,7 +25,7 @@ use boundary::tell;
 use raw::layout::{ADDRESS, ROW};
 use types::reply::refused;
 
-// 1 if the memory is a sound state, else 0.
+// 1 if the memory is a sound state, else 0. It is lent by `&`, so that what it is before and after is one value.
 #[unsafe(no_mangle)]
 pub extern "C" fn coord_cache_is_sound(state: &[u8]) -> u8
     ensures { (result ≡ bit (sound (capacity state.now) (view state.now))) × (state.now ≡ state.now) }

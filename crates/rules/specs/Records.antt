@@ -1,5 +1,5 @@
 -- Records of document 01: entry, row, head; their codes; the bounds.
--- Fields have 01's names, run together where 01 has an underscore.
+-- Fields have 01's names.
 use Rattle.std.specs.Prelude.{ℕ, ◌*◌, ◌-◌, ◌/◌, max, List, cond, eqb}
 use Rattle.types.specs.declared.node_addr.NodeAddr.{NodeAddr}
 use Rattle.types.specs.declared.coord.Path.{Path}
