@@ -91,7 +91,7 @@ def declared(text):
     names, fields = {}, {}
     lines = text.split("\n")
     for at, line in enumerate(lines):
-        m = re.match(r"(?:pub )?record ([^\s:(){}]+)", line) or re.match(r"pub record ([^\s:(){}]+)", line)
+        m = re.match(r"(?:pub )?record ([^\s:(){}]+)", line)
         if m:
             for inner in lines[at + 1 :]:
                 if inner and not inner.startswith(" "):
@@ -173,7 +173,7 @@ def main():
         turn = {n: new_name(n) for n in own if n in facts and new_name(n) != n}
         fresh = set(turn.values())
         is_rt = p.endswith(".rt")
-        out, seen = [], set()
+        out = []
         tokens = TOKEN.findall(t)
         for i, tok in enumerate(tokens):
             if tok.startswith(("--", "//", '"', "«")):
@@ -183,7 +183,6 @@ def main():
                 out.append(tok)
                 continue
             before = tokens[i - 1] if i else ""
-            after = "".join(tokens[i + 1 : i + 4])
             if before == ".":
                 line = "".join(tokens[max(0, i - 60) : i]).rsplit("\n", 1)[-1]
                 qualifier = tokens[i - 2] if i > 1 else ""
@@ -198,7 +197,6 @@ def main():
                 out.append(new_fields.get(tok, snake(tok)))
                 continue
             if tok in turn:
-                seen.add(tok)
                 out.append(turn[tok])
                 continue
             if tok in fresh and not tok.isspace():

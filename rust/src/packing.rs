@@ -1,5 +1,5 @@
-//! Where fields stand in the memory (docs/PACKING.md), how wide it and they are, the limits, and the numbers that cross to the library:
-//! those that this crate uses. tests/numbers holds every number here to the definitions of `crates/`, and with `--write` writes them.
+//! Where the fields stand in the memory (docs/PACKING.md), how wide they are, the limits, and the numbers that cross to the library.
+//! What is derived is written so; tests/numbers holds every number here to the definitions of `crates/`.
 
 /// The most rows of a cache.
 pub const MAX_ROWS: usize = 1024;
@@ -25,37 +25,46 @@ pub const PROBATION_SHARE_DIVISOR: usize = 32;
 pub const VERIFIED_TTL_MS: u64 = 300_000;
 
 /// The largest `max_entries` that [`MAX_ROWS`] are enough for.
-pub(crate) const MOST_ENTRIES: usize = 993;
+pub(crate) const MOST_ENTRIES: usize = MAX_ROWS - MAX_ROWS / (PROBATION_SHARE_DIVISOR + 1);
 
-// ---- widths, in bytes
+// ---- widths, in bytes: a mark, code or length; an MTU; a number; an address
 
+const BYTE: usize = 1;
+const SHORT: usize = 2;
+const NUMBER: usize = 8;
 pub(crate) const ADDRESS: usize = 16;
-pub(crate) const ELEMENT: usize = 32;
-pub(crate) const HEAD: usize = 40;
-pub(crate) const ROW: usize = 1095;
 
-// ---- where fields begin: of the head
+// ---- the head
 
 pub(crate) const MAX_ENTRIES: usize = 0;
-pub(crate) const DEFAULT_TTL_MS: usize = 8;
-pub(crate) const ROW_COUNT: usize = 32;
+pub(crate) const DEFAULT_TTL_MS: usize = MAX_ENTRIES + NUMBER;
+const SEQ: usize = DEFAULT_TTL_MS + NUMBER;
+const STORED_WEIGHT: usize = SEQ + NUMBER;
+pub(crate) const ROW_COUNT: usize = STORED_WEIGHT + NUMBER;
+pub(crate) const HEAD: usize = ROW_COUNT + NUMBER;
 
-// ---- of a path element
+// ---- a path element
 
-pub(crate) const SEQUENCE: usize = 16;
-pub(crate) const TIMESTAMP: usize = 24;
+pub(crate) const SEQUENCE: usize = ADDRESS;
+pub(crate) const TIMESTAMP: usize = SEQUENCE + NUMBER;
+pub(crate) const ELEMENT: usize = TIMESTAMP + NUMBER;
 
-// ---- of a row
+// ---- a row
 
-pub(crate) const PATH_LENGTH: usize = 16;
-pub(crate) const PATH_PLACES: usize = 17;
-pub(crate) const CREATED_AT: usize = 1041;
-pub(crate) const LAST_USED: usize = 1049;
-pub(crate) const EXPIRES_AT: usize = 1057;
-pub(crate) const MTU_MARK: usize = 1065;
-pub(crate) const MTU_VALUE: usize = 1066;
-pub(crate) const SOURCE: usize = 1068;
-pub(crate) const VERIFIED_UNTIL: usize = 1069;
+pub(crate) const PATH_LENGTH: usize = ADDRESS;
+pub(crate) const PATH_PLACES: usize = PATH_LENGTH + BYTE;
+pub(crate) const CREATED_AT: usize = PATH_PLACES + MAX_PATH * ELEMENT;
+pub(crate) const LAST_USED: usize = CREATED_AT + NUMBER;
+pub(crate) const EXPIRES_AT: usize = LAST_USED + NUMBER;
+pub(crate) const MTU_MARK: usize = EXPIRES_AT + NUMBER;
+pub(crate) const MTU_VALUE: usize = MTU_MARK + BYTE;
+pub(crate) const SOURCE: usize = MTU_VALUE + SHORT;
+pub(crate) const VERIFIED_UNTIL: usize = SOURCE + BYTE;
+const PLACE: usize = VERIFIED_UNTIL + NUMBER;
+const STAMP_FIRST: usize = PLACE + BYTE;
+const STAMP_SEQ: usize = STAMP_FIRST + NUMBER;
+const WEIGHT: usize = STAMP_SEQ + NUMBER;
+pub(crate) const ROW: usize = WEIGHT + BYTE;
 
 // ---- what stands in a row
 
