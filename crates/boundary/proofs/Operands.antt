@@ -3,7 +3,7 @@ use mathlib.Core.Path.{◌≡◌, sym, ap, ◌∙◌, subst}
 use Prim.Native.Nat.{ℕ, zero, suc, ◌+◌, ◌*◌, ◌-◌, ◌/◌, ◌≤◌, ◌<◌, min}
 use native.Mathlib.Omega.{arith}
 use mathlib.Core.List.{List, ◌++◌}
-use mathlib.Core.Option.{Option, none, some}
+use Rattle.std.specs.Prelude.{Option, None, Some, Result, Ok, Err}
 use mathlib.Core.Bool.{true, false}
 use lib.ListN.{length, take, drop, get_or, set, replicate, length-set}
 use lib.Seq.{take_all}
@@ -15,8 +15,6 @@ use Rattle.rules.specs.Rows.{find}
 use Rattle.rules.specs.Sound.{sound}
 use Rattle.rules.specs.Memory.{coord_entries_of, coord_entry_of, cut, capacity, view, view_rows}
 use Rattle.rules.proofs.Public.{sound_memory}
-use Rattle.search.specs.declared.outcome.Search.{Search}
-use Rattle.search.specs.declared.outcome.Search.TheVariants.{At, Absent}
 use Rattle.search.specs.ByKey.{searched}
 use Rattle.refusals.proofs.SoundCalls.{found_inside, found, missing}
 use Rattle.rules.specs.Layout.{coord_entry_size, head_size, row_size}
@@ -65,25 +63,25 @@ path_made {bs} {n} {held} {k} {entries} i e h g =
 -- ---- the row of a key
 
 -- the key was searched for among the n rows of a sound memory
-pub record Searched (k : NodeAddr) (n : ℕ) (r : Search) (l : List ℕ) : Type 0 where
+pub record Searched (k : NodeAddr) (n : ℕ) (r : Result ℕ ℕ) (l : List ℕ) : Type 0 where
   pub sound : sound (capacity l) (view l) ≡ true
   pub counted : n ≡ (view_rows 0 l).row_count
   pub result : r ≡ searched k (view_rows n l).rows
 
-module _ {k : NodeAddr} {n : ℕ} {r : Search} {l : List ℕ} (s : Searched k n r l) (i : ℕ) where
+module _ {k : NodeAddr} {n : ℕ} {r : Result ℕ ℕ} {l : List ℕ} (s : Searched k n r l) (i : ℕ) where
   same_rows : (o : Option ℕ) → find k (view_rows n l).rows ≡ o → find k (view l).rows ≡ o
   same_rows o f = subst (λ (x : State). find k x.rows ≡ o) (sound_memory l n s.sound s.counted).same f
 
-  pub row_inside : r ≡ At i → (i < n) × (head_size + n * row_size ≤ length l)
+  pub row_inside : r ≡ Ok i → (i < n) × (head_size + n * row_size ≤ length l)
   row_inside e = found_inside l n k i r s.sound s.counted s.result e
 
-  pub row_taken_lem : (buffer : List ℕ) → r ≡ At i → cut (head_size + i * row_size) row_size l ≡ row_taken k l buffer
+  pub row_taken_lem : (buffer : List ℕ) → r ≡ Ok i → cut (head_size + i * row_size) row_size l ≡ row_taken k l buffer
   unfolding row_taken row_held
-  row_taken_lem buffer e = rw (s.sound, same_rows (some i) (found k (view_rows n l).rows i r s.result e))
+  row_taken_lem buffer e = rw (s.sound, same_rows (Some i) (found k (view_rows n l).rows i r s.result e))
 
-  pub row_left : (buffer : List ℕ) → r ≡ Absent i → buffer ≡ row_taken k l buffer
+  pub row_left : (buffer : List ℕ) → r ≡ Err i → buffer ≡ row_taken k l buffer
   unfolding row_taken row_held
-  row_left buffer e = rw (s.sound, same_rows none (missing k (view_rows n l).rows i r s.result e))
+  row_left buffer e = rw (s.sound, same_rows None (missing k (view_rows n l).rows i r s.result e))
 
 -- on a memory that is not sound nothing is taken out
 pub none_taken : (l : List ℕ) (k : NodeAddr) (buffer : List ℕ) → sound (capacity l) (view l) ≡ false → buffer ≡ row_taken k l buffer

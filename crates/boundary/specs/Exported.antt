@@ -1,7 +1,6 @@
 -- What crosses the boundary to another language: addresses and paths as bytes, a funding as two numbers, a reply as a number and
 -- five values, a stored path as its place in the memory, a removed row as its bytes.
-use Rattle.std.specs.Prelude.{ℕ, ◌+◌, ◌*◌, ◌-◌, ◌/◌, min, ◌≡◌, List, ◌++◌, cond, eqb, length, replicate}
-use Rattle.std.proofs.Math.Option.{Option, none, some}
+use Rattle.std.specs.Prelude.{ℕ, ◌+◌, ◌*◌, ◌-◌, ◌/◌, min, ◌≡◌, List, ◌++◌, cond, eqb, length, replicate, Option, None, Some}
 use Rattle.types.specs.declared.node_addr.NodeAddr.{NodeAddr}
 use Rattle.types.specs.declared.coord.Path.{Path}
 use Rattle.types.specs.Paths.{path_places, zero_entry}
@@ -29,7 +28,7 @@ path_from bs =
 
 -- kind 0 Uncharged, 1 Upto the amount; a kind over 1 names none
 unfoldable pub funding_from : ℕ → ℕ → Option Funding
-funding_from kind amount = cond (eqb kind 0) (some Uncharged) (cond (eqb kind 1) (some (Upto amount)) none)
+funding_from kind amount = cond (eqb kind 0) (Some Uncharged) (cond (eqb kind 1) (Some (Upto amount)) None)
 
 -- a call with such a funding: number 6 comes before any other, and leaves the memory
 unfoldable pub funded : List ℕ → ℕ → ℕ → (Funding → Call) → Lent
@@ -46,7 +45,7 @@ PartAt at m part = cut at (length part) m ≡ part
 
 -- the row of a key in a sound memory
 unfoldable pub row_held : NodeAddr → List ℕ → Option ℕ
-row_held k l = cond (sound (capacity l) (view l)) (find k (view l).rows) none
+row_held k l = cond (sound (capacity l) (view l)) (find k (view l).rows) None
 
 -- the bytes of the row that remove takes out; what stood in the buffer stays where it takes out none
 unfoldable pub row_taken : NodeAddr → List ℕ → List ℕ → List ℕ

@@ -1,15 +1,13 @@
 // Operands as they come from another language, and replies as they go there.
 #![tactic(auto)]
 
-ghost use Rattle.std.specs.Prelude.{◌≡◌, min, true, ◌≤◌};
-ghost use Rattle.std.proofs.Math.Option.{some};
+ghost use Rattle.std.specs.Prelude.{◌≡◌, min, true, ◌≤◌, Some};
 ghost use Rattle.rules.specs.Sound.{sound};
 ghost use Rattle.rules.specs.Memory.{capacity, view};
 ghost use Rattle.rules.specs.Lent.{AddrFits};
 ghost use Rattle.boundary.specs.Exported.{address_from, path_from, funding_from, row_taken};
 
 use raw::layout::{ADDRESS, ELEMENT, ROW};
-use search::outcome::Search;
 use types::coord::{PLACES, Path, zero_entry};
 use types::node_addr::NodeAddr;
 use types::placed::Funding;
@@ -62,7 +60,7 @@ pub fn tell(reply: Reply, values: &mut [u64; 5]) -> u8
 // Kind 0 Uncharged, 1 Upto.
 pub fn funding(kind: u8, amount: u64) -> Funding
     requires { kind ≤ 1 }
-    ensures { funding_from kind amount ≡ some result }
+    ensures { funding_from kind amount ≡ Some result }
 {
     if kind == 0 {
         Funding::Uncharged
@@ -79,9 +77,9 @@ pub fn take_row(state: &[u8], key: NodeAddr, row: &mut [u8; ROW])
     let n = memory::head::row_count(state) as usize;
     let at = search::keys::search(state, n, key);
     match at {
-        Search::At(i) => {
+        Ok(i) => {
             *row = rows::saved::save_row(state, n, i);
         }
-        Search::Absent(_) => {}
+        Err(_) => {}
     }
 }

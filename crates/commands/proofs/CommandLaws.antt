@@ -3,7 +3,7 @@ use mathlib.Core.Path.{◌≡◌, refl, sym, ◌∙◌, ap}
 use Prim.Native.Nat.{ℕ, ◌+◌, ◌-◌, ◌≤◌, ◌<◌}
 use native.Mathlib.Omega.{arith}
 use mathlib.Core.List.{List}
-use mathlib.Core.Option.{none, some}
+use Rattle.std.specs.Prelude.{None, Some}
 use mathlib.Core.Bool.{Bool, true, false, ◌||◌}
 use lib.Dec.{eqb}
 use lib.ListN.{length, get_or, drop, length-drop}
@@ -68,7 +68,7 @@ as_bare_code bs e a = rw e (a.bare bs)
 
 -- ---- number 6
 
-six : (l : List ℕ) (k : Sender) (b : ℕ) (bs : List ℕ) {f : Bool} {q : Sender} {r : AfterCommand} → f ≡ sound (capacity l) (view l) → decode b bs ≡ none
+six : (l : List ℕ) (k : Sender) (b : ℕ) (bs : List ℕ) {f : Bool} {q : Sender} {r : AfterCommand} → f ≡ sound (capacity l) (view l) → decode b bs ≡ None
     → q ≡ after_six b k → r ≡ refused_by 6 f q → Answers (obey_byte (session l k) b bs) r l
 unfolding obey_byte refused_six
 six l k b bs e n q h =
@@ -80,13 +80,13 @@ pub as_unknown : (l : List ℕ) (k : Sender) (b : ℕ) (bs : List ℕ) {f : Bool
 unfolding after_six
 as_unknown l k b bs e w n h = let u = unknown_code codes b n in six l k b bs e (unknown_none codes b bs u) (rw (no_path b w u)) h
 
-module _ {b : ℕ} {l : List ℕ} {f : Bool} {k : Sender} {i : List ℕ} {at : ℕ} (g : Given b l f k i at) {c : Code} (n : code_of b codes ≡ some c) {q : Sender} {r : AfterCommand} where
+module _ {b : ℕ} {l : List ℕ} {f : Bool} {k : Sender} {i : List ℕ} {at : ℕ} (g : Given b l f k i at) {c : Code} (n : code_of b codes ≡ Some c) {q : Sender} {r : AfterCommand} where
   -- CUT
   pub cut_six : length i - at < c.width → q ≡ after_six b k → r ≡ refused_by 6 f q → Answers (obey_byte (session l k) b (drop at i)) r l
   cut_six h = six l k b (drop at i) g.sounds (cut_none codes b (drop at i) c n (rw (length-drop at i) h))
 
   -- of a funding kind over 1
-  pub bad_kind : c.width ≤ length i - at → reads c (cut at c.width i) ≡ none
+  pub bad_kind : c.width ≤ length i - at → reads c (cut at c.width i) ≡ None
       → q ≡ after_six b k → r ≡ refused_by 6 f q → Answers (obey_byte (session l k) b (drop at i)) r l
   bad_kind h e = six l k b (drop at i) g.sounds (bad_none codes b (drop at i) c n (rw (length-drop at i) h) e)
 
@@ -122,8 +122,8 @@ pub called_bare : {b : ℕ} {bs : List ℕ} {x : Command} {k : Sender} {q : Call
     → Called b l f k bs q k'
 called_bare {k = k} l r m t y e = record { obeyed = obeyed_is (session l k) r ∙ makes_obeyed l m; typed = t; memory = y; sounds = e }
 
-pub called : {b : ℕ} {l : List ℕ} {f : Bool} {k : Sender} {i : List ℕ} {at : ℕ} → Given b l f k i at → {c : Code} → code_of b codes ≡ some c → c.width ≤ length i - at
-    → {x : Command} → reads c (cut at c.width i) ≡ some x → {q : Call} {k' : Sender} → Makes k x q k' → Called b l f k (drop at i) q k'
+pub called : {b : ℕ} {l : List ℕ} {f : Bool} {k : Sender} {i : List ℕ} {at : ℕ} → Given b l f k i at → {c : Code} → code_of b codes ≡ Some c → c.width ≤ length i - at
+    → {x : Command} → reads c (cut at c.width i) ≡ Some x → {q : Call} {k' : Sender} → Makes k x q k' → Called b l f k (drop at i) q k'
 called {b = b} {l = l} {k = k} {i = i} {at = at} g {c = c} n h {x = x} e m =
     let r : Reads codes b (drop at i) x = record { code = c; known = n; there = rw (length-drop at i) h; says = e } in
     called_bare l r m (makes_typed m (command_fits k r (bytes_drop at i g.input) g.sender)) g.memory g.sounds

@@ -3,7 +3,7 @@ use mathlib.Core.Path.{◌≡◌, refl, ap}
 use Prim.Native.Nat.{ℕ, zero, suc, ◌≤◌, ◌<◌}
 use native.Mathlib.Omega.{arith}
 use mathlib.Core.List.{List}
-use mathlib.Core.Option.{none, some}
+use Rattle.std.specs.Prelude.{None, Some}
 use mathlib.Core.Bool.{cond}
 use lib.Dec.{eqb}
 use borrow.Author.Tests.{ne_eqb}
@@ -15,19 +15,19 @@ use Rattle.rules.specs.Commands.{WithPath, funded, kind_in, amount_in}
 use Rattle.commands.specs.OnMemory.{funding_in}
 
 -- a kind over 1
-pub funded_bad : (o : List ℕ) (f : Funding → Sender → Call) → 1 < kind_in o → funded o f ≡ none
+pub funded_bad : (o : List ℕ) (f : Funding → Sender → Call) → 1 < kind_in o → funded o f ≡ None
 unfolding funded
 funded_bad o f h =
     let k = kind_in o in
     rw (ne_eqb k 0 (λ e. let z : ⊥ = omega arith in z), ne_eqb k 1 (λ e. let z : ⊥ = omega arith in z))
 
 -- a legal one
-pub funded_legal : (o : List ℕ) (f : Funding → Sender → Call) → kind_in o ≤ 1 → funded o f ≡ some (WithPath (f (funding_in o)))
+pub funded_legal : (o : List ℕ) (f : Funding → Sender → Call) → kind_in o ≤ 1 → funded o f ≡ Some (WithPath (f (funding_in o)))
 unfolding funded funding_in
 funded_legal o f h = go (kind_in o) h
   where
-    go : (k : ℕ) → k ≤ 1 → cond (eqb k 0) (some (WithPath (f Uncharged))) (cond (eqb k 1) (some (WithPath (f (Upto (amount_in o))))) none)
-        ≡ some (WithPath (f (cond (eqb k 0) Uncharged (Upto (amount_in o)))))
+    go : (k : ℕ) → k ≤ 1 → cond (eqb k 0) (Some (WithPath (f Uncharged))) (cond (eqb k 1) (Some (WithPath (f (Upto (amount_in o))))) None)
+        ≡ Some (WithPath (f (cond (eqb k 0) Uncharged (Upto (amount_in o)))))
     go zero h = refl
     go (suc zero) h = refl
     go (suc (suc k)) h = absurd (let z : ⊥ = omega arith in z)

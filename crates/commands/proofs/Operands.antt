@@ -3,7 +3,7 @@ use mathlib.Core.Path.{◌≡◌, sym, ◌∙◌, ap}
 use Prim.Native.Nat.{ℕ, ◌+◌, ◌≤◌, ◌<◌}
 use native.Mathlib.Omega.{arith}
 use mathlib.Core.List.{List}
-use mathlib.Core.Option.{none, some}
+use Rattle.std.specs.Prelude.{None, Some}
 use lib.ListN.{length, take, drop}
 use borrow.Author.Tests.{le-leb, lt-leb}
 use Rattle.types.specs.declared.node_addr.NodeAddr.{NodeAddr}
@@ -39,20 +39,20 @@ module _ {k : NodeAddr} {t : ℕ} (at w : ℕ) (l : List ℕ) (h : key_time_size
 
 -- ---- what a table of codes reads
 
-pub decoded : {cs : List Code} {b : ℕ} {bs : List ℕ} {x : Command} (r : Reads cs b bs x) → decode_in cs b bs ≡ some (record { command = x; left = drop r.code.width bs })
+pub decoded : {cs : List Code} {b : ℕ} {bs : List ℕ} {x : Command} (r : Reads cs b bs x) → decode_in cs b bs ≡ Some (record { command = x; left = drop r.code.width bs })
 unfolding decode_in
 decoded {bs = bs} r = rw (r.known, le-leb r.code.width (length bs) r.there, r.says)
 
 -- unknown, cut, or what the operands say is no command
-pub unknown_none : (cs : List Code) (b : ℕ) (bs : List ℕ) → code_of b cs ≡ none → decode_in cs b bs ≡ none
+pub unknown_none : (cs : List Code) (b : ℕ) (bs : List ℕ) → code_of b cs ≡ None → decode_in cs b bs ≡ None
 unfolding decode_in
 unknown_none cs b bs e = rw e
 
-module _ (cs : List Code) (b : ℕ) (bs : List ℕ) (c : Code) (k : code_of b cs ≡ some c) where
-  pub cut_none : length bs < c.width → decode_in cs b bs ≡ none
+module _ (cs : List Code) (b : ℕ) (bs : List ℕ) (c : Code) (k : code_of b cs ≡ Some c) where
+  pub cut_none : length bs < c.width → decode_in cs b bs ≡ None
   unfolding decode_in
   cut_none h = rw (k, lt-leb c.width (length bs) h)
 
-  pub bad_none : c.width ≤ length bs → reads c (take c.width bs) ≡ none → decode_in cs b bs ≡ none
+  pub bad_none : c.width ≤ length bs → reads c (take c.width bs) ≡ None → decode_in cs b bs ≡ None
   unfolding decode_in
   bad_none h e = rw (k, le-leb c.width (length bs) h, e)

@@ -3,7 +3,7 @@ use mathlib.Core.Path.{◌≡◌, refl, sym}
 use Prim.Native.Nat.{ℕ, zero, suc, ◌<◌}
 use native.Mathlib.Omega.{arith}
 use mathlib.Core.List.{List, [], ◌∷◌}
-use mathlib.Core.Option.{none, some}
+use Rattle.std.specs.Prelude.{None, Some}
 use mathlib.Core.Bool.{Bool, true, false, not, ◌&&◌}
 use lib.Dec.{ltb}
 use borrow.Author.Tests.{ne_eqb, ltb-true, ltb-false, not-true}
@@ -17,7 +17,7 @@ abbrev pub NoneOf : ℕ → Type 0 → List Code → Type 0
 NoneOf b T [] = T
 NoneOf b T (c ∷ cs) = NoneOf b (T × (b ≡ c.byte → ⊥)) cs
 
-none_of : (b : ℕ) (T : Type 0) (cs : List Code) → NoneOf b T cs → T × (code_of b cs ≡ none)
+none_of : (b : ℕ) (T : Type 0) (cs : List Code) → NoneOf b T cs → T × (code_of b cs ≡ None)
 unfolding code_of
 none_of b T [] n = (n, refl)
 none_of b T (c ∷ cs) n =
@@ -25,15 +25,15 @@ none_of b T (c ∷ cs) n =
     (k.0.0, rw (ne_eqb b c.byte k.0.1) k.1)
 
 -- past all of a table
-pub unknown_code : (cs : List Code) (b : ℕ) → NoneOf b (Unit {0}) cs → code_of b cs ≡ none
+pub unknown_code : (cs : List Code) (b : ℕ) → NoneOf b (Unit {0}) cs → code_of b cs ≡ None
 unknown_code cs b n = (none_of b (Unit {0}) cs n).1
 
 -- ---- the width that a match tells: of a code k, of none
 
-pub known_width : (b : ℕ) {k w : ℕ} → b ≡ k → width_of k ≡ some w → some w ≡ width_of b
+pub known_width : (b : ℕ) {k w : ℕ} → b ≡ k → width_of k ≡ Some w → Some w ≡ width_of b
 known_width b e h = rw e (sym h)
 
-pub no_width : (b : ℕ) → NoneOf b (Unit {0}) codes → none ≡ width_of b
+pub no_width : (b : ℕ) → NoneOf b (Unit {0}) codes → None ≡ width_of b
 unfolding width_in
 no_width b n = rw (unknown_code codes b n)
 
@@ -56,6 +56,6 @@ below (suc n) f t b h = and_case (f n) (all_below n f) t (λ x y. go x (λ k. be
 known_or_plain : ℕ → Bool
 known_or_plain b = maybe (code_of b codes) (not (takes_path b)) (λ c. true)
 
-pub no_path : (b : ℕ) → b < 256 → code_of b codes ≡ none → takes_path b ≡ false
+pub no_path : (b : ℕ) → b < 256 → code_of b codes ≡ None → takes_path b ≡ false
 unfolding all_below known_or_plain takes_path code_of codes code
 no_path b h e = not-true (takes_path b) (rw e at (below 256 known_or_plain refl b h))

@@ -1,6 +1,5 @@
 -- The width of a command's operands.
-use Rattle.std.specs.Prelude.{ℕ, List}
-use Rattle.std.proofs.Math.Option.{Option, none, some}
+use Rattle.std.specs.Prelude.{ℕ, List, Option, None, Some}
 use Rattle.rules.specs.Cases.{maybe}
 use Rattle.rules.specs.Commands.{Code, codes, code_of}
 use Rattle.commands.specs.declared.command.Width.{Width}
@@ -8,11 +7,11 @@ use Rattle.commands.specs.declared.command.Width.TheVariants.{Bytes, Unknown}
 
 -- by a table of codes; none for an unknown code
 unfoldable pub width_in : List Code → ℕ → Option ℕ
-width_in cs b = maybe (code_of b cs) none (λ c. some c.width)
+width_in cs b = maybe (code_of b cs) None (λ c. Some c.width)
 
 abbrev pub width_of : ℕ → Option ℕ
 width_of b = width_in codes b
 
 unfoldable pub width_is : Width → Option ℕ
-width_is (Bytes n) = some n
-width_is Unknown = none
+width_is (Bytes n) = Some n
+width_is Unknown = None

@@ -2,7 +2,7 @@
 use mathlib.Core.Path.{◌≡◌, refl, sym, ap, ◌∙◌, subst}
 use Prim.Native.Nat.{ℕ}
 use mathlib.Core.List.{List}
-use mathlib.Core.Option.{some}
+use Rattle.std.specs.Prelude.{Some}
 use mathlib.Core.Bool.{Bool, true, false}
 use mir.Val.{bool_byte}
 use Rattle.types.specs.declared.node_addr.NodeAddr.{NodeAddr}
@@ -37,7 +37,7 @@ module _ {r : Reply} {n : ℕ} {vs : List ℕ} (a : n ≡ r.refusal) (b : vs ≡
 
 -- the call was made with the funding that the kind names
 pub told_funded : (l : List ℕ) (kind amount : ℕ) (f : Funding → Call) {q : Call} {y : Funding} {x : Answer} {r : Reply} {n : ℕ} {vs m : List ℕ}
-    → funding_from kind amount ≡ some y → r ≡ reply x → n ≡ r.refusal → vs ≡ r.values → x ≡ (call l q).answer → m ≡ (call l q).memory → q ≡ f y
+    → funding_from kind amount ≡ Some y → r ≡ reply x → n ≡ r.refusal → vs ≡ r.values → x ≡ (call l q).answer → m ≡ (call l q).memory → q ≡ f y
     → Told (funded l kind amount f) n vs m
 unfolding funded
 told_funded l kind amount f w e a b d k g = rw w (told_call a b l e d k g)

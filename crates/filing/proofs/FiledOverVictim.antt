@@ -2,7 +2,7 @@
 use mathlib.Core.Path.{◌≡◌, refl, sym, ap, ◌∙◌}
 use mathlib.Core.Bool.{Bool, true, false, cond}
 use mathlib.Core.List.{List, [], ◌∷◌}
-use mathlib.Core.Option.{none, some}
+use Rattle.std.specs.Prelude.{None, Some, Err}
 use Prim.Native.Nat.{ℕ, zero, suc, ◌+◌, ◌*◌, ◌-◌, ◌≤◌, ◌<◌}
 use native.Mathlib.Omega.{arith}
 use lib.Dec.{ltb}
@@ -19,7 +19,6 @@ use Rattle.rules.proofs.Addresses.{before_trans, contradiction}
 use Rattle.rules.proofs.RowLists.{by_cond, next_none, total_without, rising_without}
 use Rattle.rules.proofs.SoundTest.{ascends_ok, ascends_test}
 use Rattle.rules.specs.Layout.{row_size}
-use Rattle.search.specs.declared.outcome.Search.TheVariants.{Absent}
 use Rattle.search.specs.ByKey.{rows_before, searched}
 use Rattle.search.proofs.RisingRows.{first_before, rest_ascends}
 use Rattle.search.proofs.SearchLaws.{absent_inside, absent_none, none_searched}
@@ -55,38 +54,38 @@ not_counted k (r ∷ rs) (suc i) a h e =
     let c = not_counted k rs i (rest_ascends r rs a) (omega arith) e in
     by_cond (λ u. u + rows_before k rs ≤ suc i) (addr_before r.key k) (λ _. omega arith) (λ _. omega arith)
 
-none_cons : (k : NodeAddr) (r : Row) (rs : List Row) → find k (r ∷ rs) ≡ none → (same_addr k r.key ≡ false) × (find k rs ≡ none)
+none_cons : (k : NodeAddr) (r : Row) (rs : List Row) → find k (r ∷ rs) ≡ None → (same_addr k r.key ≡ false) × (find k rs ≡ None)
 unfolding find
 none_cons k r rs h = go (same_addr k r.key) refl
   where
-    go : (b : Bool) → same_addr k r.key ≡ b → (same_addr k r.key ≡ false) × (find k rs ≡ none)
-    go true e = contradiction {b = true} refl (let z : some 0 ≡ none = simp e at h in cc)
+    go : (b : Bool) → same_addr k r.key ≡ b → (same_addr k r.key ≡ false) × (find k rs ≡ None)
+    go true e = contradiction {b = true} refl (let z : Some 0 ≡ None = simp e at h in cc)
     go false e = (e, next_none (find k rs) (simp e at h))
 
-none_without : (k : NodeAddr) (i : ℕ) (rs : List Row) → find k rs ≡ none → find k (without_row i rs) ≡ none
+none_without : (k : NodeAddr) (i : ℕ) (rs : List Row) → find k rs ≡ None → find k (without_row i rs) ≡ None
 unfolding find next_index without_row
 none_without k i [] h = refl
 none_without k zero (r ∷ rs) h = (none_cons k r rs h).1
 none_without k (suc i) (r ∷ rs) h = let p = none_cons k r rs h in rw (p.0, none_without k i rs p.1)
 
-module _ (k : NodeAddr) (rs : List Row) (i p : ℕ) (a : ascends rs ≡ true) (l : i < length rs) (h : searched k rs ≡ Absent p) where
+module _ (k : NodeAddr) (rs : List Row) (i p : ℕ) (a : ascends rs ≡ true) (l : i < length rs) (h : searched k rs ≡ Err p) where
   all_counted : rows_before k rs ≡ p
   all_counted = let z = sym (none_searched k rs (absent_none k rs p h)) ∙ h in cc
 
   count_without : rows_before k (without_row i rs) + cond (addr_before (row_at i rs).key k) 1 0 ≡ p
   count_without = total_without (λ (r : Row). cond (addr_before r.key k) 1 0) i rs l ∙ all_counted
 
-  absent_at : (j : ℕ) → rows_before k (without_row i rs) ≡ j → searched k (without_row i rs) ≡ Absent j
-  absent_at j e = none_searched k (without_row i rs) (none_without k i rs (absent_none k rs p h)) ∙ ap Absent e
+  absent_at : (j : ℕ) → rows_before k (without_row i rs) ≡ j → searched k (without_row i rs) ≡ Err j
+  absent_at j e = none_searched k (without_row i rs) (none_without k i rs (absent_none k rs p h)) ∙ ap Err e
 
-  pub absent_behind : i < p → searched k (without_row i rs) ≡ Absent (p - 1)
+  pub absent_behind : i < p → searched k (without_row i rs) ≡ Err (p - 1)
   absent_behind g = absent_at (p - 1) (go (addr_before (row_at i rs).key k) refl)
     where
       go : (b : Bool) → addr_before (row_at i rs).key k ≡ b → rows_before k (without_row i rs) ≡ p - 1
       go true e = omega (arith, rw e at count_without)
       go false e = omega (arith, not_counted k rs i a l e, all_counted)
 
-  pub absent_before : p ≤ i → searched k (without_row i rs) ≡ Absent p
+  pub absent_before : p ≤ i → searched k (without_row i rs) ≡ Err p
   absent_before g = absent_at p (go (addr_before (row_at i rs).key k) refl)
     where
       go : (b : Bool) → addr_before (row_at i rs).key k ≡ b → rows_before k (without_row i rs) ≡ p
@@ -94,7 +93,7 @@ module _ (k : NodeAddr) (rs : List Row) (i p : ℕ) (a : ascends rs ≡ true) (l
       go false e = omega (arith, rw e at count_without)
 
 -- it is among the rows
-pub place_without : {k : NodeAddr} {n i c j : ℕ} {l : List ℕ} → Over k n i c l → searched k (without_row i (view_rows n l).rows) ≡ Absent j → j < n
+pub place_without : {k : NodeAddr} {n i c j : ℕ} {l : List ℕ} → Over k n i c l → searched k (without_row i (view_rows n l).rows) ≡ Err j → j < n
 place_without {k} {n} {i} {j = j} {l} o e =
     let m = view_length n l in
     omega (arith, absent_inside k (without_row i (view_rows n l).rows) j e, length_without i (view_rows n l).rows (omega (arith, o.inside)), o.inside)
@@ -114,7 +113,7 @@ rest_kept i s h =
 
 -- c is the weight that is stored without row i, v with the new row
 pub filed_over : {k : NodeAddr} {n i c : ℕ} {l : List ℕ} (o : Over k n i c l) {e : Entry} {w p j v q : ℕ} {r : Row} {t u y x : State}
-    → searched k (without_row i (view_rows n l).rows) ≡ Absent j → v ≡ c + cond (ltb p 2) w 0 → t ≡ with_stored_weight v (view_rows n l) → (q ≡ t.seq + 1) × (u ≡ with_seq q t) → y ≡ with_row_count n u
+    → searched k (without_row i (view_rows n l).rows) ≡ Err j → v ≡ c + cond (ltb p 2) w 0 → t ≡ with_stored_weight v (view_rows n l) → (q ≡ t.seq + 1) × (u ≡ with_seq q t) → y ≡ with_row_count n u
     → r ≡ record { key = k; entry = e; place = p; stamp_first = e.last_used; stamp_seq = q; weight = w } → x ≡ exchanged i j r y → x ≡ file_new k e w p (take_out i (view_rows n l))
 unfolding file_new take_out with_only_rows exchanged with_rows with_stored_weight with_seq with_row_count
 filed_over {k} {n} {i} {c} {l} o {e} {w} {p} {j} {v} {u = u} g ev et eq ey er ex =

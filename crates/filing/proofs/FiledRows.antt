@@ -2,7 +2,7 @@
 use mathlib.Core.Path.{◌≡◌, refl, sym, ap, ◌∙◌}
 use mathlib.Core.Bool.{true, cond}
 use mathlib.Core.List.{List, [], ◌∷◌, ◌++◌}
-use mathlib.Core.Option.{none}
+use Rattle.std.specs.Prelude.{None, Ok, Err, Result}
 use Prim.Native.Nat.{ℕ, zero, suc, ◌+◌, ◌*◌, ◌/◌, ◌-◌, ◌≤◌, ◌<◌}
 use native.Mathlib.Omega.{arith}
 use lib.Dec.{ltb}
@@ -19,8 +19,6 @@ use Rattle.rules.proofs.SoundTest.{Sound, sound_is, ascends_test}
 use Rattle.rules.proofs.Sizes.{light, few_rows}
 use Rattle.rules.specs.Layout.{head_size, row_size}
 use Rattle.rules.proofs.Foreign.{view_length}
-use Rattle.search.specs.declared.outcome.Search.TheVariants.{At, Absent}
-use Rattle.search.specs.declared.outcome.Search.{Search}
 use Rattle.search.specs.ByKey.{searched}
 use Rattle.search.proofs.SearchLaws.{absent_inside, absent_insert, none_searched}
 use Rattle.memory.specs.Edits.{with_stored_weight, stamped_as}
@@ -44,7 +42,7 @@ module _ {k : NodeAddr} {n : ℕ} {l : List ℕ} (f : Free k n l) where
   rows_rise : ascends (view_rows n l).rows ≡ true
   rows_rise = ascends_test (view_rows n l).rows whole.rising
 
-  pub index_asks : (ascends (view_rows n l).rows ≡ true) × (head_size + n * row_size ≤ length l) × (find k (view_rows n l).rows ≡ none)
+  pub index_asks : (ascends (view_rows n l).rows ≡ true) × (head_size + n * row_size ≤ length l) × (find k (view_rows n l).rows ≡ None)
   index_asks = (rows_rise, omega (arith, one_more_fits), f.without.gone)
 
   pub head_there : head_size ≤ length l
@@ -56,7 +54,7 @@ module _ {k : NodeAddr} {n : ℕ} {l : List ℕ} (f : Free k n l) where
       omega (arith, (same_head 0 n l).stored_weight, whole.stored_weight, few_rows (capacity l) (view_rows n l) whole, whole.small)
 
   -- a new row's place is among the rows, or past the last
-  pub place_inside : {i : ℕ} → searched k (view_rows n l).rows ≡ Absent i → i ≤ n
+  pub place_inside : {i : ℕ} → searched k (view_rows n l).rows ≡ Err i → i ≤ n
   place_inside {i} h = omega (arith, absent_inside k (view_rows n l).rows i h, view_length n l)
 
 -- what fits a memory of length b fits one of length c
@@ -64,7 +62,7 @@ pub fits_kept : {a b c : ℕ} → c ≡ b → a ≤ b → a ≤ c
 fits_kept e h = omega arith
 
 -- a search for a key that has no row doesn't find one
-pub only_absent : (k : NodeAddr) (rs : List Row) {i j : ℕ} {r : Search} → find k rs ≡ none → r ≡ searched k rs → r ≡ At i → searched k rs ≡ Absent j
+pub only_absent : (k : NodeAddr) (rs : List Row) {i j : ℕ} {r : Result ℕ ℕ} → find k rs ≡ None → r ≡ searched k rs → r ≡ Ok i → searched k rs ≡ Err j
 only_absent k rs h f g = let z = sym (none_searched k rs h) ∙ sym f ∙ g in cc
 
 -- ---- a new row
@@ -72,7 +70,7 @@ only_absent k rs h f g = let z = sym (none_searched k rs h) ∙ sym f ∙ g in c
 one_longer : (i : ℕ) (r : Row) (rs : List Row) → i ≤ length rs → length (take i rs ++ (r ∷ drop i rs)) ≡ length rs + 1
 one_longer i r rs h = simp (length-append, length-take, length-drop) (omega arith)
 
-pub in_order : (r : Row) (w i : ℕ) (s : State) → ascends s.rows ≡ true → searched r.key s.rows ≡ Absent i
+pub in_order : (r : Row) (w i : ℕ) (s : State) → ascends s.rows ≡ true → searched r.key s.rows ≡ Err i
     → s.stored_weight ≡ main_weight s → w ≡ s.stored_weight + cond (ltb r.place 2) r.weight 0
     → (take i s.rows ++ (r ∷ drop i s.rows) ≡ insert_in_order r s.rows) × (w ≡ weigh_rows in_main (insert_in_order r s.rows)) × (length s.rows + 1 ≡ length (insert_in_order r s.rows))
 unfolding in_main
@@ -87,7 +85,7 @@ same_seq v s e = ap (λ (x : State). x.seq) e
 
 -- at i, once the weight v is stored and the stamp q drawn
 pub filed : {k : NodeAddr} {n : ℕ} {l : List ℕ} (f : Free k n l) {e : Entry} {w p i v q : ℕ} {r : Row} {t u x : State}
-    → searched k (view_rows n l).rows ≡ Absent i → v ≡ (view_rows 0 l).stored_weight + cond (ltb p 2) w 0 → t ≡ with_stored_weight v (view_rows n l) → (q ≡ t.seq + 1) × (u ≡ with_seq q t)
+    → searched k (view_rows n l).rows ≡ Err i → v ≡ (view_rows 0 l).stored_weight + cond (ltb p 2) w 0 → t ≡ with_stored_weight v (view_rows n l) → (q ≡ t.seq + 1) × (u ≡ with_seq q t)
     → r ≡ record { key = k; entry = e; place = p; stamp_first = e.last_used; stamp_seq = q; weight = w } → x ≡ inserted i r u → x ≡ file_new k e w p (view_rows n l)
 unfolding file_new inserted with_stored_weight with_seq view_rows
 filed {k} {n} {l} f {e} {w} {p} {i} {v} h ev et eq er ex =
@@ -125,7 +123,7 @@ saved_row k f q r e g = rw (e, g)
 -- row r, of key k, stands at i among the rows of memory m, as it was: those of memory l were n
 pub record Standing (k : NodeAddr) (n i : ℕ) (r : Row) (l m : List ℕ) : Type 0 where
   pub free : Free k n l
-  pub at : searched k (view_rows n l).rows ≡ Absent i
+  pub at : searched k (view_rows n l).rows ≡ Err i
   pub key : r.key ≡ k
   pub size : length m ≡ length l
   pub state : view_rows (n + 1) m ≡ inserted i r (view_rows n l)

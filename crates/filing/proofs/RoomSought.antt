@@ -21,8 +21,7 @@ use Rattle.rules.proofs.Others.{room_gone, made_free}
 use Rattle.rules.specs.Layout.{head_size, number_limit, row_size}
 use Rattle.rules.proofs.Foreign.{view_length}
 use Rattle.rules.specs.Refusals.{last_seq}
-use Rattle.stamps.specs.declared.lowest.Lowest.{Lowest}
-use Rattle.stamps.specs.declared.lowest.Lowest.TheVariants.{At, Nothing}
+use Rattle.std.specs.Prelude.{Option, Some, None}
 use Rattle.room.specs.declared.victims.Room.{Room as RoomAnswer}
 use Rattle.room.specs.Rooms.{room_of, without_victim, Leaves, Without, StampsLeft}
 use Rattle.room.proofs.ClosedForm.{main_visits_lem, probation_visits_lem}
@@ -43,14 +42,14 @@ room_asks time n l h q = (laid_out n l h, h, omega (arith, main_visits_lem time 
 -- ---- a victim that was left in place
 
 -- it takes no stamp with it
-pub victim_seq : (v : Lowest) (s : State) → (without_victim v s).seq ≡ s.seq
+pub victim_seq : (v : Option ℕ) (s : State) → (without_victim v s).seq ≡ s.seq
 unfolding without_victim take_out with_only_rows
-victim_seq (At i) s = refl
-victim_seq Nothing s = refl
+victim_seq (Some i) s = refl
+victim_seq None s = refl
 
 -- what a row asks that takes its place, or a free row
-pub left_takes : {k : NodeAddr} {v : Lowest} {w n j : ℕ} {l m : List ℕ} → Without k n l → length m ≡ length l → j ≤ n → Leaves v w (view_rows n l).rows (view_rows j m).rows
-    → (view_rows j m).seq < largest_number → (v ≡ Nothing → Without k j m × (j < capacity m)) → Takes k v w j m
+pub left_takes : {k : NodeAddr} {v : Option ℕ} {w n j : ℕ} {l m : List ℕ} → Without k n l → length m ≡ length l → j ≤ n → Leaves v w (view_rows n l).rows (view_rows j m).rows
+    → (view_rows j m).seq < largest_number → (v ≡ None → Without k j m × (j < capacity m)) → Takes k v w j m
 left_takes {k} {n = n} {j} {l} {m} wo z h d q f = record {
   free = λ e. record { without = (f e).0; room = (f e).1; seq = q };
   over = λ i e. record {
@@ -72,18 +71,18 @@ pub record Sought (l m : List ℕ) (n time w : ℕ) (r : RoomAnswer) : Type 0 wh
   pub room : room_of r (view_rows r.rows m) ≡ make_room time w (view_rows n l)
   pub rows : r.rows ≤ n
   pub leaves : Leaves r.victim r.stored (view_rows n l).rows (view_rows r.rows m).rows
-  pub none : r.made ≡ false → r.victim ≡ Nothing
+  pub none : r.made ≡ false → r.victim ≡ None
 
 pub sought : (l m : List ℕ) (n time w : ℕ) (r : RoomAnswer) → length m ≡ length l
     → (room_of r (view_rows r.rows m) ≡ make_room time w (view_rows n l)) × (r.rows ≤ n)
-    × Leaves r.victim r.stored (view_rows n l).rows (view_rows r.rows m).rows × (r.made ≡ false → r.victim ≡ Nothing)
+    × Leaves r.victim r.stored (view_rows n l).rows (view_rows r.rows m).rows × (r.made ≡ false → r.victim ≡ None)
     → Sought l m n time w r
 sought l m n time w r z e = record { size = z; room = e.0; rows = e.1; leaves = e.2; none = e.3 }
 
 -- the same, where the weight that was asked for is w
 pub sought_for : {l m : List ℕ} {n time v w : ℕ} {r : RoomAnswer} → v ≡ w → length m ≡ length l
     → (room_of r (view_rows r.rows m) ≡ make_room time v (view_rows n l)) × (r.rows ≤ n)
-    × Leaves r.victim r.stored (view_rows n l).rows (view_rows r.rows m).rows × (r.made ≡ false → r.victim ≡ Nothing)
+    × Leaves r.victim r.stored (view_rows n l).rows (view_rows r.rows m).rows × (r.made ≡ false → r.victim ≡ None)
     → Sought l m n time w r
 sought_for {l} {m} {n} {time} {r = r} g z e = rw (← g) (sought l m n time _ r z e)
 
@@ -113,32 +112,32 @@ module _ (k : NodeAddr) (n : ℕ) (l m : List ℕ) (time w : ℕ) (r : RoomAnswe
   room_seq q = omega (arith, made.stamps, made.seen, both)
 
   -- no victim was left
-  pub free_state : r.victim ≡ Nothing → view_rows r.rows m ≡ (make_room time w (view_rows n l)).state
+  pub free_state : r.victim ≡ None → view_rows r.rows m ≡ (make_room time w (view_rows n l)).state
   free_state e = sym (without_none r.victim (view_rows r.rows m) e) ∙ left_state
 
-  pub still_without : r.victim ≡ Nothing → Without k r.rows m
+  pub still_without : r.victim ≡ None → Without k r.rows m
   still_without e =
       let s = shown n l wo.sound in
       reached_without k l m r.rows (make_room time w (view_rows n l)).state (record { size = so.size; state = free_state e })
       (room_sound (capacity l) (view_rows n l) s time w) (room_gone k time w (view_rows n l) s (without_gone k n l wo))
 
   -- a row is free in main
-  pub free_main : main_count (make_room time w (view_rows n l)).state < main_limit (capacity l) (make_room time w (view_rows n l)).state → r.victim ≡ Nothing → r.rows < capacity m
+  pub free_main : main_count (make_room time w (view_rows n l)).state < main_limit (capacity l) (make_room time w (view_rows n l)).state → r.victim ≡ None → r.rows < capacity m
   free_main c e = free_in_main r.rows m (still_without e).sound (rw (capacity_same l m so.size, free_state e) c)
 
-  pub made_in_main : r.made ≡ true → r.victim ≡ Nothing → r.rows < capacity m
+  pub made_in_main : r.made ≡ true → r.victim ≡ None → r.rows < capacity m
   made_in_main t = free_main (made_free (view_rows n l) (shown n l wo.sound) time w (sym room_made ∙ t))
 
-  pub takes : (r.victim ≡ Nothing → r.rows < capacity m) → (view_rows n l).seq ≤ last_seq → Takes k r.victim r.stored r.rows m
+  pub takes : (r.victim ≡ None → r.rows < capacity m) → (view_rows n l).seq ≤ last_seq → Takes k r.victim r.stored r.rows m
   takes f q =
       let s : (view_rows r.rows m).seq < largest_number = omega (arith, room_seq q, victim_seq r.victim (view_rows r.rows m), ap (λ (x : State). x.seq) left_state) in
       left_takes wo so.size so.rows so.leaves s (λ e. (still_without e, f e))
 
   -- no room was made
-  visits : r.victim ≡ Nothing → total probation_visits (view_rows r.rows m).rows ≤ 2 * probation_count (view_rows n l)
+  visits : r.victim ≡ None → total probation_visits (view_rows r.rows m).rows ≤ 2 * probation_count (view_rows n l)
   visits e = rw (free_state e) (omega (arith, total_twice probation_visits (λ x. cond (in_probation x) 1 0) probation_twice (make_room time w (view_rows n l)).state.rows, made.probations))
 
-  pub stamps_after : r.victim ≡ Nothing → (view_rows n l).seq ≤ last_seq → StampsLeft r.rows m
+  pub stamps_after : r.victim ≡ None → (view_rows n l).seq ≤ last_seq → StampsLeft r.rows m
   stamps_after e q =
       let a : (view_rows r.rows m).seq ≤ (view_rows n l).seq + 2 * main_count (view_rows n l) = rw (free_state e) (omega (arith, made.stamps, made.seen)) in
       omega (arith, visits e, both)

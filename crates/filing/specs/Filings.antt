@@ -1,6 +1,5 @@
 -- A path that can be written; a row that is free, or may leave for another.
-use Rattle.std.specs.Prelude.{ℕ, ◌+◌, ◌*◌, ◌≤◌, ◌<◌, ◌≡◌, true, List, length}
-use Rattle.std.proofs.Math.Option.{none}
+use Rattle.std.specs.Prelude.{ℕ, ◌+◌, ◌*◌, ◌≤◌, ◌<◌, ◌≡◌, true, List, length, None}
 use Rattle.types.specs.declared.coord.Path.{Path}
 use Rattle.types.specs.declared.node_addr.NodeAddr.{NodeAddr}
 use Rattle.types.specs.Paths.{path_places}
@@ -28,7 +27,7 @@ pub record Over (k : NodeAddr) (n i w : ℕ) (l : List ℕ) : Type 0 where
   pub fits : head_size + n * row_size ≤ length l
   pub inside : i < n
   pub rising : ascends (view_rows n l).rows ≡ true
-  pub gone : find k (view_rows n l).rows ≡ none
+  pub gone : find k (view_rows n l).rows ≡ None
   pub weighs : w ≡ weigh_rows in_main (without_row i (view_rows n l).rows)
   pub light : w ≤ max_rows * weight_limit
   pub seq : (view_rows n l).seq < largest_number

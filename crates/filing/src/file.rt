@@ -1,6 +1,5 @@
 // A row filed in the order of keys.
-ghost use Rattle.std.specs.Prelude.{◌≡◌, cond, true, ◌+◌, ◌*◌, ◌≤◌, ◌<◌, ltb, length};
-ghost use Rattle.std.proofs.Math.Option.{none};
+ghost use Rattle.std.specs.Prelude.{◌≡◌, cond, true, ◌+◌, ◌*◌, ◌≤◌, ◌<◌, ltb, length, None, Err};
 ghost use Rattle.types.specs.Paths.{path_places};
 ghost use Rattle.rules.specs.Records.{by_use, probation, max_rows, weight_limit};
 ghost use Rattle.rules.specs.Rows.{find, without_row};
@@ -8,7 +7,6 @@ ghost use Rattle.rules.specs.Sound.{ascends};
 ghost use Rattle.rules.specs.Room.{file_new, take_out};
 ghost use Rattle.rules.specs.Memory.{row_of, view_rows};
 ghost use Rattle.rules.specs.Layout.{head_size, row_size};
-ghost use Rattle.search.specs.declared.outcome.Search.TheVariants.{Absent};
 ghost use Rattle.search.specs.ByKey.{searched};
 ghost use Rattle.filing.specs.Filings.{Free, Over};
 ghost use Rattle.entries.specs.NewEntries.{entry_from};
@@ -22,26 +20,25 @@ use rows::insert::insert_row;
 use rows::row::NewRow;
 use rows::saved::insert_saved;
 use search::keys::search;
-use search::outcome::Search;
 use stamps::row::draw_stamp;
 use types::node_addr::NodeAddr;
 
 // The row that a key without one becomes.
 fn index_for(state: &[u8], n: usize, key: NodeAddr) -> usize
-    requires { (ascends (view_rows n state.now).rows ≡ true) × (head_size + n * row_size ≤ length state.now) × (find key (view_rows n state.now).rows ≡ none) }
-    ensures { searched key (view_rows n state.now).rows ≡ Absent result }
+    requires { (ascends (view_rows n state.now).rows ≡ true) × (head_size + n * row_size ≤ length state.now) × (find key (view_rows n state.now).rows ≡ None) }
+    ensures { searched key (view_rows n state.now).rows ≡ Err result }
 {
     let at = search(state, n, key);
     match at {
-        Search::At(i) => i,
-        Search::Absent(i) => i,
+        Ok(i) => i,
+        Err(i) => i,
     }
 }
 
 // The row that a key without one becomes once row i is gone.
 fn index_without(state: &[u8], n: usize, i: usize, key: NodeAddr) -> usize
-    requires { (ascends (view_rows n state.now).rows ≡ true) × (head_size + n * row_size ≤ length state.now) × (find key (view_rows n state.now).rows ≡ none) × (i < n) }
-    ensures { searched key (without_row i (view_rows n state.now).rows) ≡ Absent result }
+    requires { (ascends (view_rows n state.now).rows ≡ true) × (head_size + n * row_size ≤ length state.now) × (find key (view_rows n state.now).rows ≡ None) × (i < n) }
+    ensures { searched key (without_row i (view_rows n state.now).rows) ≡ Err result }
 {
     let at = index_for(state, n, key);
     if i < at { at - 1 } else { at }

@@ -9,14 +9,13 @@ ghost use Rattle.filing.specs.InRoom.{Takes};
 
 use crate::file::{file_new, file_over_victim};
 use entries::new_entry::NewEntry;
-use stamps::lowest::Lowest;
 use types::node_addr::NodeAddr;
 
 // `stored` is the weight that is stored without the victim.
 pub fn file_in_room(
     state: &mut [u8],
     n: usize,
-    victim: Lowest,
+    victim: Option<usize>,
     stored: u64,
     key: NodeAddr,
     e: NewEntry,
@@ -27,7 +26,7 @@ pub fn file_in_room(
     ensures { view_rows (length (file_new key (entry_from e) weight place (without_victim victim (view_rows n state.old))).rows) state.new ≡ file_new key (entry_from e) weight place (without_victim victim (view_rows n state.old)) }
 {
     match victim {
-        Lowest::Nothing => file_new(state, n, key, e, weight, place),
-        Lowest::At(i) => file_over_victim(state, n, i, stored, key, e, weight, place),
+        None => file_new(state, n, key, e, weight, place),
+        Some(i) => file_over_victim(state, n, i, stored, key, e, weight, place),
     }
 }

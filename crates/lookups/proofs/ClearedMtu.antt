@@ -2,7 +2,7 @@
 use mathlib.Core.Path.{◌≡◌, refl, ap}
 use Prim.Native.Nat.{ℕ}
 use mathlib.Core.List.{List}
-use mathlib.Core.Option.{Option, none, some}
+use Rattle.std.specs.Prelude.{Option, None, Some}
 use lib.ListN.{length}
 use Rattle.types.specs.declared.node_addr.NodeAddr.{NodeAddr}
 use Rattle.rules.specs.Entries.{drop_mtu}
@@ -25,10 +25,10 @@ module _ {k : NodeAddr} {n : ℕ} {l : List ℕ} where
       let d = done_rows f.memory (ClearPathMtu k) m n (not_refused l (ClearPathMtu k) f.sound refl refl refl) b z v in
       (ap refusal_of d.answer, d.memory)
 
-  pub clear_at : {i : ℕ} → Found k n (some i) l → (m : List ℕ) → Bytes m → length m ≡ length l → view_rows n m ≡ rewrite drop_mtu i (view_rows n l) → Cleared k l m
+  pub clear_at : {i : ℕ} → Found k n (Some i) l → (m : List ℕ) → Bytes m → length m ≡ length l → view_rows n m ≡ rewrite drop_mtu i (view_rows n l) → Cleared k l m
   unfolding perform gives clear_path_mtu
   clear_at f m b z v = clear_done f m b z (rw f.row v)
 
-  pub clear_absent : Found k n none l → Bytes l → Cleared k l l
+  pub clear_absent : Found k n None l → Bytes l → Cleared k l l
   unfolding perform gives clear_path_mtu
   clear_absent f b = clear_done f l b refl (rw f.row)

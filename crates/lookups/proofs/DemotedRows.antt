@@ -3,7 +3,7 @@ use mathlib.Core.Path.{◌≡◌, refl, ap, ◌∙◌}
 use Prim.Native.Nat.{ℕ, ◌+◌, ◌*◌, ◌≤◌, ◌<◌}
 use native.Mathlib.Omega.{arith}
 use mathlib.Core.List.{List}
-use mathlib.Core.Option.{Option, none, some}
+use Rattle.std.specs.Prelude.{Option, None, Some}
 use mathlib.Core.Bool.{Bool, true, false}
 use lib.ListN.{length}
 use borrow.Author.Tests.{eq-eqb, ne_eqb, lt-ltb, le-ltb}
@@ -71,15 +71,15 @@ module _ {k : NodeAddr} {n q : ℕ} {l : List ℕ} (e : q ≡ (view_rows 0 l).se
       let d : q ≡ (view l).seq = e ∙ shown_seq l in
       done_rows f.memory (Demote k) m n (refused_only_one (capacity l) (view l) (Demote k) f.sound refl refl (rw (← d) (le-ltb last_seq q w))) b z v
 
-  pub demote_asked : {i : ℕ} → Found k n (some i) l → (i < n) × (head_size + n * row_size ≤ length l) × ((view_rows n l).seq < largest_number)
+  pub demote_asked : {i : ℕ} → Found k n (Some i) l → (i < n) × (head_size + n * row_size ≤ length l) × ((view_rows n l).seq < largest_number)
   demote_asked f = (inside f, f.memory.long, omega (arith, e, w, (same_head 0 n l).seq))
 
-  pub demoted_at_lem : {i : ℕ} → Found k n (some i) l → (m : List ℕ) → Bytes m → length m ≡ length l → view_rows n m ≡ demoted_at i (view_rows n l)
+  pub demoted_at_lem : {i : ℕ} → Found k n (Some i) l → (m : List ℕ) → Bytes m → length m ≡ length l → view_rows n m ≡ demoted_at i (view_rows n l)
       → Demoted k true l m
   unfolding perform gives demoted demoted_at holds
   demoted_at_lem f m b z v = let d = demote_done f m b z (rw f.row v) in (rw f.row at d.answer, d.memory)
 
-  pub demoted_absent : Found k n none l → Bytes l → Demoted k false l l
+  pub demoted_absent : Found k n None l → Bytes l → Demoted k false l l
   unfolding perform gives demoted holds
   demoted_absent f b = let d = demote_done f l b refl (rw f.row) in (rw f.row at d.answer, d.memory)
 

@@ -3,7 +3,7 @@ use mathlib.Core.Path.{◌≡◌, refl, ap, ◌∙◌, subst}
 use Prim.Native.Nat.{ℕ, ◌+◌, ◌*◌, ◌-◌, ◌≤◌}
 use native.Mathlib.Omega.{arith}
 use mathlib.Core.List.{List, []}
-use mathlib.Core.Option.{Option, none, some}
+use Rattle.std.specs.Prelude.{Option, None, Some}
 use mathlib.Core.Bool.{Bool, true, false}
 use Rattle.types.specs.declared.node_addr.NodeAddr.{NodeAddr}
 use Rattle.rules.specs.Cases.{maybe}
@@ -29,7 +29,7 @@ use Rattle.refusals.proofs.SoundCalls.{done_rows, not_refused}
 use Rattle.refusals.proofs.SearchedKeys.{Found, inside}
 use Rattle.lookups.specs.Steps.{StandsAt, place_found}
 
-get_allowed : (l : List ℕ) (k : NodeAddr) (time : ℕ) → sound (capacity l) (view l) ≡ true → refusal (capacity l) (view l) (Asked (Get k time)) ≡ none
+get_allowed : (l : List ℕ) (k : NodeAddr) (time : ℕ) → sound (capacity l) (view l) ≡ true → refusal (capacity l) (view l) (Asked (Get k time)) ≡ None
 unfolding path_given verified_write draws_stamps
 get_allowed l k time h = not_refused l (Get k time) h refl refl refl
 
@@ -38,7 +38,7 @@ pub get_zero : (l : List ℕ) (k : NodeAddr) (time : ℕ) → sound (capacity l)
 unfolding lent serve perform_request perform gives refusal_of
 get_zero l k time h = rw (get_allowed l k time h)
 
-pub path_short : {k : NodeAddr} {n i : ℕ} {l : List ℕ} → Found k n (some i) l → (row_at i (view_rows n l).rows).entry.path.len ≤ path_places
+pub path_short : {k : NodeAddr} {n i : ℕ} {l : List ℕ} → Found k n (Some i) l → (row_at i (view_rows n l).rows).entry.path.len ≤ path_places
 path_short {k} {n} {i} {l} f = (every_at (RowOk (view_rows n l).seq) i (view_rows n l).rows (omega (arith, inside f, f.memory.rows)) f.memory.sound.each).short
 
 module _ {k : NodeAddr} {n : ℕ} {o : Option ℕ} {l : List ℕ} (f : Found k n o l) (time : ℕ) where
@@ -56,29 +56,29 @@ module _ {k : NodeAddr} {n : ℕ} {o : Option ℕ} {l : List ℕ} (f : Found k n
     unfolding got_part found_part
     got_part_lem = rw (get_allowed l k time f.sound, unexpired, f.memory.same)
 
-  nothing_stands : (r : PathPlace) → unexpired_row k time (view_rows n l) ≡ none → r ≡ record { at = 0; bytes = 0 } → StandsAt k time l r.at r.bytes
+  nothing_stands : (r : PathPlace) → unexpired_row k time (view_rows n l) ≡ None → r ≡ record { at = 0; bytes = 0 } → StandsAt k time l r.at r.bytes
   unfolding place_found
-  nothing_stands r e z = rw z (record { part = got_part_lem none e; inside = omega arith; own = rw (unexpired none e) })
+  nothing_stands r e z = rw z (record { part = got_part_lem None e; inside = omega arith; own = rw (unexpired None e) })
 
 -- ---- where the part stands
 
 module _ {k : NodeAddr} {n : ℕ} {l : List ℕ} (time : ℕ) (r : PathPlace) where
-  pub absent_stands : Found k n none l → r ≡ record { at = 0; bytes = 0 } → StandsAt k time l r.at r.bytes
+  pub absent_stands : Found k n None l → r ≡ record { at = 0; bytes = 0 } → StandsAt k time l r.at r.bytes
   unfolding unexpired_row
   absent_stands f z = nothing_stands f time r (rw f.row) z
 
-  pub expired_stands : {i : ℕ} → Found k n (some i) l → expired time (row_at i (view_rows n l).rows).entry ≡ true → r ≡ record { at = 0; bytes = 0 }
+  pub expired_stands : {i : ℕ} → Found k n (Some i) l → expired time (row_at i (view_rows n l).rows).entry ≡ true → r ≡ record { at = 0; bytes = 0 }
       → StandsAt k time l r.at r.bytes
   unfolding unexpired_row
   expired_stands f x z = nothing_stands f time r (rw (f.row, x)) z
 
-  pub path_stands : {i : ℕ} → Found k n (some i) l → expired time (row_at i (view_rows n l).rows).entry ≡ false
+  pub path_stands : {i : ℕ} → Found k n (Some i) l → expired time (row_at i (view_rows n l).rows).entry ≡ false
       → r ≡ record { at = head_size + i * row_size + places_in_row; bytes = (row_at i (view_rows n l).rows).entry.path.len * coord_entry_size }
       → StandsAt k time l r.at r.bytes
   unfolding unexpired_row path_part place_found
   path_stands {i} f x z =
-      let e : unexpired_row k time (view_rows n l) ≡ some i = rw (f.row, x) in
-      rw z (record { part = got_part_lem f time (some i) e; inside = omega (arith, inside f, f.memory.long, path_short f); own = rw (unexpired f time (some i) e) })
+      let e : unexpired_row k time (view_rows n l) ≡ Some i = rw (f.row, x) in
+      rw z (record { part = got_part_lem f time (Some i) e; inside = omega (arith, inside f, f.memory.long, path_short f); own = rw (unexpired f time (Some i) e) })
 
 pub part_from : (at bytes : ℕ) (l p : List ℕ) → cut at bytes l ≡ p → cut at (at + bytes - at) l ≡ p
 part_from at bytes l p e = ap (λ (j : ℕ). cut at j l) (let z : at + bytes - at ≡ bytes = omega arith in z) ∙ e

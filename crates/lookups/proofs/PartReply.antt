@@ -3,7 +3,7 @@ use mathlib.Core.Path.{◌≡◌, refl, sym, ◌∙◌, ap, subst}
 use Prim.Native.Nat.{ℕ, ◌+◌, ◌*◌, ◌/◌, ◌≤◌, ◌<◌}
 use native.Mathlib.Omega.{arith}
 use mathlib.Core.List.{List, []}
-use mathlib.Core.Option.{Option, none, some}
+use Rattle.std.specs.Prelude.{Option, None, Some}
 use mathlib.Core.Bool.{true}
 use lib.ListN.{length}
 use borrow.Author.Tests.{ne_eqb}
@@ -54,23 +54,23 @@ part_of l n i s h =
       long = ok.long;
     })
 
-inside : (k : NodeAddr) (time : ℕ) (s : State) (i : ℕ) → unexpired_row k time s ≡ some i → i < length s.rows
+inside : (k : NodeAddr) (time : ℕ) (s : State) (i : ℕ) → unexpired_row k time s ≡ Some i → i < length s.rows
 unfolding unexpired_row
 inside k time s i = by_maybe P (find k s.rows) (λ e g. contradiction {b = true} refl (cc))
     (λ j e. by_cond P (expired time (row_at j s.rows).entry) (λ x g. contradiction {b = true} refl (cc))
     (λ x g. let z : j ≡ i = cc in subst (λ (n : ℕ). n < length s.rows) z (find_at k s.rows j e).inside))
   where
     P : Option ℕ → Type 0
-    P o = o ≡ some i → i < length s.rows
+    P o = o ≡ Some i → i < length s.rows
 
 pub got_reply : (l : List ℕ) (k : NodeAddr) (time : ℕ) → sound (capacity l) (view l) ≡ true → part_reply (length (got_part k time l)) ≡ reply (call l (Get k time)).answer
 unfolding got_part found_part lent serve perform_request perform get gives reply part_reply path_given verified_write draws_stamps
 got_reply l k time h = rw (not_refused l (Get k time) h refl refl refl) (go (unexpired_row k time (view l)) refl)
   where
     go : (o : Option ℕ) → unexpired_row k time (view l) ≡ o → part_reply (length (maybe o [] (λ i. path_part i (row_at i (view l).rows).entry.path.len l)))
-        ≡ reply (PathFound (maybe o none (λ i. some (elements (row_at i (view l).rows).entry.path))))
-    go none e = refl
-    go (some i) e =
+        ≡ reply (PathFound (maybe o None (λ i. Some (elements (row_at i (view l).rows).entry.path))))
+    go None e = refl
+    go (Some i) e =
         let s = sound_memory l (view_rows 0 l).row_count h refl in
         let j = subst (λ (n : ℕ). i < n) (ap (λ (x : State). length x.rows) (sym s.same) ∙ s.rows) (inside k time (view l) i e) in
         let p = part_of l (view_rows 0 l).row_count i s j in

@@ -3,7 +3,7 @@ use mathlib.Core.Path.{◌≡◌, refl, sym, ap, ◌∙◌, subst}
 use Prim.Native.Nat.{ℕ, ◌+◌, ◌*◌, ◌≤◌}
 use native.Mathlib.Omega.{arith}
 use mathlib.Core.List.{List}
-use mathlib.Core.Option.{none, some}
+use Rattle.std.specs.Prelude.{None, Some}
 use mathlib.Core.Bool.{Bool, true, false, cond}
 use lib.ListN.{length}
 use Rattle.types.specs.declared.node_addr.NodeAddr.{NodeAddr}
@@ -77,7 +77,7 @@ unfolding view_rows take_out with_only_rows
 out_count j i s m e v = e ∙ sym (ap (λ (x : State). x.row_count) v)
 
 module _ {k : NodeAddr} {n : ℕ} {l : List ℕ} (time : ℕ) (r : PathPlace) where
-  module _ {i : ℕ} (f : Found k n (some i) l) (m : List ℕ) where
+  module _ {i : ℕ} (f : Found k n (Some i) l) (m : List ℕ) where
     -- a row that stays: its path stands where it stood
     kept_stands : time ≤ last_time → sound (capacity m) (view m) ≡ true → view_rows n m ≡ rewrite (refresh time (view_rows n l).default_ttl) i (view_rows n l)
         → r ≡ standing i (view_rows n l) → StandsAt k time m r.at r.bytes
@@ -85,7 +85,7 @@ module _ {k : NodeAddr} {n : ℕ} {l : List ℕ} (time : ℕ) (r : PathPlace) wh
         let d : RefreshedRow k time i (view_rows n l) (view_rows n m) =
         subst (RefreshedRow k time i (view_rows n l)) (sym v) (refreshed_row k time (view_rows n l) i t f.row (omega (arith, inside f, f.memory.rows))) in
         let c : n ≡ (view_rows 0 m).row_count = sym (refreshed_count n l m i time v ∙ f.memory.sound.counted ∙ f.memory.rows) in
-        let g : Found k n (some i) m = record { sound = h; memory = sound_memory m n h c; row = d.held } in
+        let g : Found k n (Some i) m = record { sound = h; memory = sound_memory m n h c; row = d.held } in
         path_stands time r g d.unexpired (e ∙ ap (λ (p : Path). record { at = head_size + i * row_size + places_in_row; bytes = p.len * coord_entry_size }) (sym d.path))
 
     -- a row that leaves: its key has none
@@ -94,7 +94,7 @@ module _ {k : NodeAddr} {n : ℕ} {l : List ℕ} (time : ℕ) (r : PathPlace) wh
     out_stands j h ej v e =
         let a = find_at k (view_rows n l).rows i f.row in
         let g = find_gone k _ (take_out_gone k i (view_rows n l) (rising_unique (cores (view_rows n l).rows) f.memory.sound.rising) a.inside a.key) in
-        let o : Found k j none m = record {
+        let o : Found k j None m = record {
           sound = h;
           memory = sound_memory m j h (out_count j i (view_rows n l) m ej v);
           row = ap (λ (x : State). find k x.rows) v ∙ g;
@@ -121,5 +121,5 @@ module _ {k : NodeAddr} {n : ℕ} {l : List ℕ} (time : ℕ) (r : PathPlace) wh
             let u = ap (λ (z : State). length z.rows) y ∙ refreshed_length (refresh time (view_rows n l).default_ttl) i n l in
             (kept_stands (omega (arith, small8_less time g.1)) q (ap (λ (z : ℕ). view_rows z m) (sym u) ∙ v ∙ y) (e ∙ rw x), t)
 
-  pub placed_absent : Found k n none l → Bytes l → r ≡ nowhere → Placed l k time r l
+  pub placed_absent : Found k n None l → Bytes l → r ≡ nowhere → Placed l k time r l
   placed_absent f b e = (absent_stands time r f e, (touched_absent time f b).2)

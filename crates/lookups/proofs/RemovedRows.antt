@@ -2,7 +2,7 @@
 use mathlib.Core.Path.{◌≡◌, refl, sym, ap, ◌∙◌}
 use Prim.Native.Nat.{ℕ, ◌-◌}
 use mathlib.Core.List.{List}
-use mathlib.Core.Option.{Option, none, some}
+use Rattle.std.specs.Prelude.{Option, None, Some}
 use mathlib.Core.Bool.{false}
 use lib.ListN.{length}
 use Rattle.types.specs.declared.node_addr.NodeAddr.{NodeAddr}
@@ -41,19 +41,19 @@ module _ {k : NodeAddr} {n : ℕ} {l : List ℕ} where
   unfolding path_given verified_write draws_stamps
   remove_done f m j b z v = done_rows f.memory (Remove k) m j (not_refused l (Remove k) f.sound refl refl refl) b z v
 
-  pub removed_at : {i : ℕ} → Found k n (some i) l → (e : CacheEntry) (m : List ℕ) → Bytes m → length m ≡ length l
+  pub removed_at : {i : ℕ} → Found k n (Some i) l → (e : CacheEntry) (m : List ℕ) → Bytes m → length m ≡ length l
       → e ≡ entry_value (row_at i (view_rows n l).rows).entry → view_rows (n - 1) m ≡ take_out i (view_rows n l) → Removed l k Removal.Removed e m
   unfolding perform gives without_key removed_entry removal_said entry_given
   removed_at f e m b z a v =
       let d = remove_done f m (n - 1) b z (rw f.row v) in
-      let w : EntryRemoved (some e) ≡ (call l (Remove k)).answer = ap (λ (x : CacheEntry). EntryRemoved (some x)) a ∙ (rw f.row at d.answer) in
+      let w : EntryRemoved (Some e) ≡ (call l (Remove k)).answer = ap (λ (x : CacheEntry). EntryRemoved (Some x)) a ∙ (rw f.row at d.answer) in
       (w, ap entry_given w, d.memory)
 
-  pub removed_absent : Found k n none l → (e : CacheEntry) → Bytes l → e ≡ blank_entry → Removed l k Removal.Absent e l
+  pub removed_absent : Found k n None l → (e : CacheEntry) → Bytes l → e ≡ blank_entry → Removed l k Removal.Absent e l
   unfolding perform gives without_key removed_entry removal_said entry_given
   removed_absent f e b a =
       let d = remove_done f l n b refl (rw f.row) in
-      let w : EntryRemoved none ≡ (call l (Remove k)).answer = rw f.row at d.answer in
+      let w : EntryRemoved None ≡ (call l (Remove k)).answer = rw f.row at d.answer in
       (w, a ∙ ap entry_given w, d.memory)
 
 -- number 1

@@ -2,7 +2,7 @@
 use mathlib.Core.Path.{◌≡◌, refl, sym, ap, ◌∙◌}
 use Prim.Native.Nat.{ℕ, ◌-◌}
 use mathlib.Core.List.{List}
-use mathlib.Core.Option.{Option, none, some}
+use Rattle.std.specs.Prelude.{Option, None, Some}
 use mathlib.Core.Bool.{Bool, true, false, cond}
 use lib.ListN.{length}
 use Rattle.types.specs.declared.node_addr.NodeAddr.{NodeAddr}
@@ -53,17 +53,17 @@ module _ (l : List ℕ) (n i time : ℕ) (m : List ℕ) where
 
 -- ---- the call
 
-touch_says_lem : (k : NodeAddr) (time : ℕ) (s : State) (i : ℕ) → find k s.rows ≡ some i → length (elements (row_at i s.rows).entry.path) ≡ (row_at i s.rows).entry.path.len
+touch_says_lem : (k : NodeAddr) (time : ℕ) (s : State) (i : ℕ) → find k s.rows ≡ Some i → length (elements (row_at i s.rows).entry.path) ≡ (row_at i s.rows).entry.path.len
     → touch_answer (perform s (GetAndTouch k time)).answer ≡ touch_says i time s
 unfolding perform gives get unexpired_row touch_answer touch_says
 touch_says_lem k time s i e f = rw e (go (expired time (row_at i s.rows).entry))
   where
-    go : (b : Bool) → maybe (maybe (cond b none (some i)) none (λ j. some (elements (row_at j s.rows).entry.path))) TouchAnswer.Absent (λ es. TouchAnswer.Found (length es))
+    go : (b : Bool) → maybe (maybe (cond b None (Some i)) None (λ j. Some (elements (row_at j s.rows).entry.path))) TouchAnswer.Absent (λ es. TouchAnswer.Found (length es))
         ≡ cond b TouchAnswer.Absent (TouchAnswer.Found (row_at i s.rows).entry.path.len)
     go true = refl
     go false = ap TouchAnswer.Found f
 
-touch_allowed : (l : List ℕ) (k : NodeAddr) (time : ℕ) → sound (capacity l) (view l) ≡ true → refusal (capacity l) (view l) (Asked (GetAndTouch k time)) ≡ none
+touch_allowed : (l : List ℕ) (k : NodeAddr) (time : ℕ) → sound (capacity l) (view l) ≡ true → refusal (capacity l) (view l) (Asked (GetAndTouch k time)) ≡ None
 unfolding path_given verified_write draws_stamps
 touch_allowed l k time h = not_refused l (GetAndTouch k time) h refl refl refl
 
@@ -77,9 +77,9 @@ replied R s k time = go (refusal R s (Asked (GetAndTouch k time))) (get k time s
   where
     go : (o : Option ℕ) (p : Option (List CoordEntry)) → touch_reply (touch_answer (maybe o (gives (PathFound p) (touched k time s)) (λ n. gives (Refused n) s)).answer)
         ≡ reply (maybe o (gives (PathFound p) (touched k time s)) (λ n. gives (Refused n) s)).answer
-    go none none = refl
-    go none (some es) = refl
-    go (some n) p = refl
+    go None None = refl
+    go None (Some es) = refl
+    go (Some n) p = refl
 
 told : (l : List ℕ) (k : NodeAddr) (time : ℕ) (r : TouchAnswer) (m : List ℕ) → r ≡ touch_answer (call l (GetAndTouch k time)).answer → m ≡ (call l (GetAndTouch k time)).memory → Told l k time r m
 unfolding lent
@@ -90,14 +90,14 @@ module _ {k : NodeAddr} {n : ℕ} {l : List ℕ} (time : ℕ) where
       → view_rows j m ≡ (perform (view_rows n l) (GetAndTouch k time)).state → Answered l n (GetAndTouch k time) m
   touch_done f m j b z v = done_rows f.memory (GetAndTouch k time) m j (touch_allowed l k time f.sound) b z v
 
-  pub touched_at_lem : {i : ℕ} → Found k n (some i) l → (r : TouchAnswer) (m : List ℕ) → Bytes m → length m ≡ length l → Touched l n i time r m → Told l k time r m
+  pub touched_at_lem : {i : ℕ} → Found k n (Some i) l → (r : TouchAnswer) (m : List ℕ) → Bytes m → length m ≡ length l → Touched l n i time r m → Told l k time r m
   unfolding perform gives touched touched_at
   touched_at_lem {i} f r m b z v =
       let d = touch_done f m (length (touched_at i time (view_rows n l)).rows) b z (rw f.row v.1) in
       let a = touch_says_lem k time (view_rows n l) i f.row (elements_length n i l (inside f) (path_short f)) in
       told l k time r m (v.0 ∙ sym a ∙ ap touch_answer d.answer) d.memory
 
-  pub touched_absent : Found k n none l → Bytes l → Told l k time TouchAnswer.Absent l
+  pub touched_absent : Found k n None l → Bytes l → Told l k time TouchAnswer.Absent l
   unfolding perform gives touched get unexpired_row touch_answer
   touched_absent f b =
       let d = touch_done f l n b refl (rw f.row) in

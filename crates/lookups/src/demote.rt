@@ -9,7 +9,6 @@ ghost use Rattle.rules.specs.Layout.{head_size, row_size};
 ghost use Rattle.lookups.specs.KeyedSteps.{demoted_at};
 ghost use Rattle.types.specs.Values.{largest_number};
 
-use search::outcome::Search;
 use types::answers::DemoteAnswer;
 use types::node_addr::NodeAddr;
 
@@ -35,11 +34,11 @@ pub fn demote_unchecked(state: &mut [u8], key: NodeAddr) -> DemoteAnswer
     let n = memory::head::row_count(state) as usize;
     let at = search::keys::search(state, n, key);
     match at {
-        Search::At(i) => {
+        Ok(i) => {
             demote_at(state, n, i);
             DemoteAnswer::Held(true)
         }
-        Search::Absent(_) => DemoteAnswer::Held(false),
+        Err(_) => DemoteAnswer::Held(false),
     }
 }
 

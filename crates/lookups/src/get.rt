@@ -8,7 +8,6 @@ ghost use Rattle.rules.specs.Lent.{call, got_part};
 ghost use Rattle.lookups.specs.Steps.{StandsAt};
 
 use entries::path::PathPlace;
-use search::outcome::Search;
 use types::node_addr::NodeAddr;
 
 // Nothing is found.
@@ -26,13 +25,13 @@ pub fn get_place(state: &[u8], key: NodeAddr, time: u64) -> PathPlace
     let n = memory::head::row_count(state) as usize;
     let at = search::keys::search(state, n, key);
     match at {
-        Search::At(i) => {
+        Ok(i) => {
             if entries::times::is_expired(state, n, i, time) {
                 return no_path();
             }
             entries::path::path_place(state, n, i)
         }
-        Search::Absent(_) => no_path(),
+        Err(_) => no_path(),
     }
 }
 

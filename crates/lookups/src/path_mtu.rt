@@ -6,7 +6,6 @@ ghost use Rattle.rules.specs.Answers.{refusal_of};
 ghost use Rattle.rules.specs.Memory.{capacity, view};
 ghost use Rattle.rules.specs.Lent.{call};
 
-use search::outcome::Search;
 use types::node_addr::NodeAddr;
 
 pub fn clear_path_mtu_unchecked(state: &mut [u8], key: NodeAddr) -> u8
@@ -16,11 +15,11 @@ pub fn clear_path_mtu_unchecked(state: &mut [u8], key: NodeAddr) -> u8
     let n = memory::head::row_count(state) as usize;
     let at = search::keys::search(state, n, key);
     match at {
-        Search::At(i) => {
+        Ok(i) => {
             memory::row::drop_mtu(state, n, i);
             0
         }
-        Search::Absent(_) => 0,
+        Err(_) => 0,
     }
 }
 

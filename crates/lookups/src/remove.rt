@@ -6,7 +6,6 @@ ghost use Rattle.rules.specs.Answers.{blank_entry, removal_said, entry_given};
 ghost use Rattle.rules.specs.Memory.{capacity, view};
 ghost use Rattle.rules.specs.Lent.{call};
 
-use search::outcome::Search;
 use types::answers::{Removal, RemoveAnswer};
 use types::coord::Path;
 use types::entry::{CacheEntry, CoordSource, PathMtu};
@@ -34,7 +33,7 @@ pub fn remove_unchecked(state: &mut [u8], key: NodeAddr) -> RemoveAnswer
     let n = memory::head::row_count(state) as usize;
     let at = search::keys::search(state, n, key);
     match at {
-        Search::At(i) => {
+        Ok(i) => {
             let entry = entries::entry::load_entry(state, n, i);
             memory::rows::remove_row(state, n, i);
             RemoveAnswer {
@@ -42,7 +41,7 @@ pub fn remove_unchecked(state: &mut [u8], key: NodeAddr) -> RemoveAnswer
                 entry: entry,
             }
         }
-        Search::Absent(_) => RemoveAnswer {
+        Err(_) => RemoveAnswer {
             removal: Removal::Absent,
             entry: blank_entry(),
         },

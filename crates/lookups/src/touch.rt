@@ -14,7 +14,6 @@ ghost use Rattle.lookups.specs.Steps.{touched_at, touch_says, touched_place, Sta
 
 use crate::get::no_path;
 use entries::path::PathPlace;
-use search::outcome::Search;
 use types::answers::TouchAnswer;
 use types::node_addr::NodeAddr;
 
@@ -49,8 +48,8 @@ pub fn touch_unchecked(state: &mut [u8], key: NodeAddr, time: u64) -> TouchAnswe
     let n = memory::head::row_count(state) as usize;
     let at = search::keys::search(state, n, key);
     match at {
-        Search::At(i) => touch_at(state, n, i, time),
-        Search::Absent(_) => TouchAnswer::Absent,
+        Ok(i) => touch_at(state, n, i, time),
+        Err(_) => TouchAnswer::Absent,
     }
 }
 
@@ -85,8 +84,8 @@ pub fn touch_place(state: &mut [u8], key: NodeAddr, time: u64) -> PathPlace
     let n = memory::head::row_count(state) as usize;
     let at = search::keys::search(state, n, key);
     match at {
-        Search::At(i) => touch_row(state, n, i, time),
-        Search::Absent(_) => no_path(),
+        Ok(i) => touch_row(state, n, i, time),
+        Err(_) => no_path(),
     }
 }
 

@@ -31,7 +31,7 @@ use Rattle.rules.proofs.Others.{take_out_gone, take_out_seq, take_out_limits, ta
 use Rattle.rules.specs.Layout.{head_size, number_limit, row_size}
 use Rattle.rules.proofs.Foreign.{view_length}
 use Rattle.memory.proofs.Fields.{row_at_lem}
-use Rattle.stamps.specs.declared.lowest.Lowest.TheVariants.{Nothing}
+use Rattle.std.specs.Prelude.{None}
 use Rattle.room.specs.declared.victims.Room.{Room as RoomAnswer}
 use Rattle.room.specs.Rooms.{room_of, without_victim, Without}
 use Rattle.room.proofs.RoomToFile.{shown, laid_out, free_in_probation, reached_without}
@@ -98,7 +98,7 @@ module _ {k : NodeAddr} {n i : ℕ} {l m : List ℕ} (u : Out k n i l m) where
     limits_kept = made.limits ∙ rw u.state (take_out_limits i (view_rows n l))
 
     -- the row that was taken out left one free
-    freed : (b : Bool) → in_main (row_in n i l) ≡ b → r.victim ≡ Nothing → r.rows < capacity x
+    freed : (b : Bool) → in_main (row_in n i l) ≡ b → r.victim ≡ None → r.rows < capacity x
     freed true e v =
         let a : main_count (view_rows (n - 1) m) + 1 ≡ main_count (view_rows n l) = rw u.state (take_out_main i (view_rows n l) inside e) in
         free_main k (n - 1) m x time w r out_without so (omega (arith, ap probation_of limits_kept, capacity_same l m u.size, made.mains, a, whole.mains)) v
@@ -113,7 +113,7 @@ module _ {k : NodeAddr} {n i : ℕ} {l m : List ℕ} (u : Out k n i l m) where
     out_takes {b = b} h = takes k (n - 1) m x time w r out_without so (freed b h.main) (out_seq h.seq)
 
     -- nothing was made, and no victim left
-    pub unmade : (stated : Bool) → r.made || stated ≡ false → r.victim ≡ Nothing
+    pub unmade : (stated : Bool) → r.made || stated ≡ false → r.victim ≡ None
     unmade stated h = so.none (go r.made refl)
       where
         go : (b : Bool) → r.made ≡ b → r.made ≡ false

@@ -16,7 +16,7 @@ use Rattle.rules.specs.Memory.{capacity, view_rows}
 use Rattle.rules.proofs.Moves.{ProbationRoomMade, probation_evict}
 use Rattle.memory.proofs.RowLaws.{view_length}
 use Rattle.stamps.specs.Walked.{walk_from}
-use Rattle.stamps.specs.declared.lowest.Lowest.TheVariants.{Nothing}
+use Rattle.std.specs.Prelude.{None}
 use Rattle.room.specs.declared.victims.Room.{Room as RoomAnswer}
 use Rattle.room.specs.declared.probation.ProbationRoom.{ProbationRoom}
 use Rattle.room.specs.Rooms.{without_victim, Leaves, Without, StampsLeft}
@@ -66,7 +66,7 @@ module _ {k : NodeAddr} {n : ℕ} {r : ProbationRoom} {l m : List ℕ} (s : Room
       let v = probation_visits_lem (view_rows n l).rows in
       omega (arith, ap (λ (x : Walk). x.examined) s.walk, made.evicted.done, view_length n l, few n l s.without.sound)
 
-  free : r.victim ≡ Nothing → Without k n m × (n < capacity m)
+  free : r.victim ≡ None → Without k n m × (n < capacity m)
   free e =
       let g = sym (without_none r.victim (view_rows n m) e) ∙ left_state in
       let u = made.evicted in

@@ -26,7 +26,7 @@ use Rattle.refusals.proofs.WriteRefusals.{Passed, write_refused, hint_allowed}
 use Rattle.placement.specs.declared.hint.KeyRow.{KeyRow}
 use Rattle.placement.specs.Hints.{Places, HeldAt, NewIn, Stands}
 use Rattle.room.specs.Rooms.{Without}
-use mathlib.Core.Option.{some}
+use Rattle.std.specs.Prelude.{Some, Result, Ok, Err}
 use Rattle.rules.specs.Rows.{find}
 use Rattle.rules.specs.Entries.{expired}
 use Rattle.rules.proofs.SoundTest.{ascends_test}
@@ -34,8 +34,6 @@ use Rattle.rules.proofs.RowLists.{find_at}
 use Rattle.rules.proofs.Others.{take_out_seq}
 use Rattle.rules.specs.Layout.{head_size, row_size}
 use Rattle.memory.proofs.RowLaws.{view_length}
-use Rattle.search.specs.declared.outcome.Search.{Search}
-use Rattle.search.specs.declared.outcome.Search.TheVariants.{At, Absent}
 use Rattle.search.specs.ByKey.{searched}
 use Rattle.search.proofs.SearchLaws.{at_found, absent_none}
 use Rattle.room.proofs.RoomToFile.{shown, laid_out}
@@ -47,18 +45,18 @@ pub search_asks : (n : ℕ) (l : List ℕ) → sound (capacity l) (view_rows n l
 search_asks n l h = (ascends_test (view_rows n l).rows (shown n l h).rising, laid_out n l h)
 
 -- r is what a search for key k found among the n rows of memory l
-pub record Searched (k : NodeAddr) (n : ℕ) (r : Search) (l : List ℕ) : Type 0 where
+pub record Searched (k : NodeAddr) (n : ℕ) (r : Result ℕ ℕ) (l : List ℕ) : Type 0 where
   pub sound : sound (capacity l) (view_rows n l) ≡ true
   pub found : r ≡ searched k (view_rows n l).rows
 
-module _ {k : NodeAddr} {n i : ℕ} {r : Search} {l : List ℕ} (s : Searched k n r l) where
-  found_at : r ≡ At i → find k (view_rows n l).rows ≡ some i
+module _ {k : NodeAddr} {n i : ℕ} {r : Result ℕ ℕ} {l : List ℕ} (s : Searched k n r l) where
+  found_at : r ≡ Ok i → find k (view_rows n l).rows ≡ Some i
   found_at g = at_found k (view_rows n l).rows i (sym s.found ∙ g)
 
-  pub holds_found : r ≡ At i → Holds k n i l
+  pub holds_found : r ≡ Ok i → Holds k n i l
   holds_found g = let a = find_at k (view_rows n l).rows i (found_at g) in record { sound = s.sound; inside = rw (← (view_length n l)) a.inside; key = a.key }
 
-  module _ {time : ℕ} {b : Bool} (g : r ≡ At i) (x : b ≡ expired time (row_in n i l).entry) where
+  module _ {time : ℕ} {b : Bool} (g : r ≡ Ok i) (x : b ≡ expired time (row_in n i l).entry) where
     pub held_here : b ≡ false → HeldAt k time n i l l
     unfolding place_hint
     held_here f = record { same = refl; holds = holds_found g; placed = λ p ttl u stated. rw (found_at g, ← x, f) }
@@ -67,7 +65,7 @@ module _ {k : NodeAddr} {n i : ℕ} {r : Search} {l : List ℕ} (s : Searched k 
     unfolding place_hint
     new_expired f o = record { without = out_without o; seq = rw o.state (take_out_seq i (view_rows n l)); placed = λ p ttl u stated. rw (found_at g, ← x, f, o.state) }
 
-  pub new_missing : (time : ℕ) → r ≡ Absent i → NewIn k time n n l l
+  pub new_missing : (time : ℕ) → r ≡ Err i → NewIn k time n n l l
   unfolding place_hint
   new_missing time g =
       let a = absent_none k (view_rows n l).rows i (sym s.found ∙ g) in

@@ -1,6 +1,5 @@
 -- The four calls that place a hint, as one; and what its first step finds.
-use Rattle.std.specs.Prelude.{◌≡◌, List, Bool, true, ℕ}
-use Rattle.std.proofs.Math.Option.{none, some}
+use Rattle.std.specs.Prelude.{◌≡◌, List, Bool, true, ℕ, None, Some}
 use Rattle.types.specs.declared.node_addr.NodeAddr.{NodeAddr}
 use Rattle.types.specs.declared.coord.Path.{Path}
 use Rattle.types.specs.declared.placed.Funding.{Funding}
@@ -16,9 +15,9 @@ use Rattle.placement.specs.declared.hint.KeyRow.TheVariants.{At, New}
 
 -- call q, on state s, places this hint
 pub record Places (q : Call) (k : NodeAddr) (p : Path) (time ttl : ℕ) (f : Funding) (stated : Bool) (s : State) : Type 0 where
-  pub path : path_given q ≡ some p
+  pub path : path_given q ≡ Some p
   pub stamps : draws_stamps q ≡ true
-  pub unverified : verified_write q ≡ none
+  pub unverified : verified_write q ≡ None
   pub does : perform s q ≡ hinted (place_hint k p time ttl f stated s)
 
 -- row i of n is that of key k, and not expired; memory l is left as it was

@@ -10,7 +10,6 @@ ghost use Rattle.placement.specs.Hints.{Places, Stands};
 use crate::held_key::place_held;
 use crate::new_key::place_new;
 use memory::rows::remove_row;
-use search::outcome::Search;
 use types::answers::HintAnswer;
 use types::coord::Path;
 use types::node_addr::NodeAddr;
@@ -30,14 +29,14 @@ fn remove_expired(state: &mut [u8], n: usize, key: NodeAddr, time: u64) -> KeyRo
 {
     let at = search::keys::search(state, n, key);
     match at {
-        Search::At(i) => {
+        Ok(i) => {
             if entries::times::is_expired(state, n, i, time) {
                 remove_row(state, n, i);
                 return KeyRow::New(n - 1);
             }
             KeyRow::At(i)
         }
-        Search::Absent(_) => KeyRow::New(n),
+        Err(_) => KeyRow::New(n),
     }
 }
 

@@ -19,7 +19,6 @@ use filing::in_room::file_in_room;
 use memory::codes::{BY_USE, PROBATION};
 use room::probation::make_probation_room;
 use room::victims::make_room;
-use stamps::lowest::Lowest;
 use types::coord::Path;
 use types::node_addr::NodeAddr;
 use types::placed::{Funding, HintOutcome, Placed, Segment};
@@ -70,7 +69,7 @@ fn new_in_probation(
 fn new_in_main(
     state: &mut [u8],
     n: usize,
-    victim: Lowest,
+    victim: Option<usize>,
     stored: u64,
     key: NodeAddr,
     path: Path,

@@ -1,9 +1,12 @@
 -- A refusal, as each call says it.
-use mathlib.Core.Path.{◌≡◌, sym, ap, ◌∙◌}
+use mathlib.Core.Path.{◌≡◌, refl, sym, ap, ◌∙◌}
 use Prim.Native.Nat.{ℕ}
 use mathlib.Core.List.{List}
-use mathlib.Core.Option.{some}
-use mathlib.Core.Bool.{Bool, true, false}
+use Rattle.std.specs.Prelude.{Some, Result, Ok, Err}
+use mathlib.Core.Bool.{Bool, true, false, cond}
+use Rattle.types.specs.declared.refusal.Refusal.{Refusal}
+use Rattle.types.specs.declared.refusal.Refusal.TheVariants.{UnsoundState}
+use Rattle.types.specs.Values.{refusal_code}
 use Rattle.rules.specs.Sound.{sound}
 use Rattle.rules.specs.Calls.{Call, Refused}
 use Rattle.rules.specs.Refusals.{Asked, refusal}
@@ -13,22 +16,32 @@ use Rattle.rules.specs.Lent.{call}
 use Rattle.rules.proofs.Refused.{refused_one}
 use Rattle.rules.proofs.Public.{call_refused}
 
-pub said : (l : List ℕ) (q : Call) (n : ℕ) → refusal (capacity l) (view l) (Asked q) ≡ some n → (Refused n ≡ (call l q).answer) × (l ≡ (call l q).memory)
+pub said : (l : List ℕ) (q : Call) (n : ℕ) → refusal (capacity l) (view l) (Asked q) ≡ Some n → (Refused n ≡ (call l q).answer) × (l ≡ (call l q).memory)
 said l q n e = let u = call_refused l q n e in (sym u.answer, sym u.memory)
 
--- the test of every public call: b is what is_sound answers
-module _ (l : List ℕ) {b : Bool} (e : b ≡ sound (capacity l) (view l)) where
+-- the test of every public call: a is what check_sound answers
+module _ (l : List ℕ) {a : Result (Unit {0}) Refusal} (e : a ≡ cond (sound (capacity l) (view l)) (Ok tt) (Err UnsoundState)) where
   -- the call goes on
-  pub checked : b ≡ true → sound (capacity l) (view l) ≡ true
-  checked h = sym e ∙ h
+  pub checked : {u : Unit {0}} → a ≡ Ok u → sound (capacity l) (view l) ≡ true
+  checked h = go (sound (capacity l) (view l)) (sym h ∙ e)
+    where
+      go : {u : Unit {0}} (b : Bool) → Ok u ≡ cond b (Ok (tt {0})) (Err UnsoundState) → b ≡ true
+      go true x = refl
+      go false x = absurd (cc)
 
   -- or is refused by number 1
-  pub unsound : b ≡ false → sound (capacity l) (view l) ≡ false
-  unsound h = sym e ∙ h
+  pub unsound : {r : Refusal} → a ≡ Err r → (sound (capacity l) (view l) ≡ false) × (r ≡ UnsoundState)
+  unsound h = go (sound (capacity l) (view l)) (sym h ∙ e)
+    where
+      go : {r : Refusal} (b : Bool) → Err r ≡ cond b (Ok (tt {0})) (Err UnsoundState) → (b ≡ false) × (r ≡ UnsoundState)
+      go true x = absurd (cc)
+      go false x = (refl, cc)
 
-  pub one_said : (q : Call) → b ≡ false → (Refused 1 ≡ (call l q).answer) × (l ≡ (call l q).memory)
-  one_said q h = said l q 1 (refused_one (capacity l) (view l) q (unsound h))
+  pub one_said : (q : Call) {r : Refusal} → a ≡ Err r → (Refused (refusal_code r) ≡ (call l q).answer) × (l ≡ (call l q).memory)
+  one_said q {r} h = let u = unsound h in rw u.1 (said l q 1 (refused_one (capacity l) (view l) q u.0))
 
+-- the same of a call that asks is_sound itself: b is what it answers
+module _ (l : List ℕ) {b : Bool} (e : b ≡ sound (capacity l) (view l)) where
   pub one_numbered : (q : Call) → b ≡ false → (1 ≡ refusal_of (call l q).answer) × (l ≡ (call l q).memory)
   unfolding refusal_of
-  one_numbered q h = let u = one_said q h in (ap refusal_of u.0, u.1)
+  one_numbered q h = let u = said l q 1 (refused_one (capacity l) (view l) q (sym e ∙ h)) in (ap refusal_of u.0, u.1)

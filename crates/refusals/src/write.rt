@@ -5,6 +5,7 @@ ghost use Rattle.rules.specs.Layout.{head_size};
 ghost use Rattle.refusals.specs.Writes.{write_refusal};
 
 use types::coord::{PLACES, Path};
+use types::refusal::Refusal;
 use types::reply::LARGEST_NUMBER;
 
 // Every call draws fewer stamps.
@@ -13,17 +14,17 @@ const STAMPS_OF_CALL: u64 = 4096;
 // The largest seq at which stamps are drawn.
 pub const LAST_SEQ: u64 = LARGEST_NUMBER - STAMPS_OF_CALL;
 
-// The number by which a call that takes a path and draws stamps is refused before any row is read: 2 or 3, else 0.
-pub fn write_refusal(state: &[u8], path: Path) -> u8
+// Why a call that takes a path and draws stamps is refused before any row is read: for its path, else for its stamps.
+pub fn write_refusal(state: &[u8], path: Path) -> Result<(), Refusal>
     requires { head_size ≤ length state.now }
     ensures { result ≡ write_refusal path (view state.now) }
 {
     let len = path.len;
     if (len == 0) | (PLACES < len) {
-        return 2;
+        return Err(Refusal::PathLength);
     }
     if LAST_SEQ < memory::head::seq(state) {
-        return 3;
+        return Err(Refusal::StampsSpent);
     }
-    0
+    Ok(())
 }

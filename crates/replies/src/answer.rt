@@ -1,91 +1,119 @@
-// 01's number and five values for each case of what a call returns.
-ghost use Rattle.std.specs.Prelude.{◌≡◌};
-ghost use Rattle.types.specs.declared.entry.CacheEntry.{CacheEntry};
-ghost use Rattle.rules.specs.Answers.{hint_said, verified_said, touch_reply, removal_said, demote_said, sweep_said, stats_said, expiry_said};
+// 01's number and five values for what a call returns.
+#![tactic(auto, unfolding(rules::specs::Commands::reply, rules::specs::Answers::touch_reply, types::specs::Values::placed_reply, types::specs::Values::verified_reply, types::specs::Values::stats_reply, types::specs::Values::bit))]
+
+ghost use Rattle.std.specs.Prelude.{◌≡◌, ℕ, Bool, Option, Result};
+ghost use Rattle.types.specs.declared.entry.CacheEntry.{CacheEntry as Entry};
+ghost use Rattle.rules.specs.Answers.{said, done, touch_reply};
+ghost use Rattle.rules.specs.Calls.{Answer, Hinted, VerifiedDone, EntryRemoved, KeyHeld, RowsRemoved, StatsGiven, ExpiryGiven};
 ghost use Rattle.rules.specs.Commands.{reply};
 
-use types::answers::{
-    DemoteAnswer, ExpiryAnswer, HintAnswer, Removal, StatsAnswer, SweepAnswer, TouchAnswer,
-    VerifiedAnswer,
-};
-use types::reply::{Reply, refused, says};
+use types::entry::CacheEntry;
+use types::placed::{Placed, VerifiedInsert};
+use types::refusal::Refusal;
+use types::reply::{Reply, says};
+use types::stats::CacheStats;
 
-pub fn hint_reply(answer: HintAnswer) -> Reply
-    ensures { result ≡ reply (hint_said answer) }
-{
-    match answer {
-        HintAnswer::Refused(n) => refused(n),
-        HintAnswer::Placed(p) => p.reply(),
+// What a call that was done tells: an answer of the rules, and the five values that stand for it.
+pub trait Told {
+    ghost answer: { Self → Answer };
+
+    fn reply(self) -> Reply
+        ensures { result ≡ reply (answer self) };
+}
+
+// A hint: outcome, added weight, segment, unfunded, examined.
+impl Told for Placed {
+    ghost answer = { Hinted };
+
+    fn reply(self) -> Reply {
+        says(
+            u64::from(self.outcome),
+            self.added_weight,
+            u64::from(self.segment),
+            u64::from(self.unfunded),
+            self.examined,
+        )
     }
 }
 
-pub fn verified_reply(answer: VerifiedAnswer) -> Reply
-    ensures { result ≡ reply (verified_said answer) }
-{
-    match answer {
-        VerifiedAnswer::Refused(n) => refused(n),
-        VerifiedAnswer::Done(v) => v.reply(),
+// A verified insert: 0, weight, 0, 0, examined.
+impl Told for VerifiedInsert {
+    ghost answer = { VerifiedDone };
+
+    fn reply(self) -> Reply {
+        says(0, self.weight, 0, 0, self.examined)
     }
 }
 
-// found, length
-pub fn touch_reply(answer: TouchAnswer) -> Reply
+// remove: found, whatever the entry is.
+impl Told for Option<CacheEntry> {
+    ghost answer = { EntryRemoved };
+
+    fn reply(self) -> Reply {
+        says(u64::from(self.is_some()), 0, 0, 0, 0)
+    }
+}
+
+// demote: whether the key is held.
+impl Told for bool {
+    ghost answer = { KeyHeld };
+
+    fn reply(self) -> Reply {
+        says(u64::from(self), 0, 0, 0, 0)
+    }
+}
+
+// A sweep: how many rows were removed.
+impl Told for u64 {
+    ghost answer = { RowsRemoved };
+
+    fn reply(self) -> Reply {
+        says(self, 0, 0, 0, 0)
+    }
+}
+
+// The next expiry: whether a row is held, and the time.
+impl Told for Option<u64> {
+    ghost answer = { ExpiryGiven };
+
+    fn reply(self) -> Reply {
+        says(u64::from(self.is_some()), self.unwrap_or(0), 0, 0, 0)
+    }
+}
+
+impl Told for CacheStats {
+    ghost answer = { StatsGiven };
+
+    fn reply(self) -> Reply {
+        says(self.entries, self.max_entries, self.expired, self.avg_age_ms, 0)
+    }
+}
+
+// fresh, clear and clear_path_mtu tell no more than that they are done.
+impl Told for () {
+    ghost answer = { done };
+
+    fn reply(self) -> Reply {
+        says(0, 0, 0, 0, 0)
+    }
+}
+
+pub fn reply<T: Told>(answer: Result<T, Refusal>) -> Reply
+    ensures { result ≡ reply (said T.answer answer) }
+{
+    match answer {
+        Ok(value) => value.reply(),
+        Err(refusal) => Reply::from(refusal),
+    }
+}
+
+// touch: found, and the length.
+pub fn touch_reply(answer: Result<Option<u64>, Refusal>) -> Reply
     ensures { result ≡ touch_reply answer }
 {
     match answer {
-        TouchAnswer::Refused(n) => refused(n),
-        TouchAnswer::Found(len) => says(1, len, 0, 0, 0),
-        TouchAnswer::Absent => says(0, 0, 0, 0, 0),
-    }
-}
-
-// found, whatever the entry is
-pub fn remove_reply(removal: Removal) -> Reply
-    ensures { (e : CacheEntry) → result ≡ reply (removal_said removal e) }
-{
-    match removal {
-        Removal::Refused(n) => refused(n),
-        Removal::Removed => says(1, 0, 0, 0, 0),
-        Removal::Absent => says(0, 0, 0, 0, 0),
-    }
-}
-
-// found
-pub fn demote_reply(answer: DemoteAnswer) -> Reply
-    ensures { result ≡ reply (demote_said answer) }
-{
-    match answer {
-        DemoteAnswer::Refused(n) => refused(n),
-        DemoteAnswer::Held(b) => says(b as u64, 0, 0, 0, 0),
-    }
-}
-
-// removed
-pub fn sweep_reply(answer: SweepAnswer) -> Reply
-    ensures { result ≡ reply (sweep_said answer) }
-{
-    match answer {
-        SweepAnswer::Refused(n) => refused(n),
-        SweepAnswer::Removed(n) => says(n, 0, 0, 0, 0),
-    }
-}
-
-pub fn stats_reply(answer: StatsAnswer) -> Reply
-    ensures { result ≡ reply (stats_said answer) }
-{
-    match answer {
-        StatsAnswer::Refused(n) => refused(n),
-        StatsAnswer::Stats(s) => s.reply(),
-    }
-}
-
-// present, time
-pub fn expiry_reply(answer: ExpiryAnswer) -> Reply
-    ensures { result ≡ reply (expiry_said answer) }
-{
-    match answer {
-        ExpiryAnswer::Refused(n) => refused(n),
-        ExpiryAnswer::At(t) => says(1, t, 0, 0, 0),
-        ExpiryAnswer::Never => says(0, 0, 0, 0, 0),
+        Ok(Some(len)) => says(1, len, 0, 0, 0),
+        Ok(None) => says(0, 0, 0, 0, 0),
+        Err(refusal) => Reply::from(refusal),
     }
 }

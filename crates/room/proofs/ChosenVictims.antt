@@ -3,7 +3,7 @@ use mathlib.Core.Path.{◌≡◌, refl, sym, ap, ◌∙◌, subst}
 use Prim.Native.Nat.{ℕ, zero, suc, ◌+◌, ◌-◌, ◌≤◌, ◌<◌, ◌*◌}
 use native.Mathlib.Omega.{arith}
 use mathlib.Core.List.{List}
-use mathlib.Core.Option.{Option, none, some}
+use Rattle.std.specs.Prelude.{Option, None, Some}
 use mathlib.Core.Bool.{Bool, true, false, cond, ◌&&◌}
 use lib.Dec.{ltb, leb}
 use lib.ListN.{length}
@@ -23,11 +23,9 @@ use Rattle.rules.proofs.Walks.{Ends, Led, next_led, start_led, main_of, next_res
 use Rattle.rules.proofs.Loops.{choosing, choose_done, choose_none, choose_more}
 use Rattle.memory.proofs.Fields.{same_head}
 use Rattle.memory.proofs.RowLaws.{view_length}
-use Rattle.stamps.specs.declared.lowest.Lowest.{Lowest}
-use Rattle.stamps.specs.declared.lowest.Lowest.TheVariants.{At, Nothing}
 use Rattle.stamps.specs.declared.lowest.LowestOfMain.{LowestOfMain}
 use Rattle.stamps.specs.declared.walk.Victim.{Victim as VictimAnswer}
-use Rattle.stamps.specs.Walked.{lowest_of, walk_from, sought_of, MainIs}
+use Rattle.stamps.specs.Walked.{walk_from, sought_of, MainIs}
 use Rattle.room.specs.Rooms.{LastAside, SetAside}
 use Rattle.room.proofs.ClosedForm.{sound_small}
 use Rattle.room.proofs.RowsAside.{last_start, last_turn}
@@ -67,16 +65,16 @@ lapsed_same now (suc n) w = by_maybe (Same w) (lowest_stamp parked w.state.rows)
 -- and a victim stands by use
 pub record Yields (w : Walk) (x : Sought) : Type 0 where
   pub same : Same w x.walk
-  pub there : (i : ℕ) → x.victim ≡ some i → (i < length x.walk.state.rows) × (at_place by_use (row_at i x.walk.state.rows) ≡ true)
+  pub there : (i : ℕ) → x.victim ≡ Some i → (i < length x.walk.state.rows) × (at_place by_use (row_at i x.walk.state.rows) ≡ true)
 
 yields_more : (w y : Walk) (x : Sought) → Same w y → Yields y x → Yields w x
 yields_more w y x a b = record { same = same_more w y x.walk a b.same; there = b.there }
 
-yields_none : (w : Walk) → Yields w (sought none w)
+yields_none : (w : Walk) → Yields w (sought None w)
 unfolding sought
 yields_none w = record { same = record { stored_weight = refl; row_count = refl; weights = refl }; there = λ i q. contradiction {b = true} refl (cc) }
 
-yields_some : (i : ℕ) (w : Walk) → i < length w.state.rows → at_place by_use (row_at i w.state.rows) ≡ true → Yields w (sought (some i) (take_up untouched i w))
+yields_some : (i : ℕ) (w : Walk) → i < length w.state.rows → at_place by_use (row_at i w.state.rows) ≡ true → Yields w (sought (Some i) (take_up untouched i w))
 unfolding sought take_up untouched
 yields_some i w l p =
     let rs = w.state.rows in
@@ -211,16 +209,8 @@ pub record Victim (q : Call) (count stored e i : ℕ) (y : List ℕ) : Type 0 wh
 pub record Came (q : Call) (count stored e : ℕ) (y : List ℕ) (r : VictimAnswer) : Type 0 where
   pub long : length y ≡ length q.memory
   pub keys : e + r.examined < number_limit
-  pub none_left : r.found ≡ Nothing → record { made = false; walk = walk_from (view_rows q.n y) (e + r.examined) } ≡ choosing q.now q.w (walk_from (given q) 0)
-  pub victim : {i : ℕ} → r.found ≡ At i → Victim q count stored (e + r.examined) i y
-
-nothing_is : (f : Lowest) → f ≡ Nothing → lowest_of f ≡ none
-unfolding lowest_of
-nothing_is f e = rw e
-
-at_is : (f : Lowest) (i : ℕ) → f ≡ At i → lowest_of f ≡ some i
-unfolding lowest_of
-at_is f i e = rw e
+  pub none_left : r.found ≡ None → record { made = false; walk = walk_from (view_rows q.n y) (e + r.examined) } ≡ choosing q.now q.w (walk_from (given q) 0)
+  pub victim : {i : ℕ} → r.found ≡ Some i → Victim q count stored (e + r.examined) i y
 
 pub came : {q : Call} {count stored last e : ℕ} {m y : List ℕ} {r : VictimAnswer} → Choice q count stored last e m → fits q count stored ≡ false → length y ≡ length m →
     sought_of r (view_rows q.n y) ≡ next_victim q.now (walk_from (view_rows q.n m) 0) → Came q count stored e y r
@@ -232,7 +222,7 @@ came {q} {count} {stored} {last} {e} {m} {y} {r} c f len a =
     let v = walk_from (view_rows q.n m) e in
     let u = view_rows q.n y in
     let z = walk_from u (e + r.examined) in
-    let o = lowest_of r.found in
+    let o = r.found in
     let n = next_from now e (view_rows q.n m) u r a in
     let k : Ends now s v (sought o z) = subst (Ends now s v) n (next_led now s v g.led) in
     let j : Yields v (sought o z) = subst (Yields v) n (next_yields now v) in
@@ -241,9 +231,9 @@ came {q} {count} {stored} {last} {e} {m} {y} {r} c f len a =
     record {
       long = len ∙ c.long;
       keys = bound o refl k;
-      none_left = λ b. sym (g.same ∙ choose_none now q.w v full (found ∙ nothing_is r.found b) ∙ ap (λ (x : Sought). record { made = false; walk = x.walk }) n);
+      none_left = λ b. sym (g.same ∙ choose_none now q.w v full (found ∙ b) ∙ ap (λ (x : Sought). record { made = false; walk = x.walk }) n);
       victim = λ {i} b.
-          let h = at_is r.found i b in
+          let h = b in
           let p = j.there i h in
           let ends = k.yields i h in
           let loss = aside_weight z i p.0 p.1 ∙ j.same.weights in
@@ -272,7 +262,7 @@ came {q} {count} {stored} {last} {e} {m} {y} {r} c f len a =
           };
     }
   where
-    bound : (o : Option ℕ) → lowest_of r.found ≡ o →
-        Ends q.now (given q) (walk_from (view_rows q.n m) e) (sought (lowest_of r.found) (walk_from (view_rows q.n y) (e + r.examined))) → e + r.examined < number_limit
-    bound none d k = omega (arith, c.stamps, (k.ended d).led.done)
-    bound (some i) d k = omega (arith, c.stamps, (k.yields i d).0.done)
+    bound : (o : Option ℕ) → r.found ≡ o →
+        Ends q.now (given q) (walk_from (view_rows q.n m) e) (sought r.found (walk_from (view_rows q.n y) (e + r.examined))) → e + r.examined < number_limit
+    bound None d k = omega (arith, c.stamps, (k.ended d).led.done)
+    bound (Some i) d k = omega (arith, c.stamps, (k.yields i d).0.done)

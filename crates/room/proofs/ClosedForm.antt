@@ -3,7 +3,7 @@ use mathlib.Core.Path.{◌≡◌, refl, sym, ◌∙◌, subst}
 use Prim.Native.Nat.{ℕ, ◌+◌, ◌*◌, ◌-◌, ◌≤◌, ◌<◌, min}
 use native.Mathlib.Omega.{arith}
 use mathlib.Core.List.{List, [], ◌∷◌}
-use mathlib.Core.Option.{Option, none, some}
+use Rattle.std.specs.Prelude.{Option, None, Some}
 use mathlib.Core.Bool.{Bool, true, false, cond, ◌&&◌}
 use lib.Dec.{ltb, leb}
 use lib.ListN.{length, drop}
@@ -133,8 +133,8 @@ closed_without_key now u k s m = go (find k s.rows) refl m
   where
     go : (o : Option ℕ) → find k s.rows ≡ o → maybe o false (λ i. in_main (row_at i s.rows)) ≡ false →
         room_can_be_made now u (maybe o s (λ i. take_out i s)) ≡ room_can_be_made now u s
-    go none e h = refl
-    go (some i) e h = closed_without now u i s (find_at k s.rows i e).inside h
+    go None e h = refl
+    go (Some i) e h = closed_without now u i s (find_at k s.rows i e).inside h
 
 -- ---- a walk takes up each row at most twice: with it callers know that seq does not run over
 

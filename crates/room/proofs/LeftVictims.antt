@@ -15,8 +15,7 @@ use Rattle.rules.proofs.RowLists.{Rising, cores, find_none, total_some, total_wi
 use Rattle.rules.proofs.SoundTest.{ascends_test}
 use Rattle.rules.proofs.GotPart.{find_gone}
 use Rattle.rules.proofs.Walks.{place_is}
-use Rattle.stamps.specs.declared.lowest.Lowest.{Lowest}
-use Rattle.stamps.specs.declared.lowest.Lowest.TheVariants.{At, Nothing}
+use Rattle.std.specs.Prelude.{Option, Some, None}
 use Rattle.room.specs.Rooms.{LeftAt, without_victim}
 
 -- ---- one victim, or none
@@ -35,17 +34,17 @@ left_at i w rs ts r e h m q l =
     }
 
 -- what holds of the victim, if there is one
-pub at_one : (P : ℕ → Type 0) (v : Lowest) (i : ℕ) → v ≡ At i → P i → (j : ℕ) → v ≡ At j → P j
+pub at_one : (P : ℕ → Type 0) (v : Option ℕ) (i : ℕ) → v ≡ Some i → P i → (j : ℕ) → v ≡ Some j → P j
 at_one P v i a p j b = let e : i ≡ j = cc in subst P e p
 
-pub at_none : (P : ℕ → Type 0) (v : Lowest) → v ≡ Nothing → (j : ℕ) → v ≡ At j → P j
+pub at_none : (P : ℕ → Type 0) (v : Option ℕ) → v ≡ None → (j : ℕ) → v ≡ Some j → P j
 at_none P v a j b = contradiction {b = true} refl (cc)
 
-pub without_at : (v : Lowest) (i : ℕ) (s : State) → v ≡ At i → without_victim v s ≡ take_out i s
+pub without_at : (v : Option ℕ) (i : ℕ) (s : State) → v ≡ Some i → without_victim v s ≡ take_out i s
 unfolding without_victim
 without_at v i s e = rw e
 
-pub without_none : (v : Lowest) (s : State) → v ≡ Nothing → without_victim v s ≡ s
+pub without_none : (v : Option ℕ) (s : State) → v ≡ None → without_victim v s ≡ s
 unfolding without_victim
 without_none v s e = rw e
 

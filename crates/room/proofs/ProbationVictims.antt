@@ -3,7 +3,7 @@ use mathlib.Core.Path.{◌≡◌, refl, sym, ap, ◌∙◌}
 use Prim.Native.Nat.{ℕ, zero, suc, ◌+◌, ◌*◌, ◌≤◌, ◌<◌}
 use native.Mathlib.Omega.{arith}
 use mathlib.Core.List.{List}
-use mathlib.Core.Option.{none, some}
+use Rattle.std.specs.Prelude.{None, Some, Option}
 use mathlib.Core.Bool.{Bool, true, false, cond}
 use lib.Dec.{ltb}
 use lib.ListN.{length}
@@ -21,11 +21,8 @@ use Rattle.rules.proofs.Moves.{restamp_sound, visits_of, visits_restamped}
 use Rattle.rules.proofs.Sizes.{few_rows, light}
 use Rattle.memory.proofs.Fields.{same_head}
 use Rattle.memory.proofs.RowLaws.{view_length}
-use Rattle.stamps.specs.declared.lowest.Lowest.{Lowest}
-use Rattle.stamps.specs.declared.lowest.Lowest.TheVariants.{At, Nothing}
 use Rattle.stamps.specs.declared.lowest.LowestStamp.{LowestStamp}
-use Rattle.stamps.specs.Walked.{lowest_of, walk_from, LowestIs}
-use Rattle.stamps.proofs.WalkLaws.{found_at, found_none}
+use Rattle.stamps.specs.Walked.{walk_from, LowestIs}
 use Rattle.room.specs.Rooms.{LeftAt, Leaves, without_victim}
 use Rattle.room.proofs.LeftVictims.{at_none, at_one, left_at, without_none}
 use Rattle.types.specs.Values.{largest_number}
@@ -60,7 +57,7 @@ unfolding evict_below
 evict_done b zero w h = refl
 evict_done b (suc n) w h = rw h
 
-evict_none : (b n : ℕ) (w : Walk) → lowest_stamp probation w.state.rows ≡ none → evict_below b n w ≡ w
+evict_none : (b n : ℕ) (w : Walk) → lowest_stamp probation w.state.rows ≡ None → evict_below b n w ≡ w
 unfolding evict_below
 evict_none b zero w l = refl
 evict_none b (suc n) w l = rw l (go (ltb (probation_count w.state) b))
@@ -70,7 +67,7 @@ evict_none b (suc n) w l = rw l (go (ltb (probation_count w.state) b))
     go false = refl
 
 evict_turn : (b : ℕ) (f : ℕ → State → State) (i n : ℕ) (w : Walk) → ltb (probation_count w.state) b ≡ false →
-    lowest_stamp probation w.state.rows ≡ some i → cond (stale (row_at i w.state.rows)) restamp take_out ≡ f → visits w.state ≡ suc n → evicting b w ≡ evict_below b n (take_up f i w)
+    lowest_stamp probation w.state.rows ≡ Some i → cond (stale (row_at i w.state.rows)) restamp take_out ≡ f → visits w.state ≡ suc n → evicting b w ≡ evict_below b n (take_up f i w)
 unfolding evict_below
 evict_turn b f i n w h l e v = rw (v, h, l, e)
 
@@ -90,7 +87,7 @@ pub record Evicting (n e k : ℕ) (l m : List ℕ) : Type 0 where
   cores : cores (view_rows n m).rows ≡ cores (view_rows n l).rows
 
 -- what make_probation_room answers, with the rows that memory m shows
-abbrev pub Evicted : ℕ → Lowest → ℕ → ℕ → List ℕ → List ℕ → Type 0
+abbrev pub Evicted : ℕ → Option ℕ → ℕ → ℕ → List ℕ → List ℕ → Type 0
 Evicted n v k e l m = (walk_from (without_victim v (view_rows n m)) e ≡ make_probation_room (view_rows n l)) × Leaves v k (view_rows n l).rows (view_rows n m).rows
 
 module _ (n : ℕ) (l : List ℕ) {max bound : ℕ} {r : LowestStamp}
@@ -99,7 +96,7 @@ module _ (n : ℕ) (l : List ℕ) {max bound : ℕ} {r : LowestStamp}
   limit = eb ∙ ap probation_bound (em ∙ (same_head 0 n l).max_entries)
 
   -- there is room
-  pub room_free : {k : ℕ} → r.count < bound → Evicted n Nothing k 0 l l
+  pub room_free : {k : ℕ} → r.count < bound → Evicted n None k 0 l l
   unfolding make_probation_room without_victim
   room_free h = (sym (evict_done (probation_limit (view_rows n l)) (visits (view_rows n l)) (walk_from (view_rows n l) 0) (rw (← limit, ← c.count) (lt-ltb r.count bound h))), at_none _ _ refl)
 
@@ -121,25 +118,25 @@ module _ (n : ℕ) (l : List ℕ) {max bound : ℕ} {r : LowestStamp}
       }
 
 -- there is no row to take up
-pub evict_ends : {n e k : ℕ} {l m : List ℕ} {v : Lowest} → Evicting n e k l m → lowest_of v ≡ lowest_stamp probation (view_rows n m).rows → v ≡ Nothing →
+pub evict_ends : {n e k : ℕ} {l m : List ℕ} {v : Option ℕ} → Evicting n e k l m → v ≡ lowest_stamp probation (view_rows n m).rows → v ≡ None →
     Evicted n v k e l m
 unfolding make_probation_room without_victim
 evict_ends {n} {e} {l = l} {m = m} {v = v} g h q =
     let s = view_rows n m in
-    (ap (λ (x : State). walk_from x e) (without_none v s q) ∙ sym (g.same ∙ evict_none (probation_limit (view_rows n l)) (visits s) (walk_from s e) (found_none v _ h q)), at_none _ v q)
+    (ap (λ (x : State). walk_from x e) (without_none v s q) ∙ sym (g.same ∙ evict_none (probation_limit (view_rows n l)) (visits s) (walk_from s e) (sym h ∙ q)), at_none _ v q)
 
 -- row i is taken up in m
 pub record Taken (n e k i : ℕ) (l m : List ℕ) : Type 0 where
-  lowest : lowest_stamp probation (view_rows n m).rows ≡ some i
+  lowest : lowest_stamp probation (view_rows n m).rows ≡ Some i
   there : at_place probation (row_at i (view_rows n m).rows) ≡ true
   visit : 1 ≤ total probation_visits (view_rows n m).rows
   pub inside : i < n
   pub going : Evicting n e k l m
 
-pub taken : {n e k i : ℕ} {l m : List ℕ} {v : Lowest} → Evicting n e k l m → lowest_of v ≡ lowest_stamp probation (view_rows n m).rows → v ≡ At i → Taken n e k i l m
+pub taken : {n e k i : ℕ} {l m : List ℕ} {v : Option ℕ} → Evicting n e k l m → v ≡ lowest_stamp probation (view_rows n m).rows → v ≡ Some i → Taken n e k i l m
 taken {n} {i = i} {m = m} {v = v} g h q =
     let rs = (view_rows n m).rows in
-    let d = found_at v i (lowest_stamp probation rs) h q in
+    let d = sym h ∙ q in
     let o = lowest_at probation rs i d in
     let w = some_visit (row_at i rs) (stale (row_at i rs)) refl o.there in
     record { lowest = d; there = o.there; visit = omega (arith, total_some probation_visits i rs o.inside); inside = omega (arith, o.inside, view_length n m); going = g }
@@ -200,7 +197,7 @@ module _ {n e k i : ℕ} {l m : List ℕ} (u : Taken n e k i l m) where
       }
 
   -- without the victim probation is not full, as it was not over the bound
-  pub fresh_yields : {b : Bool} → b ≡ stale (row_at i (view_rows n m).rows) → b ≡ false → Evicted n (At i) k (e + 1) l m
+  pub fresh_yields : {b : Bool} → b ≡ stale (row_at i (view_rows n m).rows) → b ≡ false → Evicted n (Some i) k (e + 1) l m
   unfolding make_probation_room take_up take_out with_only_rows without_victim
   fresh_yields h o =
       let a = sym h ∙ o in

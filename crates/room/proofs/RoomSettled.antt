@@ -25,7 +25,7 @@ use Rattle.memory.proofs.Fields.{same_head}
 use Rattle.memory.proofs.RowLaws.{view_length}
 use Rattle.retention.proofs.KeptRows.{only_rows, rows_same}
 use Rattle.retention.specs.Sweep.{PathFit, PathsFit}
-use Rattle.stamps.specs.declared.lowest.Lowest.TheVariants.{At, Nothing}
+use Rattle.std.specs.Prelude.{Some, None}
 use Rattle.stamps.specs.Walked.{walk_from}
 use Rattle.stamps.proofs.RowTotals.{count_few}
 use Rattle.room.specs.declared.victims.Chosen.{Chosen as ChosenAnswer}
@@ -114,11 +114,11 @@ back_weight now q rs ss p g o e =
 abbrev pub Settles : ℕ → ℕ → ℕ → List ℕ → List ℕ → RoomAnswer → Type 0
 Settles now w n l x r =
     (room_of r (view_rows r.rows x) ≡ make_room now w (view_rows n l)) × (r.rows ≤ n)
-    × Leaves r.victim r.stored (view_rows n l).rows (view_rows r.rows x).rows × (r.made ≡ false → r.victim ≡ Nothing)
+    × Leaves r.victim r.stored (view_rows n l).rows (view_rows r.rows x).rows × (r.made ≡ false → r.victim ≡ None)
 
 -- there is room: no victim is sought
 abbrev Unsought : ℕ → ℕ → RoomAnswer → Type 0
-Unsought n stored r = r ≡ record { made = true; rows = n; victim = Nothing; stored = stored; examined = 0 }
+Unsought n stored r = r ≡ record { made = true; rows = n; victim = None; stored = stored; examined = 0 }
 
 there : (now w n stored : ℕ) (l : List ℕ) (r : RoomAnswer) → Unsought n stored r → room_as true 0 (view_rows n l) ≡ make_room now w (view_rows n l) → Settles now w n l l r
 unfolding room_of without_victim
@@ -206,7 +206,7 @@ module _ {now w n count : ℕ} {c : ChosenAnswer} {l t : List ℕ} (u : Aside no
   room_made x m e = rw (← u.chosen, m, e)
 
   -- the only victim stays, and is what would leave
-  pub one_left : c.made ≡ true → count - c.left ≡ 1 → Settles now w n l t (record { made = true; rows = n; victim = At c.last; stored = c.stored; examined = c.examined })
+  pub one_left : c.made ≡ true → count - c.left ≡ 1 → Settles now w n l t (record { made = true; rows = n; victim = Some c.last; stored = c.stored; examined = c.examined })
   unfolding room_of without_victim take_out
   one_left m h =
       let s = view_rows n l in
@@ -220,12 +220,12 @@ module _ {now w n count : ℕ} {c : ChosenAnswer} {l t : List ℕ} (u : Aside no
       (room_made (take_out c.last v) m (rw only), omega arith, at_one (λ i. LeftAt i c.stored s.rows v.rows) _ _ refl q, λ f. contradiction refl f)
 
   pub all_dropped : (j : ℕ) (y : List ℕ) → c.made ≡ true → (j ≤ n) × (view_rows j y ≡ with_only_rows (not_aside (view_rows n t).rows) (view_rows n t)) →
-      Settles now w n l y (record { made = true; rows = j; victim = Nothing; stored = c.stored; examined = c.examined })
+      Settles now w n l y (record { made = true; rows = j; victim = None; stored = c.stored; examined = c.examined })
   unfolding room_of without_victim
   all_dropped j y m d = (room_made (view_rows j y) m d.1, d.0, at_none _ _ refl, λ f. contradiction refl f)
 
   pub all_back : (k : ℕ) (y : List ℕ) → c.made ≡ false → view_rows n y ≡ with_rows (map put_back (view_rows n t).rows) (view_rows n t) →
-      Settles now w n l y (record { made = false; rows = n; victim = Nothing; stored = k; examined = c.examined })
+      Settles now w n l y (record { made = false; rows = n; victim = None; stored = k; examined = c.examined })
   unfolding room_of without_victim make_room settled chosen_of
   all_back k y m d =
       let v = view_rows n t in

@@ -1,6 +1,5 @@
 -- The code's answers in the rules' terms.
-use Rattle.std.specs.Prelude.{◌≡◌, ℕ, ◌+◌, ◌≤◌, ◌<◌, ◌*◌, List, true, length}
-use Rattle.std.proofs.Math.Option.{none}
+use Rattle.std.specs.Prelude.{◌≡◌, ℕ, ◌+◌, ◌≤◌, ◌<◌, ◌*◌, List, true, length, None, Option, Some}
 use Rattle.types.specs.declared.node_addr.NodeAddr.{NodeAddr}
 use Rattle.types.specs.Values.{largest_number}
 use Rattle.rules.specs.Records.{Row, State, aside, max_rows, weight_limit}
@@ -8,8 +7,6 @@ use Rattle.rules.specs.Rows.{row_at, at_place, in_main, find, without_row, total
 use Rattle.rules.specs.Sound.{sound, ascends}
 use Rattle.rules.specs.Room.{Chosen, Room, probation_visits, take_out}
 use Rattle.rules.specs.Memory.{capacity, view_rows}
-use Rattle.stamps.specs.declared.lowest.Lowest.{Lowest}
-use Rattle.stamps.specs.declared.lowest.Lowest.TheVariants.{At, Nothing}
 use Rattle.stamps.specs.Walked.{walk_from}
 use Rattle.room.specs.declared.victims.Chosen.{Chosen as ChosenAnswer}
 use Rattle.room.specs.declared.victims.Room.{Room as RoomAnswer}
@@ -20,9 +17,9 @@ chosen_of c s = record { made = c.made; walk = walk_from s c.examined }
 -- ---- a victim left in place
 
 -- a state without the victim, if there is one
-unfoldable pub without_victim : Lowest → State → State
-without_victim (At i) s = take_out i s
-without_victim Nothing s = s
+unfoldable pub without_victim : Option ℕ → State → State
+without_victim (Some i) s = take_out i s
+without_victim None s = s
 
 unfoldable pub room_of : RoomAnswer → State → Room
 room_of r s = record { made = r.made; state = without_victim r.victim s; examined = r.examined }
@@ -46,17 +43,17 @@ pub record LeftAt (i w : ℕ) (rs ts : List Row) : Type 0 where
   pub weighs : w ≡ weigh_rows in_main (without_row i ts)
   pub light : w ≤ max_rows * weight_limit
   pub rising : ascends ts ≡ true
-  pub gone : (k : NodeAddr) → find k rs ≡ none → find k ts ≡ none
+  pub gone : (k : NodeAddr) → find k rs ≡ None → find k ts ≡ None
 
-abbrev pub Leaves : Lowest → ℕ → List Row → List Row → Type 0
-Leaves v w rs ts = (i : ℕ) → v ≡ At i → LeftAt i w rs ts
+abbrev pub Leaves : Option ℕ → ℕ → List Row → List Row → Type 0
+Leaves v w rs ts = (i : ℕ) → v ≡ Some i → LeftAt i w rs ts
 
 -- ---- what a row that is filed meets
 
 -- n rows of a sound state, without key k
 pub record Without (k : NodeAddr) (n : ℕ) (l : List ℕ) : Type 0 where
   pub sound : sound (capacity l) (view_rows n l) ≡ true
-  pub gone : find k (view_rows n l).rows ≡ none
+  pub gone : find k (view_rows n l).rows ≡ None
 
 -- enough stamps for room in probation and a row filed
 abbrev pub StampsLeft : ℕ → List ℕ → Type 0

@@ -10,13 +10,13 @@ ghost use Rattle.room.specs.Rooms.{without_victim, Leaves};
 
 use memory::bounds::probation_bound;
 use memory::codes::PROBATION;
-use stamps::lowest::{Lowest, lowest_stamp};
+use stamps::lowest::{lowest_stamp};
 use stamps::row::{is_stale, restamp};
 
 // Room in probation: the victim, left where it is, the weight that is stored without it, and the keys taken up.
 #[derive(Clone, Copy)]
 pub struct ProbationRoom {
-    pub victim: Lowest,
+    pub victim: Option<usize>,
     pub stored: u64,
     pub examined: u64,
 }
@@ -33,7 +33,7 @@ pub fn make_probation_room(state: &mut [u8], n: usize) -> ProbationRoom
     let stored = memory::head::stored_weight(state);
     if count < bound {
         return ProbationRoom {
-            victim: Lowest::Nothing,
+            victim: None,
             stored,
             examined: 0,
         };
@@ -43,14 +43,14 @@ pub fn make_probation_room(state: &mut [u8], n: usize) -> ProbationRoom
     loop {
         match victim {
             // Not reached, since Q is at least 1.
-            Lowest::Nothing => {
+            None => {
                 return ProbationRoom {
                     victim,
                     stored,
                     examined,
                 };
             }
-            Lowest::At(i) => {
+            Some(i) => {
                 examined += 1;
                 if is_stale(state, n, i) {
                     restamp(state, n, i);

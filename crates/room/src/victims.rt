@@ -1,13 +1,12 @@
 // Room in main. Victims are set aside: one alone is left for the row that takes its place, several leave together, and without room
 // all go back.
-ghost use Rattle.std.specs.Prelude.{◌≡◌, true, false, not, map, suc, ◌+◌, ◌*◌, ◌≤◌, ◌<◌, length};
+ghost use Rattle.std.specs.Prelude.{◌≡◌, true, false, not, map, suc, ◌+◌, ◌*◌, ◌≤◌, ◌<◌, length, None};
 ghost use Rattle.rules.specs.Records.{weight_bound, aside, max_rows};
 ghost use Rattle.rules.specs.Rows.{at_place, change_row, keep_rows, with_rows, with_only_rows, total, main_count};
 ghost use Rattle.rules.specs.Sound.{sound};
 ghost use Rattle.rules.specs.Room.{main_visits, has_room, at_new_place, put_back, choose_victims, make_room};
 ghost use Rattle.rules.specs.Memory.{capacity, view_rows};
 ghost use Rattle.rules.specs.Layout.{head_size, number_limit, row_size};
-ghost use Rattle.stamps.specs.declared.lowest.Lowest.TheVariants.{Nothing};
 ghost use Rattle.stamps.specs.Walked.{walk_from, MainIs};
 ghost use Rattle.retention.specs.Sweep.{PathsFit};
 ghost use Rattle.room.specs.Rooms.{chosen_of, room_of, SetAside, Leaves};
@@ -15,7 +14,7 @@ ghost use Rattle.room.specs.Rooms.{chosen_of, room_of, SetAside, Leaves};
 use crate::closed_form::{cut_to_bound, has_room};
 use memory::codes::{ASIDE, BY_USE};
 use raw::layout::ADDRESS;
-use stamps::lowest::{Lowest, LowestOfMain, lowest_of_main};
+use stamps::lowest::{LowestOfMain, lowest_of_main};
 use stamps::walk::next_victim;
 use types::node_addr::NodeAddr;
 
@@ -36,7 +35,7 @@ struct Chosen {
 pub struct Room {
     pub made: bool,
     pub rows: usize,
-    pub victim: Lowest,
+    pub victim: Option<usize>,
     pub stored: u64,
     pub examined: u64,
 }
@@ -68,7 +67,7 @@ fn choose_victims(state: &mut [u8], n: usize, lowest: LowestOfMain, w: u64, time
         examined += sought.examined;
         let found = sought.found;
         match found {
-            Lowest::Nothing => {
+            None => {
                 return Chosen {
                     made: false,
                     left,
@@ -77,7 +76,7 @@ fn choose_victims(state: &mut [u8], n: usize, lowest: LowestOfMain, w: u64, time
                     examined,
                 };
             }
-            Lowest::At(i) => {
+            Some(i) => {
                 left -= 1;
                 stored -= raw::numbers::wide(memory::row::weight(state, n, i));
                 set_place(state, n, i, ASIDE);
@@ -130,12 +129,12 @@ fn drop_aside(state: &mut [u8], n: usize) -> usize
 
 // There is room: no victim is sought.
 fn room_there(rows: usize, stored: u64) -> Room
-    ensures { result ≡ record { made = true; rows = rows; victim = Nothing; stored = stored; examined = 0 } }
+    ensures { result ≡ record { made = true; rows = rows; victim = None; stored = stored; examined = 0 } }
 {
     Room {
         made: true,
         rows,
-        victim: Lowest::Nothing,
+        victim: None,
         stored,
         examined: 0,
     }
@@ -145,7 +144,7 @@ fn room_there(rows: usize, stored: u64) -> Room
 // where all rows are fewer than max_entries; where room can't be made no row leaves.
 pub fn make_room(state: &mut [u8], n: usize, w: u64, time: u64) -> Room
     requires { (head_size + n * row_size ≤ length state.old) × (sound (capacity state.old) (view_rows n state.old) ≡ true) × ((view_rows n state.old).seq + total (main_visits time) (view_rows n state.old).rows < number_limit) }
-    ensures { (room_of result (view_rows result.rows state.new) ≡ make_room time w (view_rows n state.old)) × (result.rows ≤ n) × Leaves result.victim result.stored (view_rows n state.old).rows (view_rows result.rows state.new).rows × (result.made ≡ false → result.victim ≡ Nothing) }
+    ensures { (room_of result (view_rows result.rows state.new) ≡ make_room time w (view_rows n state.old)) × (result.rows ≤ n) × Leaves result.victim result.stored (view_rows n state.old).rows (view_rows result.rows state.new).rows × (result.made ≡ false → result.victim ≡ None) }
 {
     let max = memory::head::max_entries(state);
     let cut = cut_to_bound(w, max);
@@ -165,7 +164,7 @@ pub fn make_room(state: &mut [u8], n: usize, w: u64, time: u64) -> Room
             return Room {
                 made: true,
                 rows: n,
-                victim: Lowest::At(chosen.last),
+                victim: Some(chosen.last),
                 stored: chosen.stored,
                 examined,
             };
@@ -174,7 +173,7 @@ pub fn make_room(state: &mut [u8], n: usize, w: u64, time: u64) -> Room
         return Room {
             made: true,
             rows,
-            victim: Lowest::Nothing,
+            victim: None,
             stored: chosen.stored,
             examined,
         };
@@ -183,7 +182,7 @@ pub fn make_room(state: &mut [u8], n: usize, w: u64, time: u64) -> Room
     Room {
         made: false,
         rows: n,
-        victim: Lowest::Nothing,
+        victim: None,
         stored,
         examined,
     }

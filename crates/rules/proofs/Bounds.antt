@@ -1,7 +1,7 @@
 -- What a call can cost: room exactly when it can be made, keys examined, stamps drawn.
 use Prim.Native.Nat.{ℕ, ◌+◌, ◌*◌, ◌<◌, ◌≤◌}
 use mathlib.Core.Path.{◌≡◌, refl, ◌∙◌, subst}
-use mathlib.Core.Option.{Option, some}
+use Rattle.std.specs.Prelude.{Option, Some}
 use mathlib.Core.Bool.{Bool, true, false, ◌&&◌, not}
 use native.Mathlib.Omega.{arith}
 use lib.Dec.{leb}
@@ -35,11 +35,11 @@ pub record NoPlace (R : ℕ) (s : State) (v : VerifiedWrite) : Type 0 where
   pub unmade : (make_room v.time (path_weight v.path) (without_key v.key s)).made ≡ false
 
 -- NUMBER 4 IS GIVEN ONLY WHERE NO MAIN ROW IS FREE AND ROOM IS SOUGHT IN VAIN
-pub four_without_room : (R : ℕ) (s : State) (q : Call) (v : VerifiedWrite) → verified_write q ≡ some v → (step R s q).answer ≡ Refused 4 → NoPlace R s v
+pub four_without_room : (R : ℕ) (s : State) (q : Call) (v : VerifiedWrite) → verified_write q ≡ Some v → (step R s q).answer ≡ Refused 4 → NoPlace R s v
 unfolding no_place_for
 four_without_room R s q v w e =
     let g = (given_exactly R s q).four.0 e in
-    let p : maybe (some v) false (no_place_for R s) ≡ true = subst (λ (o : Option VerifiedWrite). maybe o false (no_place_for R s) ≡ true) w g.3 in
+    let p : maybe (Some v) false (no_place_for R s) ≡ true = subst (λ (o : Option VerifiedWrite). maybe o false (no_place_for R s) ≡ true) w g.3 in
     let d = without_key v.key s in
     let h : sound R d ≡ true = is_sound R d (without_key_out R v.key v.time s (sound_is R s g.0)).sound in
     let k = parts (key_in_main v.key s) (leb (main_limit R s) (main_count s)) (room_can_be_made v.time (path_weight v.path) d) p in

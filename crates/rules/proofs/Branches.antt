@@ -3,19 +3,17 @@
 use Prim.Native.Nat.{ℕ}
 use mathlib.Core.Path.{◌≡◌, refl}
 use mathlib.Core.List.{[], ◌∷◌}
-use mathlib.Core.Option.{none, some}
+use Rattle.std.specs.Prelude.{Option, None, Some}
 use mathlib.Core.Bool.{true, false}
 use lib.ListN.{replicate}
 use Rattle.types.specs.declared.coord.Path.{Path}
 use Rattle.types.specs.Paths.{zero_entry}
 use Rattle.types.specs.declared.entry.CoordSource.TheVariants.{Hint, Verified}
-use Rattle.types.specs.declared.entry.PathMtu.TheVariants.{Known, Unknown}
 use Rattle.types.specs.declared.placed.Funding.TheVariants.{Uncharged, Upto}
 use Rattle.types.specs.declared.placed.HintOutcome.TheVariants.{Changed, Inserted, Rejected, Unchanged}
 use Rattle.types.specs.declared.placed.Segment.TheVariants.{Main, Probation}
 use Rattle.types.specs.declared.entry.CacheEntry.{CacheEntry}
 use Rattle.types.specs.declared.entry.CoordSource.{CoordSource}
-use Rattle.types.specs.declared.entry.PathMtu.{PathMtu}
 use Rattle.rules.specs.Calls.{Clear, ClearPathMtu, Demote, Done, EntryRemoved, ExpiryGiven, Get, GetAndTouch, InvalidateOtherRoots, InvalidateViaNode, KeyHeld, NextExpiry, PathFound, PurgeExpired, Refused, Remove, RowsRemoved, Stats, StatsGiven}
 use Rattle.rules.proofs.Compute.{A, B, C, D, addr, done, elements_from, hint, insert, insert_funded, insert_stated, insert_verified, insert_verified_with_path_mtu, insert_with_ttl, path, path_from, seen}
 
@@ -26,7 +24,7 @@ sequenced = record { entries = record { node_addr = addr 90; sequence = 1; times
 timed : Path
 timed = record { entries = record { node_addr = addr 90; sequence = 0; timestamp = 1 } ∷ replicate 31 zero_entry; len = 1 }
 
-abbrev removed : Path → ℕ → ℕ → ℕ → PathMtu → CoordSource → ℕ → CacheEntry
+abbrev removed : Path → ℕ → ℕ → ℕ → Option ℕ → CoordSource → ℕ → CacheEntry
 removed p c u e m s v = record { path = p; created_at = c; last_used = u; expires_at = e; path_mtu = m; source = s; verified_until = v }
 
 step_1_expired_row_stays_removed_when_rejected : seen 24 1 10 (insert_funded A (path 1) 0 (Upto 15) ∷ insert_verified B (path 1) 5 ∷ insert A (path 1) 11 ∷ [])
@@ -40,12 +38,12 @@ unfolding seen
 step_1_expired_row_is_a_new_key = refl
 
 step_2_probation_room_restamps_then_removes : seen 24 0 300000 (insert_funded A (path 1) 0 (Upto 16) ∷ GetAndTouch A 5 ∷ insert_funded B (path 1) 6 (Upto 16) ∷ [])
-    ≡ record { answers = hint Inserted 0 Probation false 0 ∷ PathFound (some (elements_from 90 1)) ∷ hint Inserted 0 Probation false 2 ∷ []; rows = (2 ∷ 1 ∷ 6 ∷ 6 ∷ 300006 ∷ 0 ∷ 0 ∷ 1 ∷ 0 ∷ 2 ∷ 6 ∷ 3 ∷ 16 ∷ []) ∷ []; seq = 3; stored_weight = 0 }
+    ≡ record { answers = hint Inserted 0 Probation false 0 ∷ PathFound (Some (elements_from 90 1)) ∷ hint Inserted 0 Probation false 2 ∷ []; rows = (2 ∷ 1 ∷ 6 ∷ 6 ∷ 300006 ∷ 0 ∷ 0 ∷ 1 ∷ 0 ∷ 2 ∷ 6 ∷ 3 ∷ 16 ∷ []) ∷ []; seq = 3; stored_weight = 0 }
 unfolding seen
 step_2_probation_room_restamps_then_removes = refl
 
 step_2_probation_room_passes_the_touched : seen 80 64 300000 (insert_funded A (path 1) 0 (Upto 15) ∷ insert_funded B (path 1) 1 (Upto 15) ∷ GetAndTouch A 5 ∷ insert_funded C (path 1) 6 (Upto 15) ∷ [])
-    ≡ record { answers = hint Inserted 0 Probation true 0 ∷ hint Inserted 0 Probation true 0 ∷ PathFound (some (elements_from 90 1)) ∷ hint Inserted 0 Probation true 2 ∷ []; rows = (1 ∷ 1 ∷ 0 ∷ 5 ∷ 300005 ∷ 0 ∷ 0 ∷ 1 ∷ 0 ∷ 2 ∷ 5 ∷ 3 ∷ 16 ∷ []) ∷ (3 ∷ 1 ∷ 6 ∷ 6 ∷ 300006 ∷ 0 ∷ 0 ∷ 1 ∷ 0 ∷ 2 ∷ 6 ∷ 4 ∷ 16 ∷ []) ∷ []; seq = 4; stored_weight = 0 }
+    ≡ record { answers = hint Inserted 0 Probation true 0 ∷ hint Inserted 0 Probation true 0 ∷ PathFound (Some (elements_from 90 1)) ∷ hint Inserted 0 Probation true 2 ∷ []; rows = (1 ∷ 1 ∷ 0 ∷ 5 ∷ 300005 ∷ 0 ∷ 0 ∷ 1 ∷ 0 ∷ 2 ∷ 5 ∷ 3 ∷ 16 ∷ []) ∷ (3 ∷ 1 ∷ 6 ∷ 6 ∷ 300006 ∷ 0 ∷ 0 ∷ 1 ∷ 0 ∷ 2 ∷ 6 ∷ 4 ∷ 16 ∷ []) ∷ []; seq = 4; stored_weight = 0 }
 unfolding seen
 step_2_probation_room_passes_the_touched = refl
 
@@ -140,7 +138,7 @@ unfolding seen
 walk_ties_of_first_go_by_seq = refl
 
 walk_restamps_a_touch_back_in_time : seen 24 2 300000 (insert_funded A (path 1) 5 (Upto 16) ∷ insert_funded B (path 1) 6 (Upto 16) ∷ GetAndTouch A 3 ∷ insert_funded C (path 1) 7 (Upto 16) ∷ [])
-    ≡ record { answers = hint Inserted 16 Main false 0 ∷ hint Inserted 16 Main false 0 ∷ PathFound (some (elements_from 90 1)) ∷ hint Inserted 16 Main false 2 ∷ []; rows = (2 ∷ 1 ∷ 6 ∷ 6 ∷ 300006 ∷ 0 ∷ 0 ∷ 1 ∷ 0 ∷ 0 ∷ 6 ∷ 2 ∷ 16 ∷ []) ∷ (3 ∷ 1 ∷ 7 ∷ 7 ∷ 300007 ∷ 0 ∷ 0 ∷ 1 ∷ 0 ∷ 0 ∷ 7 ∷ 4 ∷ 16 ∷ []) ∷ []; seq = 4; stored_weight = 32 }
+    ≡ record { answers = hint Inserted 16 Main false 0 ∷ hint Inserted 16 Main false 0 ∷ PathFound (Some (elements_from 90 1)) ∷ hint Inserted 16 Main false 2 ∷ []; rows = (2 ∷ 1 ∷ 6 ∷ 6 ∷ 300006 ∷ 0 ∷ 0 ∷ 1 ∷ 0 ∷ 0 ∷ 6 ∷ 2 ∷ 16 ∷ []) ∷ (3 ∷ 1 ∷ 7 ∷ 7 ∷ 300007 ∷ 0 ∷ 0 ∷ 1 ∷ 0 ∷ 0 ∷ 7 ∷ 4 ∷ 16 ∷ []) ∷ []; seq = 4; stored_weight = 32 }
 unfolding seen
 walk_restamps_a_touch_back_in_time = refl
 
@@ -200,12 +198,12 @@ unfolding seen
 mtu_not_kept_by_a_new_entry = refl
 
 touch_refreshes_and_leaves_the_stamp : seen 24 2 10 (insert_with_ttl A (path 1) 5 3 ∷ GetAndTouch A 8 ∷ Get A 18 ∷ GetAndTouch A 19 ∷ Get A 19 ∷ [])
-    ≡ record { answers = hint Inserted 16 Main false 0 ∷ PathFound (some (elements_from 90 1)) ∷ PathFound (some (elements_from 90 1)) ∷ PathFound none ∷ PathFound none ∷ []; rows = []; seq = 1; stored_weight = 0 }
+    ≡ record { answers = hint Inserted 16 Main false 0 ∷ PathFound (Some (elements_from 90 1)) ∷ PathFound (Some (elements_from 90 1)) ∷ PathFound None ∷ PathFound None ∷ []; rows = []; seq = 1; stored_weight = 0 }
 unfolding seen
 touch_refreshes_and_leaves_the_stamp = refl
 
 get_of_an_expired_key_leaves_it : seen 24 2 10 (insert A (path 1) 5 ∷ Get A 16 ∷ [])
-    ≡ record { answers = hint Inserted 16 Main false 0 ∷ PathFound none ∷ []; rows = (1 ∷ 1 ∷ 5 ∷ 5 ∷ 15 ∷ 0 ∷ 0 ∷ 1 ∷ 0 ∷ 0 ∷ 5 ∷ 1 ∷ 16 ∷ []) ∷ []; seq = 1; stored_weight = 16 }
+    ≡ record { answers = hint Inserted 16 Main false 0 ∷ PathFound None ∷ []; rows = (1 ∷ 1 ∷ 5 ∷ 5 ∷ 15 ∷ 0 ∷ 0 ∷ 1 ∷ 0 ∷ 0 ∷ 5 ∷ 1 ∷ 16 ∷ []) ∷ []; seq = 1; stored_weight = 16 }
 unfolding seen
 get_of_an_expired_key_leaves_it = refl
 
@@ -215,12 +213,12 @@ unfolding seen
 times_stop_at_the_last = refl
 
 remove_expired_or_not : seen 24 2 10 (insert A (path 1) 5 ∷ insert_verified_with_path_mtu B (path 1) 5 1400 ∷ Remove A ∷ Remove B ∷ Remove B ∷ [])
-    ≡ record { answers = hint Inserted 16 Main false 0 ∷ done 16 0 ∷ EntryRemoved (some (removed (path 1) 5 5 15 Unknown Hint 0)) ∷ EntryRemoved (some (removed (path 1) 5 5 15 (Known 1400) Verified 300005)) ∷ EntryRemoved none ∷ []; rows = []; seq = 2; stored_weight = 0 }
+    ≡ record { answers = hint Inserted 16 Main false 0 ∷ done 16 0 ∷ EntryRemoved (Some (removed (path 1) 5 5 15 None Hint 0)) ∷ EntryRemoved (Some (removed (path 1) 5 5 15 (Some 1400) Verified 300005)) ∷ EntryRemoved None ∷ []; rows = []; seq = 2; stored_weight = 0 }
 unfolding seen
 remove_expired_or_not = refl
 
 demote_a_parked_row_is_refiled : seen 24 1 300000 (insert_verified A (path 1) 0 ∷ insert_funded B (path 1) 1 (Upto 16) ∷ GetAndTouch A 7 ∷ Demote A ∷ Demote C ∷ [])
-    ≡ record { answers = done 16 0 ∷ hint Inserted 0 Probation false 1 ∷ PathFound (some (elements_from 90 1)) ∷ KeyHeld true ∷ KeyHeld false ∷ []; rows = (1 ∷ 1 ∷ 0 ∷ 7 ∷ 300007 ∷ 0 ∷ 0 ∷ 1 ∷ 0 ∷ 0 ∷ 7 ∷ 4 ∷ 16 ∷ []) ∷ (2 ∷ 1 ∷ 1 ∷ 1 ∷ 300001 ∷ 0 ∷ 0 ∷ 1 ∷ 0 ∷ 2 ∷ 1 ∷ 3 ∷ 16 ∷ []) ∷ []; seq = 4; stored_weight = 16 }
+    ≡ record { answers = done 16 0 ∷ hint Inserted 0 Probation false 1 ∷ PathFound (Some (elements_from 90 1)) ∷ KeyHeld true ∷ KeyHeld false ∷ []; rows = (1 ∷ 1 ∷ 0 ∷ 7 ∷ 300007 ∷ 0 ∷ 0 ∷ 1 ∷ 0 ∷ 0 ∷ 7 ∷ 4 ∷ 16 ∷ []) ∷ (2 ∷ 1 ∷ 1 ∷ 1 ∷ 300001 ∷ 0 ∷ 0 ∷ 1 ∷ 0 ∷ 2 ∷ 1 ∷ 3 ∷ 16 ∷ []) ∷ []; seq = 4; stored_weight = 16 }
 unfolding seen
 demote_a_parked_row_is_refiled = refl
 
@@ -255,12 +253,12 @@ unfolding seen
 stats_mean_is_rounded_down = refl
 
 stats_of_an_empty_cache : seen 24 4 10 (Stats 11 ∷ NextExpiry ∷ [])
-    ≡ record { answers = StatsGiven (record { entries = 0; max_entries = 4; expired = 0; avg_age_ms = 0 }) ∷ ExpiryGiven none ∷ []; rows = []; seq = 0; stored_weight = 0 }
+    ≡ record { answers = StatsGiven (record { entries = 0; max_entries = 4; expired = 0; avg_age_ms = 0 }) ∷ ExpiryGiven None ∷ []; rows = []; seq = 0; stored_weight = 0 }
 unfolding seen
 stats_of_an_empty_cache = refl
 
 next_expiry_is_the_smallest : seen 24 4 10 (insert A (path 1) 5 ∷ insert_with_ttl B (path 1) 5 3 ∷ insert C (path 1) 6 ∷ NextExpiry ∷ [])
-    ≡ record { answers = hint Inserted 16 Main false 0 ∷ hint Inserted 16 Main false 0 ∷ hint Inserted 16 Main false 0 ∷ ExpiryGiven (some 8) ∷ []; rows = (1 ∷ 1 ∷ 5 ∷ 5 ∷ 15 ∷ 0 ∷ 0 ∷ 1 ∷ 0 ∷ 0 ∷ 5 ∷ 1 ∷ 16 ∷ []) ∷ (2 ∷ 1 ∷ 5 ∷ 5 ∷ 8 ∷ 0 ∷ 0 ∷ 1 ∷ 0 ∷ 0 ∷ 5 ∷ 2 ∷ 16 ∷ []) ∷ (3 ∷ 1 ∷ 6 ∷ 6 ∷ 16 ∷ 0 ∷ 0 ∷ 1 ∷ 0 ∷ 0 ∷ 6 ∷ 3 ∷ 16 ∷ []) ∷ []; seq = 3; stored_weight = 48 }
+    ≡ record { answers = hint Inserted 16 Main false 0 ∷ hint Inserted 16 Main false 0 ∷ hint Inserted 16 Main false 0 ∷ ExpiryGiven (Some 8) ∷ []; rows = (1 ∷ 1 ∷ 5 ∷ 5 ∷ 15 ∷ 0 ∷ 0 ∷ 1 ∷ 0 ∷ 0 ∷ 5 ∷ 1 ∷ 16 ∷ []) ∷ (2 ∷ 1 ∷ 5 ∷ 5 ∷ 8 ∷ 0 ∷ 0 ∷ 1 ∷ 0 ∷ 0 ∷ 5 ∷ 2 ∷ 16 ∷ []) ∷ (3 ∷ 1 ∷ 6 ∷ 6 ∷ 16 ∷ 0 ∷ 0 ∷ 1 ∷ 0 ∷ 0 ∷ 6 ∷ 3 ∷ 16 ∷ []) ∷ []; seq = 3; stored_weight = 48 }
 unfolding seen
 next_expiry_is_the_smallest = refl
 

@@ -2,7 +2,7 @@
 use Prim.Native.Nat.{ℕ, ◌+◌, ◌*◌, ◌<◌, ◌≤◌}
 use mathlib.Core.Path.{◌≡◌, refl, sym, ◌∙◌, ap, subst}
 use mathlib.Core.List.{List, []}
-use mathlib.Core.Option.{Option, none, some}
+use Rattle.std.specs.Prelude.{Option, None, Some}
 use mathlib.Core.Bool.{Bool, true, false, ◌&&◌, ◌||◌, not}
 use lib.Dec.{ltb, leb, eqb, leb-zero}
 use lib.ListN.{length}
@@ -57,7 +57,7 @@ pub record DemandStep (a : NodeAddr → ℕ) (s : State) (q : Call) (t : Step) :
   pub default_ttl : t.state.default_ttl ≡ s.default_ttl
   pub accounted : Accounted (accounts_after (event q t) a) t.state
   pub funded : within_funding (event q t) ≡ true
-  pub spared : (ttl : ℕ) (v : VerifiedWrite) (x : Core) → Fixed ttl v x → must_spare ttl v (event q t) ≡ true → look v.key (cores s.rows) ≡ some x → look v.key (cores t.state.rows) ≡ some x
+  pub spared : (ttl : ℕ) (v : VerifiedWrite) (x : Core) → Fixed ttl v x → must_spare ttl v (event q t) ≡ true → look v.key (cores s.rows) ≡ Some x → look v.key (cores t.state.rows) ≡ Some x
 
 pub record CallKeeps (R : ℕ) (a : NodeAddr → ℕ) (s : State) (q : Call) (t : Step) : Type 1 where
   pub demand : DemandStep a s q t
@@ -97,14 +97,14 @@ unfolding not_past
 not_past_lem u q h = go (time_given q) h
   where
     go : (o : Option ℕ) → maybe o true (λ t. leb t u) ≡ true → leb (maybe o 0 (λ t. t)) u ≡ true
-    go none h = leb-zero u
-    go (some t) h = h
+    go None h = leb-zero u
+    go (Some t) h = h
 
 fixed_verified : (ttl now : ℕ) (v : VerifiedWrite) (x : Core) → Fixed ttl v x → leb now (verified_until_of v) ≡ true → verified now x.entry ≡ true
 unfolding verified
 fixed_verified ttl now v x d h = rw (d.source, d.verified_until) h
 
-demand_named : (a : NodeAddr → ℕ) (s : State) (q : Call) (t : Step) (k : NodeAddr) → key_named q ≡ some k → was_refused t.answer ≡ false
+demand_named : (a : NodeAddr → ℕ) (s : State) (q : Call) (t : Step) (k : NodeAddr) → key_named q ≡ Some k → was_refused t.answer ≡ false
     → LeavesOthers k (clock q) s t.state → Own k (account_after q t.answer (a k)) t.state → within_funding (event q t) ≡ true → Accounted a s → DemandStep a s q t
 unfolding accounts_after must_spare names_other
 demand_named a s q t k named not_refused leaves own paid h = record {
@@ -136,7 +136,7 @@ path_ok p h = go (eqb p.len 0) refl (ltb path_places p.len) refl h
     go false e true d g = contradiction {b = true} refl g
     go false e false d g = record { long = omega (arith, eqb-false p.len 0 e); short = omega (arith, ltb-false path_places p.len d) }
 
-keeps_hint : (R : ℕ) (a : NodeAddr → ℕ) (s : State) (q : Call) (k : NodeAddr) (p : Path) (ttl : ℕ) (st : Bool) → key_named q ≡ some k → bad_path p ≡ false → Sound R s → Accounted a s → CallKeeps R a s q (hinted (place_hint k p (clock q) ttl (funding_of q) st s))
+keeps_hint : (R : ℕ) (a : NodeAddr → ℕ) (s : State) (q : Call) (k : NodeAddr) (p : Path) (ttl : ℕ) (st : Bool) → key_named q ≡ Some k → bad_path p ≡ false → Sound R s → Accounted a s → CallKeeps R a s q (hinted (place_hint k p (clock q) ttl (funding_of q) st s))
 unfolding hinted gives within_funding examined_of was_refused charge_of account_after
 keeps_hint R a s q k p ttl st named e h c =
     let u = place_hint_kept k p (clock q) ttl (funding_of q) st (a k) s (path_ok p e) h (own_of a s k c) in
@@ -170,8 +170,8 @@ unfolding key_in_main without_key
 main_out R k s h e = go (find k s.rows) refl e
   where
     go : (o : Option ℕ) → find k s.rows ≡ o → maybe o false (λ i. in_main (row_at i s.rows)) ≡ true → main_count (maybe o s (λ i. take_out i s)) < main_limit R (maybe o s (λ i. take_out i s))
-    go none q m = contradiction {b = false} m refl
-    go (some i) q m = omega (arith, ap probation_of (take_out_limits i s), take_out_main i s (find_at k s.rows i q).inside m, h.mains)
+    go None q m = contradiction {b = false} m refl
+    go (Some i) q m = omega (arith, ap probation_of (take_out_limits i s), take_out_main i s (find_at k s.rows i q).inside m, h.mains)
 
 -- number 4 is given exactly where no main row is left for the key
 pub verified_free : (R : ℕ) (k : NodeAddr) (p : Path) (now : ℕ) (s : State) → Sound R s → no_place_for R s (record { key = k; path = p; time = now }) ≡ false → main_count (make_room now (path_weight p) (without_key k s)).state < main_limit R (make_room now (path_weight p) (without_key k s)).state
@@ -199,10 +199,10 @@ unfolding verified_entry mark_verified new_entry update set_mtu expiry_of verifi
 verified_fixed k p now w mtu s = go mtu (find k s.rows)
   where
     go : (mtu o : Option ℕ) → Fixed s.default_ttl (record { key = k; path = p; time = now }) (record { key = k; entry = maybe mtu (mark_verified now (maybe o (new_entry p now s.default_ttl) (λ i. update p now s.default_ttl (row_at i s.rows).entry))) (λ m. set_mtu m (mark_verified now (maybe o (new_entry p now s.default_ttl) (λ i. update p now s.default_ttl (row_at i s.rows).entry)))); weight = w; on_probation = false })
-    go none none = record { main = refl; source = refl; path = refl; expires_at = refl; verified_until = refl }
-    go none (some i) = record { main = refl; source = refl; path = refl; expires_at = refl; verified_until = refl }
-    go (some m) none = record { main = refl; source = refl; path = refl; expires_at = refl; verified_until = refl }
-    go (some m) (some i) = record { main = refl; source = refl; path = refl; expires_at = refl; verified_until = refl }
+    go None None = record { main = refl; source = refl; path = refl; expires_at = refl; verified_until = refl }
+    go None (Some i) = record { main = refl; source = refl; path = refl; expires_at = refl; verified_until = refl }
+    go (Some m) None = record { main = refl; source = refl; path = refl; expires_at = refl; verified_until = refl }
+    go (Some m) (Some i) = record { main = refl; source = refl; path = refl; expires_at = refl; verified_until = refl }
 
 verified_ok : (R : ℕ) (k : NodeAddr) (p : Path) (now : ℕ) (mtu : Option ℕ) (s : State) → PathOk p → Sound R s → EntryOk (verified_entry k p now mtu s) (path_weight p)
 unfolding verified_entry mark_verified new_entry update set_mtu as_written path_weight
@@ -212,12 +212,12 @@ verified_ok R k p now mtu s po h = go mtu (find k s.rows) refl
     ok e a b c = record { source = omega arith; mtu_mark = b; long = rw c po.long; short = rw c po.short; heavy = rw c (omega arith); light = weight_ok p po; hinted = λ q. contradiction (eq-eqb e.source 0 a) q }
 
     go : (mtu o : Option ℕ) → find k s.rows ≡ o → EntryOk (maybe mtu (mark_verified now (maybe o (new_entry p now s.default_ttl) (λ i. update p now s.default_ttl (row_at i s.rows).entry))) (λ m. set_mtu m (mark_verified now (maybe o (new_entry p now s.default_ttl) (λ i. update p now s.default_ttl (row_at i s.rows).entry))))) (path_weight p)
-    go none none e = ok _ refl (omega arith) refl
-    go none (some i) e = ok _ refl (every_at (RowOk s.seq) i s.rows (find_at k s.rows i e).inside h.each).mtu_mark refl
-    go (some m) none e = ok _ refl (omega arith) refl
-    go (some m) (some i) e = ok _ refl (omega arith) refl
+    go None None e = ok _ refl (omega arith) refl
+    go None (Some i) e = ok _ refl (every_at (RowOk s.seq) i s.rows (find_at k s.rows i e).inside h.each).mtu_mark refl
+    go (Some m) None e = ok _ refl (omega arith) refl
+    go (Some m) (Some i) e = ok _ refl (omega arith) refl
 
-keeps_verify : (R : ℕ) (a : NodeAddr → ℕ) (s : State) (q : Call) (k : NodeAddr) (p : Path) (mtu : Option ℕ) → key_named q ≡ some k → path_given q ≡ some p → bad_path p ≡ false → no_place_for R s (record { key = k; path = p; time = clock q }) ≡ false → Sound R s → Accounted a s → CallKeeps R a s q (verifies k p (clock q) mtu s)
+keeps_verify : (R : ℕ) (a : NodeAddr → ℕ) (s : State) (q : Call) (k : NodeAddr) (p : Path) (mtu : Option ℕ) → key_named q ≡ Some k → path_given q ≡ Some p → bad_path p ≡ false → no_place_for R s (record { key = k; path = p; time = clock q }) ≡ false → Sound R s → Accounted a s → CallKeeps R a s q (verifies k p (clock q) mtu s)
 unfolding verifies gives within_funding examined_of was_refused charge_of account_after insert_verified
 keeps_verify R a s q k p mtu named given e f h c =
     let now = clock q in
@@ -235,13 +235,13 @@ keeps_verify R a s q k p mtu named given e f h c =
       seen = omega (arith, from.seen);
     }
   where
-    weighs : (o : Option Path) → o ≡ some p → path_weight p ≡ maybe o (a k) path_weight
+    weighs : (o : Option Path) → o ≡ Some p → path_weight p ≡ maybe o (a k) path_weight
     weighs o e = rw e
 
 -- ---- lookups
 
 -- a done call that draws no stamp, or one
-keeps_done : (R : ℕ) (a : NodeAddr → ℕ) (s d : State) (q : Call) (k : NodeAddr) (m : Answer) → key_named q ≡ some k → was_refused m ≡ false → Quiet q m → LeavesOthers k (clock q) s d → Own k (a k) d → Sound R d → d.seq ≤ s.seq + 1 → Accounted a s → CallKeeps R a s q (gives m d)
+keeps_done : (R : ℕ) (a : NodeAddr → ℕ) (s d : State) (q : Call) (k : NodeAddr) (m : Answer) → key_named q ≡ Some k → was_refused m ≡ false → Quiet q m → LeavesOthers k (clock q) s d → Own k (a k) d → Sound R d → d.seq ≤ s.seq + 1 → Accounted a s → CallKeeps R a s q (gives m d)
 unfolding gives within_funding
 keeps_done R a s d q k m named done e leaves own h l c = record {
   demand = demand_named a s q (record { answer = m; state = d }) k named done leaves (rw (e.account (a k)) own) (subst (λ n. covers (funding_of q) n ≡ true) (sym e.charge) (covers_zero (funding_of q))) c;
@@ -322,7 +322,7 @@ clear_path_mtu_left : {R : ℕ} (k : NodeAddr) (now a : ℕ) (s : State) → Sou
 unfolding clear_path_mtu
 clear_path_mtu_left {R} k now a s h o = by_maybe (Left R k now a s) (find k s.rows) (λ e. same_left s h o) (λ i e. rewrite_left drop_mtu i s h o (find_at k s.rows i e) (drop_mtu_ok s.seq (row_at i s.rows)))
 
-keeps_left : (R : ℕ) (a : NodeAddr → ℕ) (s d : State) (q : Call) (k : NodeAddr) (m : Answer) → key_named q ≡ some k → was_refused m ≡ false → Quiet q m → Left R k (clock q) (a k) s d → Accounted a s → CallKeeps R a s q (gives m d)
+keeps_left : (R : ℕ) (a : NodeAddr → ℕ) (s d : State) (q : Call) (k : NodeAddr) (m : Answer) → key_named q ≡ Some k → was_refused m ≡ false → Quiet q m → Left R k (clock q) (a k) s d → Accounted a s → CallKeeps R a s q (gives m d)
 keeps_left R a s d q k m named done e l c = keeps_done R a s d q k m named done e l.leaves l.own l.sound l.stamps c
 
 -- ---- sweeps
@@ -331,7 +331,7 @@ only_seq : (rs : List Row) (s : State) → (with_only_rows rs s).seq ≡ s.seq
 unfolding with_only_rows
 only_seq rs s = refl
 
-keeps_sweep : (R : ℕ) (a : NodeAddr → ℕ) (s : State) (q : Call) (m : Entry → Bool) → key_named q ≡ none
+keeps_sweep : (R : ℕ) (a : NodeAddr → ℕ) (s : State) (q : Call) (m : Entry → Bool) → key_named q ≡ None
     → ((ttl : ℕ) (v : VerifiedWrite) (x : Core) → Fixed ttl v x → sweep_matches q (as_written v.path) (expiry_of ttl v) ≡ false → m x.entry ≡ false)
     → Sound R s → Accounted a s → CallKeeps R a s q (sweeps m s)
 unfolding sweeps sweep gives with_only_rows accounts_after within_funding was_refused charge_of examined_of must_spare names_other
@@ -369,8 +369,8 @@ keeps_perform R a s (Insert k p t) l h c = keeps_hint R a s (Insert k p t) k p s
 keeps_perform R a s (InsertWithTtl k p t ttl) l h c = keeps_hint R a s (InsertWithTtl k p t ttl) k p ttl false refl l.path h c
 keeps_perform R a s (InsertFunded k p t f) l h c = keeps_hint R a s (InsertFunded k p t f) k p s.default_ttl false refl l.path h c
 keeps_perform R a s (InsertStated k p t f) l h c = keeps_hint R a s (InsertStated k p t f) k p s.default_ttl (starts_at k p) refl l.path h c
-keeps_perform R a s (InsertVerified k p t) l h c = keeps_verify R a s (InsertVerified k p t) k p none refl refl l.path l.place h c
-keeps_perform R a s (InsertVerifiedWithPathMtu k p t m) l h c = keeps_verify R a s (InsertVerifiedWithPathMtu k p t m) k p (some m) refl refl l.path l.place h c
+keeps_perform R a s (InsertVerified k p t) l h c = keeps_verify R a s (InsertVerified k p t) k p None refl refl l.path l.place h c
+keeps_perform R a s (InsertVerifiedWithPathMtu k p t m) l h c = keeps_verify R a s (InsertVerifiedWithPathMtu k p t m) k p (Some m) refl refl l.path l.place h c
 keeps_perform R a s (Get k t) l h c = keeps_same R a s (Get k t) (PathFound (get k t s)) (record { account = λ a. refl; charge = refl; examined = refl }) h c
 keeps_perform R a s (GetAndTouch k t) l h c = keeps_left R a s (touched k t s) (GetAndTouch k t) k (PathFound (get k t s)) refl refl (record { account = λ a. refl; charge = refl; examined = refl }) (touched_left k t (a k) s h (own_of a s k c)) c
 keeps_perform R a s (Remove k) l h c = keeps_left R a s (without_key k s) (Remove k) k (EntryRemoved (removed_entry k s)) refl refl (record { account = λ a. refl; charge = refl; examined = refl }) (out_left s (without_key k s) (without_key_out R k 0 s h)) c

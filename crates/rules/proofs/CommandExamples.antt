@@ -2,7 +2,7 @@
 use Prim.Native.Nat.{ℕ, zero, suc, ◌-◌}
 use mathlib.Core.Path.{◌≡◌, refl}
 use mathlib.Core.List.{List, [], ◌∷◌, ◌++◌, map}
-use mathlib.Core.Option.{Option, none, some}
+use Rattle.std.specs.Prelude.{Option, None, Some}
 use mathlib.Core.Bool.{true, false}
 use lib.ListN.{length, replicate}
 use Rattle.types.specs.declared.sender.Sender.{Sender}
@@ -22,12 +22,12 @@ use Rattle.rules.proofs.Compute.{done, elements_from, hint, insert, insert_funde
 
 -- the request that a command makes with a path of one element pending
 request_in : Sender → Command → Option Request
-request_in s (Element e) = none
-request_in s (WithPath f) = some (Asked (f s))
-request_in s (Plain x) = some x
+request_in s (Element e) = None
+request_in s (WithPath f) = Some (Asked (f s))
+request_in s (Plain x) = Some x
 
 asks : ℕ → List ℕ → Option Request
-asks b bs = maybe (decode b bs) none (λ d. request_in (record { pending = path 1 }) d.command)
+asks b bs = maybe (decode b bs) None (λ d. request_in (record { pending = path 1 }) d.command)
 
 -- the bytes 1, 2, 3 ..
 counted : ℕ → ℕ → List ℕ
@@ -41,103 +41,103 @@ K = record { 0 = counted 16 1 }
 abbrev T : ℕ
 T = 1735880461161533969
 
-operands_00 : asks 0x00 (counted 10 1) ≡ some (Fresh 513 723118041428460547)
+operands_00 : asks 0x00 (counted 10 1) ≡ Some (Fresh 513 723118041428460547)
 unfolding asks request_in counted K lines_of
 operands_00 = refl
 
-operands_10 : asks 0x10 (counted 24 1) ≡ some (Asked (insert K (path 1) T))
+operands_10 : asks 0x10 (counted 24 1) ≡ Some (Asked (insert K (path 1) T))
 unfolding asks request_in counted K lines_of
 operands_10 = refl
 
-operands_11 : asks 0x11 (counted 32 1) ≡ some (Asked (insert_with_ttl K (path 1) T 2314601843866147353))
+operands_11 : asks 0x11 (counted 32 1) ≡ Some (Asked (insert_with_ttl K (path 1) T 2314601843866147353))
 unfolding asks request_in counted K lines_of
 operands_11 = refl
 
-operands_12 : asks 0x12 (counted 24 1 ++ (1 ∷ counted 8 26)) ≡ some (Asked (insert_funded K (path 1) T (Upto 2386942016704224026)))
+operands_12 : asks 0x12 (counted 24 1 ++ (1 ∷ counted 8 26)) ≡ Some (Asked (insert_funded K (path 1) T (Upto 2386942016704224026)))
 unfolding asks request_in counted K lines_of
 operands_12 = refl
 
-operands_12_uncharged : asks 0x12 (counted 24 1 ++ (0 ∷ counted 8 26)) ≡ some (Asked (insert_funded K (path 1) T Uncharged))
+operands_12_uncharged : asks 0x12 (counted 24 1 ++ (0 ∷ counted 8 26)) ≡ Some (Asked (insert_funded K (path 1) T Uncharged))
 unfolding asks request_in counted K lines_of
 operands_12_uncharged = refl
 
-operands_13 : asks 0x13 (counted 24 1 ++ (1 ∷ counted 8 26)) ≡ some (Asked (insert_stated K (path 1) T (Upto 2386942016704224026)))
+operands_13 : asks 0x13 (counted 24 1 ++ (1 ∷ counted 8 26)) ≡ Some (Asked (insert_stated K (path 1) T (Upto 2386942016704224026)))
 unfolding asks request_in counted K lines_of
 operands_13 = refl
 
-operands_14 : asks 0x14 (counted 24 1) ≡ some (Asked (insert_verified K (path 1) T))
+operands_14 : asks 0x14 (counted 24 1) ≡ Some (Asked (insert_verified K (path 1) T))
 unfolding asks request_in counted K lines_of
 operands_14 = refl
 
-operands_15 : asks 0x15 (counted 26 1) ≡ some (Asked (insert_verified_with_path_mtu K (path 1) T 6681))
+operands_15 : asks 0x15 (counted 26 1) ≡ Some (Asked (insert_verified_with_path_mtu K (path 1) T 6681))
 unfolding asks request_in counted K lines_of
 operands_15 = refl
 
-operands_20 : asks 0x20 (counted 24 1) ≡ some (Asked (Get K T))
+operands_20 : asks 0x20 (counted 24 1) ≡ Some (Asked (Get K T))
 unfolding asks request_in counted K lines_of
 operands_20 = refl
 
-operands_21 : asks 0x21 (counted 24 1) ≡ some (Asked (GetAndTouch K T))
+operands_21 : asks 0x21 (counted 24 1) ≡ Some (Asked (GetAndTouch K T))
 unfolding asks request_in counted K lines_of
 operands_21 = refl
 
-operands_22 : asks 0x22 (counted 16 1) ≡ some (Asked (Remove K))
+operands_22 : asks 0x22 (counted 16 1) ≡ Some (Asked (Remove K))
 unfolding asks request_in counted K lines_of
 operands_22 = refl
 
-operands_23 : asks 0x23 (counted 16 1) ≡ some (Asked (Demote K))
+operands_23 : asks 0x23 (counted 16 1) ≡ Some (Asked (Demote K))
 unfolding asks request_in counted K lines_of
 operands_23 = refl
 
-operands_24 : asks 0x24 (counted 16 1) ≡ some (Asked (ClearPathMtu K))
+operands_24 : asks 0x24 (counted 16 1) ≡ Some (Asked (ClearPathMtu K))
 unfolding asks request_in counted K lines_of
 operands_24 = refl
 
-operands_30 : asks 0x30 (counted 8 1) ≡ some (Asked (PurgeExpired 578437695752307201))
+operands_30 : asks 0x30 (counted 8 1) ≡ Some (Asked (PurgeExpired 578437695752307201))
 unfolding asks request_in counted K lines_of
 operands_30 = refl
 
-operands_31 : asks 0x31 [] ≡ some (Asked Clear)
+operands_31 : asks 0x31 [] ≡ Some (Asked Clear)
 unfolding asks request_in counted K lines_of
 operands_31 = refl
 
-operands_32 : asks 0x32 (counted 16 1) ≡ some (Asked (InvalidateViaNode K))
+operands_32 : asks 0x32 (counted 16 1) ≡ Some (Asked (InvalidateViaNode K))
 unfolding asks request_in counted K lines_of
 operands_32 = refl
 
-operands_33 : asks 0x33 (counted 16 1) ≡ some (Asked (InvalidateOtherRoots K))
+operands_33 : asks 0x33 (counted 16 1) ≡ Some (Asked (InvalidateOtherRoots K))
 unfolding asks request_in counted K lines_of
 operands_33 = refl
 
-operands_40 : asks 0x40 (counted 8 1) ≡ some (Asked (Stats 578437695752307201))
+operands_40 : asks 0x40 (counted 8 1) ≡ Some (Asked (Stats 578437695752307201))
 unfolding asks request_in counted K lines_of
 operands_40 = refl
 
-operands_41 : asks 0x41 [] ≡ some (Asked NextExpiry)
+operands_41 : asks 0x41 [] ≡ Some (Asked NextExpiry)
 unfolding asks request_in counted K lines_of
 operands_41 = refl
 
 -- ---- widths
 
 left_over : ℕ → List ℕ → Option (List ℕ)
-left_over b bs = maybe (decode b bs) none (λ d. some d.left)
+left_over b bs = maybe (decode b bs) None (λ d. Some d.left)
 
 -- each code that has operands, with their width
 with_operands : List (ℕ × ℕ)
 with_operands = (0x00, 10) ∷ (0x01, 32) ∷ (0x10, 24) ∷ (0x11, 32) ∷ (0x12, 33) ∷ (0x13, 33) ∷ (0x14, 24) ∷ (0x15, 26) ∷ (0x20, 24) ∷ (0x21, 24) ∷ (0x22, 16) ∷ (0x23, 16) ∷ (0x24, 16) ∷ (0x30, 8) ∷ (0x32, 16) ∷ (0x33, 16) ∷ (0x40, 8) ∷ []
 
 -- its whole width is read, and no more
-whole : map (λ c. left_over c.0 (replicate c.1 0 ++ (7 ∷ []))) with_operands ≡ replicate 17 (some (7 ∷ []))
+whole : map (λ c. left_over c.0 (replicate c.1 0 ++ (7 ∷ []))) with_operands ≡ replicate 17 (Some (7 ∷ []))
 unfolding left_over with_operands lines_of
 whole = refl
 
 -- a byte less, and it is cut
-short : map (λ c. left_over c.0 (replicate (c.1 - 1) 0)) with_operands ≡ replicate 17 none
+short : map (λ c. left_over c.0 (replicate (c.1 - 1) 0)) with_operands ≡ replicate 17 None
 unfolding left_over with_operands lines_of
 short = refl
 
 -- the two codes without operands
-bare : map (λ b. left_over b (7 ∷ [])) (0x31 ∷ 0x41 ∷ []) ≡ replicate 2 (some (7 ∷ []))
+bare : map (λ b. left_over b (7 ∷ [])) (0x31 ∷ 0x41 ∷ []) ≡ replicate 2 (Some (7 ∷ []))
 unfolding left_over lines_of
 bare = refl
 
@@ -153,7 +153,7 @@ known_codes = refl
 -- ---- replies
 
 -- refused, lookups, remove, demote, clear, a sweep, statistics, next expiry, verified, hints
-replies : map reply (Refused 3 ∷ PathFound none ∷ PathFound (some (elements_from 90 2)) ∷ EntryRemoved none ∷ KeyHeld true ∷ KeyHeld false ∷ Done ∷ RowsRemoved 7 ∷ StatsGiven (record { entries = 1; max_entries = 2; expired = 3; avg_age_ms = 4 }) ∷ ExpiryGiven none ∷ ExpiryGiven (some 9) ∷ done 17 2 ∷ hint Changed 5 Main false 6 ∷ hint Unchanged 0 Probation true 1 ∷ hint Rejected 0 Main true 0 ∷ [])
+replies : map reply (Refused 3 ∷ PathFound None ∷ PathFound (Some (elements_from 90 2)) ∷ EntryRemoved None ∷ KeyHeld true ∷ KeyHeld false ∷ Done ∷ RowsRemoved 7 ∷ StatsGiven (record { entries = 1; max_entries = 2; expired = 3; avg_age_ms = 4 }) ∷ ExpiryGiven None ∷ ExpiryGiven (Some 9) ∷ done 17 2 ∷ hint Changed 5 Main false 6 ∷ hint Unchanged 0 Probation true 1 ∷ hint Rejected 0 Main true 0 ∷ [])
     ≡ refuses 3 ∷ says 0 0 0 0 0 ∷ says 1 2 0 0 0 ∷ says 0 0 0 0 0 ∷ says 1 0 0 0 0 ∷ says 0 0 0 0 0 ∷ says 0 0 0 0 0 ∷ says 7 0 0 0 0 ∷ says 1 2 3 4 0 ∷ says 0 0 0 0 0 ∷ says 1 9 0 0 0 ∷ says 0 17 0 0 2 ∷ says 1 5 0 0 6 ∷ says 2 0 1 1 1 ∷ says 3 0 0 1 0 ∷ []
 unfolding lines_of
 replies = refl

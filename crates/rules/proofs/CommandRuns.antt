@@ -3,7 +3,7 @@
 use Prim.Native.Nat.{ℕ, zero, suc, ◌+◌, ◌≤◌}
 use mathlib.Core.Path.{◌≡◌, refl, sym, ◌∙◌, ap, subst}
 use mathlib.Core.List.{List, [], ◌∷◌}
-use mathlib.Core.Option.{Option, none, some}
+use Rattle.std.specs.Prelude.{Option, None, Some, Ok, Err}
 use mathlib.Core.Bool.{Bool, true, false, cond, ◌&&◌, ◌||◌}
 use native.Mathlib.Omega.{arith}
 use lib.Dec.{ltb, leb, eqb}
@@ -12,6 +12,7 @@ use borrow.Author.Tests.{eqb-false, eqb-true, le-ltb, leb-false, leb-true, lt-lt
 use Rattle.types.specs.declared.coord.CoordEntry.{CoordEntry}
 use Rattle.types.specs.declared.coord.Path.{Path}
 use Rattle.types.specs.declared.sender.Sender.{Sender}
+use Rattle.types.specs.declared.refusal.Refusal.TheVariants.{PathLength}
 use Rattle.types.specs.Paths.{appended, path_places}
 use Rattle.types.specs.Senders.{emptied}
 use Rattle.types.specs.declared.placed.Funding.{Funding}
@@ -31,7 +32,7 @@ use Rattle.rules.proofs.Refused.{Iff, not_six, refusal_number}
 -- ---- a table of codes
 
 -- what holds of every code of a table holds of the one that is found
-pub code_found : (P : Code → Type 0) (b : ℕ) (cs : List Code) (c : Code) → Every P cs → code_of b cs ≡ some c → (b ≡ c.byte) × P c
+pub code_found : (P : Code → Type 0) (b : ℕ) (cs : List Code) (c : Code) → Every P cs → code_of b cs ≡ Some c → (b ≡ c.byte) × P c
 unfolding code_of
 code_found P b [] c h e = contradiction {b = true} refl (cc)
 code_found P b (x ∷ cs) c h e = cond_some (eqb b x.byte) e (λ t p. subst (λ (y : Code). (b ≡ y.byte) × P y) p (eqb-true b x.byte t, h.0)) (λ t p. code_found P b cs c h.1 p)
@@ -49,9 +50,9 @@ tested f (c ∷ cs) t = and_case (f c) (all_codes f cs) t (λ x y. (x, tested f 
 -- b is a known code, its operands are there, and they say x
 pub record Reads (cs : List Code) (b : ℕ) (bs : List ℕ) (x : Command) : Type 0 where
   pub code : Code
-  pub known : code_of b cs ≡ some code
+  pub known : code_of b cs ≡ Some code
   pub there : code.width ≤ length bs
-  pub says : reads code (take code.width bs) ≡ some x
+  pub says : reads code (take code.width bs) ≡ Some x
 
 -- and what is left stands behind them
 pub record Taken (cs : List Code) (b : ℕ) (bs : List ℕ) (d : Decoded) : Type 0 where
@@ -59,23 +60,23 @@ pub record Taken (cs : List Code) (b : ℕ) (bs : List ℕ) (d : Decoded) : Type
   pub left : d.left ≡ drop operands.code.width bs
 
 -- A COMMAND TAKES ITS OPERANDS AND NO MORE
-pub taken : (cs : List Code) (b : ℕ) (bs : List ℕ) (d : Decoded) → decode_in cs b bs ≡ some d → Taken cs b bs d
+pub taken : (cs : List Code) (b : ℕ) (bs : List ℕ) (d : Decoded) → decode_in cs b bs ≡ Some d → Taken cs b bs d
 unfolding decode_in
-taken cs b bs d = by_maybe (λ (o : Option Decoded). o ≡ some d → Taken cs b bs d) (code_of b cs) (λ e h. nothing h) (λ c e h. at c e (leb c.width (length bs)) refl (reads c (take c.width bs)) refl h)
+taken cs b bs d = by_maybe (λ (o : Option Decoded). o ≡ Some d → Taken cs b bs d) (code_of b cs) (λ e h. nothing h) (λ c e h. at c e (leb c.width (length bs)) refl (reads c (take c.width bs)) refl h)
   where
-    nothing : none ≡ some d → Taken cs b bs d
+    nothing : None ≡ Some d → Taken cs b bs d
     nothing h = contradiction {b = true} refl (cc)
 
-    at : (c : Code) → code_of b cs ≡ some c → (a : Bool) → leb c.width (length bs) ≡ a → (o : Option Command) → reads c (take c.width bs) ≡ o
-        → cond a (maybe o none (λ q. some (record { command = q; left = drop c.width bs }))) none ≡ some d → Taken cs b bs d
-    at c e true f none g h = nothing h
-    at c e true f (some q) g h =
+    at : (c : Code) → code_of b cs ≡ Some c → (a : Bool) → leb c.width (length bs) ≡ a → (o : Option Command) → reads c (take c.width bs) ≡ o
+        → cond a (maybe o None (λ q. Some (record { command = q; left = drop c.width bs }))) None ≡ Some d → Taken cs b bs d
+    at c e true f None g h = nothing h
+    at c e true f (Some q) g h =
         let l : drop c.width bs ≡ d.left = cc in
         let x : q ≡ d.command = cc in
-        record { operands = record { code = c; known = e; there = leb-true c.width (length bs) f; says = g ∙ ap some x }; left = sym l }
+        record { operands = record { code = c; known = e; there = leb-true c.width (length bs) f; says = g ∙ ap Some x }; left = sym l }
     at c e false f o g h = nothing h
 
-pub left_shorter : (cs : List Code) (b : ℕ) (bs : List ℕ) (d : Decoded) → decode_in cs b bs ≡ some d → length d.left ≤ length bs
+pub left_shorter : (cs : List Code) (b : ℕ) (bs : List ℕ) (d : Decoded) → decode_in cs b bs ≡ Some d → length d.left ≤ length bs
 left_shorter cs b bs d e = let t = taken cs b bs d e in rw (t.left, length-drop t.operands.code.width bs) (omega arith)
 
 -- ---- a run's count
@@ -95,8 +96,8 @@ same_run (suc n) (suc m) R s (b ∷ bs) h k = go (decode b bs) refl (λ d l. sam
     then i d = let o = obey R s d.command in let later = run_commands i R o.session d.left in record { lines = line b o.reply ∷ later.lines; session = later.session }
 
     go : (o : Option Decoded) → decode b bs ≡ o → ((d : Decoded) → length d.left ≤ length bs → run_commands n R (obey R s d.command).session d.left ≡ run_commands m R (obey R s d.command).session d.left) → maybe o (record { lines = line b (refused_six b s).reply ∷ []; session = (refused_six b s).session }) (then n) ≡ maybe o (record { lines = line b (refused_six b s).reply ∷ []; session = (refused_six b s).session }) (then m)
-    go none e f = refl
-    go (some d) e f = ap (λ (x : Output). record { lines = line b (obey R s d.command).reply ∷ x.lines; session = x.session }) (f d (left_shorter codes b bs d e))
+    go None e f = refl
+    go (Some d) e f = ap (λ (x : Output). record { lines = line b (obey R s d.command).reply ∷ x.lines; session = x.session }) (f d (left_shorter codes b bs d e))
 
 -- THE NUMBER OF BYTES IS ENOUGH
 pub fuel_enough : (k R : ℕ) (s : Session) (bs : List ℕ) → run_commands (length bs + k) R s bs ≡ run_commands (length bs) R s bs
@@ -118,15 +119,15 @@ no_command_in cs b bs = maybe (code_of b cs) true (λ c. ltb (length bs) c.width
 abbrev pub no_command : ℕ → List ℕ → Bool
 no_command b bs = no_command_in codes b bs
 
-absent {ℓ} : {A : Type ℓ} → Option A → Bool
-absent none = true
-absent (some a) = false
+absent : {A : Type 0} → Option A → Bool
+absent None = true
+absent (Some a) = false
 
 kind_read : (o : List ℕ) (f : Funding → Sender → Call) → absent (funded o f) ≡ ltb 1 (kind_in o)
 unfolding funded absent
 kind_read o f = go (WithPath (f Uncharged)) _ (kind_in o) (eqb (kind_in o) 0) refl (eqb (kind_in o) 1) refl
   where
-    go : (x y : Command) (k : ℕ) (a : Bool) → eqb k 0 ≡ a → (b : Bool) → eqb k 1 ≡ b → absent (cond a (some x) (cond b (some y) none)) ≡ ltb 1 k
+    go : (x y : Command) (k : ℕ) (a : Bool) → eqb k 0 ≡ a → (b : Bool) → eqb k 1 ≡ b → absent (cond a (Some x) (cond b (Some y) None)) ≡ ltb 1 k
     go x y k true p b q = let z = eqb-true k 0 p in sym (le-ltb 1 k (omega arith))
     go x y k false p true q = let z = eqb-true k 1 q in sym (le-ltb 1 k (omega arith))
     go x y k false p false q = let u = eqb-false k 0 p in let v = eqb-false k 1 q in sym (lt-ltb 1 k (omega arith))
@@ -143,18 +144,18 @@ absent_decode : (cs : List Code) (b : ℕ) (bs : List ℕ) → absent (decode_in
 unfolding decode_in no_command_in absent
 absent_decode cs b bs = go (code_of b cs)
   where
-    read : {A B : Type 0} (f : A → B) (o : Option A) → absent (maybe o none (λ q. some (f q))) ≡ absent o
-    read f none = refl
-    read f (some q) = refl
+    read : {A B : Type 0} (f : A → B) (o : Option A) → absent (maybe o None (λ q. Some (f q))) ≡ absent o
+    read f None = refl
+    read f (Some q) = refl
 
-    whole : (c : Code) (a : Bool) → leb c.width (length bs) ≡ a → absent {A = Decoded} (cond a (maybe (reads c (take c.width bs)) none (λ q. some (record { command = q; left = drop c.width bs }))) none) ≡ ltb (length bs) c.width || (has_funding c.says && ltb 1 (kind_in (take c.width bs)))
+    whole : (c : Code) (a : Bool) → leb c.width (length bs) ≡ a → absent {A = Decoded} (cond a (maybe (reads c (take c.width bs)) None (λ q. Some (record { command = q; left = drop c.width bs }))) None) ≡ ltb (length bs) c.width || (has_funding c.says && ltb 1 (kind_in (take c.width bs)))
     whole c true h =
         rw (le-ltb (length bs) c.width (leb-true c.width (length bs) h)) (read {B = Decoded} (λ q. record { command = q; left = drop c.width bs }) (reads c (take c.width bs)) ∙ operands_read c.says (take c.width bs))
     whole c false h = rw (lt-ltb (length bs) c.width (leb-false c.width (length bs) h)) refl
 
-    go : (o : Option Code) → absent {A = Decoded} (maybe o none (λ c. cond (leb c.width (length bs)) (maybe (reads c (take c.width bs)) none (λ q. some (record { command = q; left = drop c.width bs }))) none)) ≡ maybe o true (λ c. ltb (length bs) c.width || (has_funding c.says && ltb 1 (kind_in (take c.width bs))))
-    go none = refl
-    go (some c) = whole c (leb c.width (length bs)) refl
+    go : (o : Option Code) → absent {A = Decoded} (maybe o None (λ c. cond (leb c.width (length bs)) (maybe (reads c (take c.width bs)) None (λ q. Some (record { command = q; left = drop c.width bs }))) None)) ≡ maybe o true (λ c. ltb (length bs) c.width || (has_funding c.says && ltb 1 (kind_in (take c.width bs))))
+    go None = refl
+    go (Some c) = whole c (leb c.width (length bs)) refl
 
 -- a line's number is the answer's
 pub reply_number : (a : Answer) → (reply a).refusal ≡ refusal_of a
@@ -162,16 +163,16 @@ unfolding reply refusal_of refuses says placed_reply verified_reply stats_reply
 reply_number (Refused n) = refl
 reply_number (Hinted p) = refl
 reply_number (VerifiedDone v) = refl
-reply_number (PathFound none) = refl
-reply_number (PathFound (some es)) = refl
-reply_number (EntryRemoved none) = refl
-reply_number (EntryRemoved (some e)) = refl
+reply_number (PathFound None) = refl
+reply_number (PathFound (Some es)) = refl
+reply_number (EntryRemoved None) = refl
+reply_number (EntryRemoved (Some e)) = refl
 reply_number (KeyHeld b) = refl
 reply_number Done = refl
 reply_number (RowsRemoved n) = refl
 reply_number (StatsGiven c) = refl
-reply_number (ExpiryGiven none) = refl
-reply_number (ExpiryGiven (some t)) = refl
+reply_number (ExpiryGiven None) = refl
+reply_number (ExpiryGiven (Some t)) = refl
 
 pub answer_not_six : (R : ℕ) (s : State) (x : Request) → (reply (serve R s x).answer).refusal ≡ 6 → ⊥
 answer_not_six R s x = subst (λ (n : ℕ). n ≡ 6 → ⊥) (sym (reply_number (serve R s x).answer ∙ refusal_number R s x)) (by_maybe (λ (n : ℕ). n ≡ 6 → ⊥) (refusal R s x) (λ e h. let z : ⊥ = omega arith in z) (λ n e. not_six R s x n e))
@@ -181,7 +182,7 @@ pub element_not_six : (p : Path) (e : CoordEntry) → (element_reply (appended p
 unfolding appended says refuses
 element_not_six p e = go (ltb p.len path_places)
   where
-    go : (b : Bool) → (element_reply (cond b (record { refusal = 0; path = record { entries = set p.entries p.len e; len = p.len + 1 } }) (record { refusal = 2; path = p }))).refusal ≡ 6 → ⊥
+    go : (b : Bool) → (element_reply (cond b (Ok (record { entries = set p.entries p.len e; len = p.len + 1 })) (Err PathLength))).refusal ≡ 6 → ⊥
     go true h = let z : ⊥ = omega arith in z
     go false h = let z : ⊥ = omega arith in z
 
@@ -209,8 +210,8 @@ six_exactly n R s b bs = go (decode b bs) (absent_decode codes b bs)
   where
     go : (o : Option Decoded) → absent o ≡ no_command b bs → SixExactly b bs s (maybe o (record { lines = line b (refused_six b s).reply ∷ []; session = (refused_six b s).session })
         (λ d. let t = obey R s d.command in let later = run_commands n R t.session d.left in record { lines = line b t.reply ∷ later.lines; session = later.session }))
-    go none e = record { six = (λ h. sym e, λ h. refl); stops = λ h. refl; state = λ h. refl }
-    go (some d) e = record {
+    go None e = record { six = (λ h. sym e, λ h. refl); stops = λ h. refl; state = λ h. refl }
+    go (Some d) e = record {
       six = (λ h. absurd (obeyed_not_six R s d.command h), λ h. contradiction h (sym e));
       stops = λ h. contradiction h (sym e);
       state = λ h. contradiction h (sym e);
@@ -233,19 +234,19 @@ operand_sort (Requests f) = 2
 unfoldable pub code_sort : ℕ → ℕ
 code_sort b = cond (eqb b 0x01) 0 (cond (takes_path b) 1 2)
 
-read_sort : (x : Operands) (o : List ℕ) (q : Command) → read_as x o ≡ some q → sort q ≡ operand_sort x
+read_sort : (x : Operands) (o : List ℕ) (q : Command) → read_as x o ≡ Some q → sort q ≡ operand_sort x
 unfolding read_as funded sort operand_sort
 read_sort x o q = go x
   where
-    is : (y : Command) → some y ≡ some q → sort q ≡ sort y
+    is : (y : Command) → Some y ≡ Some q → sort q ≡ sort y
     is y e = let z : q ≡ y = cc in ap sort z
 
-    kind : (y z : Sender → Call) (a b : Bool) → cond a (some (WithPath y)) (cond b (some (WithPath z)) none) ≡ some q → sort q ≡ 1
+    kind : (y z : Sender → Call) (a b : Bool) → cond a (Some (WithPath y)) (cond b (Some (WithPath z)) None) ≡ Some q → sort q ≡ 1
     kind y z true b e = is (WithPath y) e
     kind y z false true e = is (WithPath z) e
     kind y z false false e = contradiction {b = true} refl (cc)
 
-    go : (y : Operands) → read_as y o ≡ some q → sort q ≡ operand_sort y
+    go : (y : Operands) → read_as y o ≡ Some q → sort q ≡ operand_sort y
     go (Elements f) e = is (Element (f o)) e
     go (Writes f) e = is (WithPath (f o)) e
     go (Funds f) e = kind (f o Uncharged) _ (eqb (kind_in o) 0) (eqb (kind_in o) 1) e
@@ -259,7 +260,7 @@ pub codes_sorted : all_codes sorted codes ≡ true
 unfolding all_codes sorted codes code operand_sort code_sort takes_path
 codes_sorted = refl
 
-pub decoded_sort : (cs : List Code) → all_codes sorted cs ≡ true → (b : ℕ) (bs : List ℕ) (d : Decoded) → decode_in cs b bs ≡ some d → sort d.command ≡ code_sort b
+pub decoded_sort : (cs : List Code) → all_codes sorted cs ≡ true → (b : ℕ) (bs : List ℕ) (d : Decoded) → decode_in cs b bs ≡ Some d → sort d.command ≡ code_sort b
 unfolding sorted
 decoded_sort cs t b bs d e =
     let r = (taken cs b bs d e).operands in
@@ -281,5 +282,5 @@ unfolding refused_six after_six code_sort
 pending_after_lem R s b bs h = go (decode b bs) refl
   where
     go : (o : Option Decoded) → decode b bs ≡ o → (maybe o (refused_six b s) (λ d. obey R s d.command)).session.sender ≡ cond (takes_path b) (emptied s.sender) s.sender
-    go none e = refl
-    go (some d) e = obeyed_sender R s d.command (takes_path b) (decoded_sort codes codes_sorted b bs d e ∙ rw h)
+    go None e = refl
+    go (Some d) e = obeyed_sender R s d.command (takes_path b) (decoded_sort codes codes_sorted b bs d e ∙ rw h)

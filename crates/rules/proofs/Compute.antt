@@ -2,7 +2,7 @@
 -- Every definition that a call may need is unfolded here, once.
 use Prim.Native.Nat.{ℕ, zero, suc}
 use mathlib.Core.List.{List, [], ◌∷◌, ◌++◌, map}
-use mathlib.Core.Option.{none, some}
+use Rattle.std.specs.Prelude.{None, Some}
 use mathlib.Core.Bool.{Bool}
 use lib.ListN.{replicate, take}
 use Rattle.types.specs.declared.coord.CoordEntry.{CoordEntry}
@@ -66,10 +66,10 @@ abbrev pub done : ℕ → ℕ → Answer
 done w n = VerifiedDone (record { weight = w; examined = n })
 
 abbrev pub found : ℕ → Answer
-found n = PathFound (some (elements_from 90 n))
+found n = PathFound (Some (elements_from 90 n))
 
 abbrev pub missing : Answer
-missing = PathFound none
+missing = PathFound None
 
 -- ---- the six inserts
 

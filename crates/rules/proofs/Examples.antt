@@ -2,13 +2,12 @@
 use Prim.Native.Nat.{ℕ, ◌+◌}
 use mathlib.Core.Path.{◌≡◌, refl}
 use mathlib.Core.List.{List, [], ◌∷◌, ◌++◌, map}
-use mathlib.Core.Option.{none, some}
+use Rattle.std.specs.Prelude.{None, Some}
 use mathlib.Core.Bool.{false}
 use lib.ListN.{length, replicate}
 use Rattle.types.specs.declared.coord.Path.{Path}
 use Rattle.types.specs.Paths.{zero_entry}
 use Rattle.types.specs.declared.entry.CoordSource.TheVariants.{Hint, Verified}
-use Rattle.types.specs.declared.entry.PathMtu.TheVariants.{Known, Unknown}
 use Rattle.types.specs.declared.placed.Funding.TheVariants.{Upto}
 use Rattle.types.specs.declared.placed.HintOutcome.TheVariants.{Inserted}
 use Rattle.types.specs.declared.placed.Segment.TheVariants.{Main}
@@ -73,7 +72,7 @@ seq_at_the_limit : answers_on (holding 2 18446744073709547519 []) (insert_funded
 unfolding holding seen_from
 seq_at_the_limit = refl
 
-seq_spent_lem : answers_on (holding 2 18446744073709551615 (row_on 1 1 1 ∷ [])) (insert B (path 1) 0 ∷ insert_verified B (path 1) 0 ∷ Demote B ∷ GetAndTouch A 5 ∷ PurgeExpired 0 ∷ []) ≡ Refused 3 ∷ Refused 3 ∷ Refused 3 ∷ PathFound (some (elements_from 90 1)) ∷ RowsRemoved 0 ∷ []
+seq_spent_lem : answers_on (holding 2 18446744073709551615 (row_on 1 1 1 ∷ [])) (insert B (path 1) 0 ∷ insert_verified B (path 1) 0 ∷ Demote B ∷ GetAndTouch A 5 ∷ PurgeExpired 0 ∷ []) ≡ Refused 3 ∷ Refused 3 ∷ Refused 3 ∷ PathFound (Some (elements_from 90 1)) ∷ RowsRemoved 0 ∷ []
 unfolding row_on holding seen_from
 seq_spent_lem = refl
 
@@ -92,18 +91,18 @@ full_at : ℕ → State
 full_at q = with_seq q (with_held 16 1 (record { key = A; entry = record { path = path 1; created_at = 0; last_used = 0; expires_at = 300000; mtu_mark = 0; mtu = 0; source = 0; verified_until = 300000 }; place = 0; stamp_first = 0; stamp_seq = 0; weight = 16 } ∷ []) [] (fresh 0 1 300000 []))
 
 -- 3 before 4
-spent_before_no_place : map (λ q. refusal 2 (full_at q) (Asked (insert_verified B (path 1) 0))) (0 ∷ 18446744073709551615 ∷ []) ≡ some 4 ∷ some 3 ∷ []
+spent_before_no_place : map (λ q. refusal 2 (full_at q) (Asked (insert_verified B (path 1) 0))) (0 ∷ 18446744073709551615 ∷ []) ≡ Some 4 ∷ Some 3 ∷ []
 unfolding full_at seen_from
 spent_before_no_place = refl
 
 -- exactly hints, verified inserts and demote, even where nothing would change: A is verified and C not held
 three_exactly : map (λ q. refusal 24 (full_at 18446744073709551615) (Asked q)) (insert A (path 1) 0 ∷ insert_with_ttl A (path 1) 0 5 ∷ insert_funded A (path 1) 0 (Upto 0) ∷ insert_stated A (path 1) 0 (Upto 0) ∷ insert_verified A (path 1) 0 ∷ insert_verified_with_path_mtu A (path 1) 0 9 ∷ Demote C ∷ [])
-    ≡ replicate 7 (some 3)
+    ≡ replicate 7 (Some 3)
 unfolding full_at seen_from
 three_exactly = refl
 
 three_for_no_other : map (λ q. refusal 24 (full_at 18446744073709551615) (Asked q)) (Get A 0 ∷ GetAndTouch A 0 ∷ Remove A ∷ ClearPathMtu A ∷ PurgeExpired 0 ∷ Clear ∷ InvalidateViaNode A ∷ InvalidateOtherRoots A ∷ Stats 0 ∷ NextExpiry ∷ [])
-    ≡ replicate 10 none
+    ≡ replicate 10 None
 unfolding full_at seen_from
 three_for_no_other = refl
 
@@ -118,7 +117,7 @@ unfolding holding seen_from
 five = refl
 
 -- R 1,024 is not too many, 1,025 is; R 1 is enough for max 0, and R 66 for max 64
-five_at_the_limits : refusal max_rows (holding 2 0 []) (Fresh 0 1) ∷ refusal (max_rows + 1) (holding 2 0 []) (Fresh 0 1) ∷ refusal 1 (holding 2 0 []) (Fresh 0 1) ∷ refusal 0 (holding 2 0 []) (Fresh 0 1) ∷ refusal 66 (holding 2 0 []) (Fresh 64 1) ∷ refusal 65 (holding 2 0 []) (Fresh 64 1) ∷ [] ≡ none ∷ some 5 ∷ none ∷ some 5 ∷ none ∷ some 5 ∷ []
+five_at_the_limits : refusal max_rows (holding 2 0 []) (Fresh 0 1) ∷ refusal (max_rows + 1) (holding 2 0 []) (Fresh 0 1) ∷ refusal 1 (holding 2 0 []) (Fresh 0 1) ∷ refusal 0 (holding 2 0 []) (Fresh 0 1) ∷ refusal 66 (holding 2 0 []) (Fresh 64 1) ∷ refusal 65 (holding 2 0 []) (Fresh 64 1) ∷ [] ≡ None ∷ Some 5 ∷ None ∷ Some 5 ∷ None ∷ Some 5 ∷ []
 unfolding holding seen_from
 five_at_the_limits = refl
 
@@ -138,7 +137,7 @@ source_codes : map source_code (Verified ∷ Hint ∷ []) ≡ verified_source �
 unfolding source_code
 source_codes = refl
 
-mark_codes : map mtu_mark_of (Unknown ∷ Known 1400 ∷ []) ≡ no_mtu ∷ some_mtu ∷ []
+mark_codes : map mtu_mark_of (None ∷ Some 1400 ∷ []) ≡ no_mtu ∷ some_mtu ∷ []
 unfolding mtu_mark_of
 mark_codes = refl
 

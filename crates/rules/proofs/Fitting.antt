@@ -3,7 +3,7 @@ use mathlib.Core.Path.{◌≡◌, refl, subst}
 use Prim.Native.Nat.{ℕ, ◌+◌, ◌*◌, ◌-◌, ◌≤◌, ◌<◌, max}
 use native.Mathlib.Omega.{arith}
 use mathlib.Core.List.{List, []}
-use mathlib.Core.Option.{Option, none, some}
+use Rattle.std.specs.Prelude.{Option, None, Some}
 use mathlib.Core.Bool.{Bool, true, false, ◌&&◌, ◌||◌, not}
 use lib.Dec.{leb}
 use lib.ListN.{length, length-append}
@@ -145,14 +145,14 @@ module _ (R B : ℕ) (l : R * row_size ≤ B) (k : NodeAddr) (kf : AddrFits k) w
   unfolding without_key
   without_key_sized s h = by_maybe (Sized B) (find k s.rows) (λ e. h) (λ i e. take_out_sized B i s h)
 
-  entry_fits : (p : Path) (now : ℕ) (mtu : Option ℕ) (s : State) → PathOk p → PathFits p → Small number_size now → ((m : ℕ) → mtu ≡ some m → Small mtu_size m) → Sized B s → EntryFits (verified_entry k p now mtu s)
+  entry_fits : (p : Path) (now : ℕ) (mtu : Option ℕ) (s : State) → PathOk p → PathFits p → Small number_size now → ((m : ℕ) → mtu ≡ Some m → Small mtu_size m) → Sized B s → EntryFits (verified_entry k p now mtu s)
   unfolding verified_entry
   entry_fits p now mtu s po pf ns ms h =
       let base : EntryFits (maybe (find k s.rows) (new_entry p now s.default_ttl) (λ i. update p now s.default_ttl (row_at i s.rows).entry)) = by_maybe EntryFits (find k s.rows) (λ e. new_fits p now s.default_ttl po pf ns) (λ i e. update_fits p now s.default_ttl (row_at i s.rows).entry po pf ns (held_fits B i s h (find_at k s.rows i e).inside)) in
       let v = verified_fits now _ base in
       by_maybe EntryFits mtu (λ e. v) (λ m e. set_mtu_fits m _ (ms m e) v)
 
-  insert_verified_sized : (p : Path) (now : ℕ) (mtu : Option ℕ) (s : State) → PathOk p → PathFits p → Small number_size now → ((m : ℕ) → mtu ≡ some m → Small mtu_size m) → Sized B s → Sound R (insert_verified k p now mtu s).state → Sized B (insert_verified k p now mtu s).state
+  insert_verified_sized : (p : Path) (now : ℕ) (mtu : Option ℕ) (s : State) → PathOk p → PathFits p → Small number_size now → ((m : ℕ) → mtu ≡ Some m → Small mtu_size m) → Sized B s → Sound R (insert_verified k p now mtu s).state → Sized B (insert_verified k p now mtu s).state
   unfolding insert_verified
   insert_verified_sized p now mtu s po pf ns ms h g = filed (make_room now (path_weight p) (without_key k s)).state (verified_entry k p now mtu s) (path_weight p) by_use (entry_fits p now mtu s po pf ns ms h) (room_sized B now (path_weight p) (without_key k s) (without_key_sized s h)) g
 
@@ -182,7 +182,7 @@ module _ (R B : ℕ) (l : R * row_size ≤ B) (s : State) (h : Sized B s) where
   unfolding hinted gives
   hint_sized k p t ttl f st w e = place_hint_keeps R B l k w.key p t ttl f (path_ok p e) w.path w.time s st h
 
-  verify_sized : (k : NodeAddr) (p : Path) (t : ℕ) (mtu : Option ℕ) → WriteFits k p t → bad_path p ≡ false → ((m : ℕ) → mtu ≡ some m → Small mtu_size m) → StepKeepsSize (verifies k p t mtu s)
+  verify_sized : (k : NodeAddr) (p : Path) (t : ℕ) (mtu : Option ℕ) → WriteFits k p t → bad_path p ≡ false → ((m : ℕ) → mtu ≡ Some m → Small mtu_size m) → StepKeepsSize (verifies k p t mtu s)
   unfolding verifies gives
   verify_sized k p t mtu w e ms = insert_verified_sized R B l k w.key p t mtu s (path_ok p e) w.path w.time ms h
 
@@ -196,8 +196,8 @@ module _ (R B : ℕ) (l : R * row_size ≤ B) (s : State) (h : Sized B s) where
   perform_sized (InsertWithTtl k p t u) w e = hint_sized k p t u Uncharged false w e
   perform_sized (InsertFunded k p t f) w e = hint_sized k p t s.default_ttl f false w e
   perform_sized (InsertStated k p t f) w e = hint_sized k p t s.default_ttl f (starts_at k p) w e
-  perform_sized (InsertVerified k p t) w e = verify_sized k p t none w e (λ m e. contradiction {b = true} refl (cc))
-  perform_sized (InsertVerifiedWithPathMtu k p t m) w e = verify_sized k p t (some m) w.0 e (λ n e. let z : m ≡ n = cc in subst (Small mtu_size) z w.1)
+  perform_sized (InsertVerified k p t) w e = verify_sized k p t None w e (λ m e. contradiction {b = true} refl (cc))
+  perform_sized (InsertVerifiedWithPathMtu k p t m) w e = verify_sized k p t (Some m) w.0 e (λ n e. let z : m ≡ n = cc in subst (Small mtu_size) z w.1)
   perform_sized (Get k t) w e = λ g. h
   perform_sized (GetAndTouch k t) w e = λ g. touched_sized R B l k w.0 t s w.1 h
   perform_sized (Remove k) w e = λ g. without_key_sized R B l k w s h

@@ -3,7 +3,7 @@ use mathlib.Core.Path.{◌≡◌, refl, sym, ap, ◌∙◌, subst}
 use Prim.Native.Nat.{ℕ, zero, suc, ◌+◌, ◌*◌, ◌≤◌, ◌<◌, min}
 use native.Mathlib.Omega.{arith}
 use mathlib.Core.List.{List, [], ◌∷◌, ◌++◌}
-use mathlib.Core.Option.{Option, none, some}
+use Rattle.std.specs.Prelude.{Option, None, Some}
 use mathlib.Core.Bool.{true, false, cond}
 use lib.ListN.{length, take, drop, length-drop}
 use borrow.Author.Tests.{le-ltb}
@@ -93,10 +93,10 @@ answer_bytes (StatsGiven c) = []
 answer_bytes (ExpiryGiven o) = []
 
 -- an unexpired key's row is held, and its length is legal
-unexpired_row_lem : (R : ℕ) (k : NodeAddr) (now : ℕ) (s : State) (i : ℕ) → Sound R s → unexpired_row k now s ≡ some i → (i < length s.rows) × ((row_at i s.rows).entry.path.len ≤ path_places)
+unexpired_row_lem : (R : ℕ) (k : NodeAddr) (now : ℕ) (s : State) (i : ℕ) → Sound R s → unexpired_row k now s ≡ Some i → (i < length s.rows) × ((row_at i s.rows).entry.path.len ≤ path_places)
 unfolding unexpired_row
-unexpired_row_lem R k now s i h = by_maybe (λ (o : Option ℕ). o ≡ some i → (i < length s.rows) × ((row_at i s.rows).entry.path.len ≤ path_places)) (find k s.rows) (λ e g. contradiction {b = true} refl (cc))
-    (λ j e. by_cond (λ (o : Option ℕ). o ≡ some i → (i < length s.rows) × ((row_at i s.rows).entry.path.len ≤ path_places)) (expired now (row_at j s.rows).entry) (λ x g. contradiction {b = true} refl (cc))
+unexpired_row_lem R k now s i h = by_maybe (λ (o : Option ℕ). o ≡ Some i → (i < length s.rows) × ((row_at i s.rows).entry.path.len ≤ path_places)) (find k s.rows) (λ e g. contradiction {b = true} refl (cc))
+    (λ j e. by_cond (λ (o : Option ℕ). o ≡ Some i → (i < length s.rows) × ((row_at i s.rows).entry.path.len ≤ path_places)) (expired now (row_at j s.rows).entry) (λ x g. contradiction {b = true} refl (cc))
     (λ x g. let z : j ≡ i = cc in let l = (find_at k s.rows j e).inside in subst (λ (n : ℕ). (n < length s.rows) × ((row_at n s.rows).entry.path.len ≤ path_places)) z (l, (every_at (RowOk s.seq) j s.rows l h.each).short)))
 
 -- GET HANDS BACK THE STORED PATH, AS A PART OF THE MEMORY: the elements up to its length and no more
@@ -104,16 +104,16 @@ pub got_part_lem : (l : List ℕ) (k : NodeAddr) (now : ℕ) → Bytes l → got
 unfolding got_part found_part lent serve perform_request perform get gives answer_bytes elements
 got_part_lem l k now b = go (refusal (capacity l) (view l) (Asked (Get k now))) refl
   where
-    found : sound (capacity l) (view l) ≡ true → (o : Option ℕ) → unexpired_row k now (view l) ≡ o → maybe o [] (λ i. path_part i (row_at i (view l).rows).entry.path.len l) ≡ maybe (maybe o none (λ i. some (take (row_at i (view l).rows).entry.path.len (row_at i (view l).rows).entry.path.entries))) [] coord_entries_bytes
-    found h none e = refl
-    found h (some i) e =
+    found : sound (capacity l) (view l) ≡ true → (o : Option ℕ) → unexpired_row k now (view l) ≡ o → maybe o [] (λ i. path_part i (row_at i (view l).rows).entry.path.len l) ≡ maybe (maybe o None (λ i. Some (take (row_at i (view l).rows).entry.path.len (row_at i (view l).rows).entry.path.entries))) [] coord_entries_bytes
+    found h None e = refl
+    found h (Some i) e =
         let s = sound_is (capacity l) (view l) h in
         let u = unexpired_row_lem (capacity l) k now (view l) i s e in
         sym (path_in_memory i (row_at i (view l).rows).entry.path.len l (head_fits l (omega (arith, s.space))) b u.0 u.1)
 
     go : (o : Option ℕ) → refusal (capacity l) (view l) (Asked (Get k now)) ≡ o → got_part k now l ≡ answer_bytes (call l (Get k now)).answer
-    go none e = rw e (found (allowed (capacity l) (view l) (Get k now) e).sound (unexpired_row k now (view l)) refl)
-    go (some n) e = rw e
+    go None e = rw e (found (allowed (capacity l) (view l) (Get k now) e).sound (unexpired_row k now (view l)) refl)
+    go (Some n) e = rw e
 
 -- ---- get_and_touch hands back the part of the memory that it leaves
 
@@ -123,18 +123,18 @@ find_change k f i [] h = refl
 find_change k f zero (r ∷ rs) h = rw (h r)
 find_change k f (suc i) (r ∷ rs) h = rw (find_change k f i rs h)
 
-pub find_gone : (k : NodeAddr) (rs : List Row) → Every (λ y. y.key ≡ k → ⊥) (cores rs) → find k rs ≡ none
+pub find_gone : (k : NodeAddr) (rs : List Row) → Every (λ y. y.key ≡ k → ⊥) (cores rs) → find k rs ≡ None
 unfolding find next_index
 find_gone k [] h = refl
 find_gone k (r ∷ rs) h = rw (same_ne k r.key (λ e. h.0 (sym e)), find_gone k rs h.1)
 
-get_none : (k : NodeAddr) (now : ℕ) (s : State) → find k s.rows ≡ none → get k now s ≡ none
+get_none : (k : NodeAddr) (now : ℕ) (s : State) → find k s.rows ≡ None → get k now s ≡ None
 unfolding get unexpired_row
 get_none k now s e = rw e
 
-get_some : (k : NodeAddr) (now : ℕ) (s : State) (i : ℕ) → find k s.rows ≡ some i → get k now s ≡ cond (expired now (row_at i s.rows).entry) none (some (elements (row_at i s.rows).entry.path))
+get_some : (k : NodeAddr) (now : ℕ) (s : State) (i : ℕ) → find k s.rows ≡ Some i → get k now s ≡ cond (expired now (row_at i s.rows).entry) None (Some (elements (row_at i s.rows).entry.path))
 unfolding get unexpired_row
-get_some k now s i e = rw e (by_cond (λ (o : Option ℕ). maybe o none (λ j. some (elements (row_at j s.rows).entry.path)) ≡ cond (expired now (row_at i s.rows).entry) none (some (elements (row_at i s.rows).entry.path))) (expired now (row_at i s.rows).entry) (λ x. rw x) (λ x. rw x))
+get_some k now s i e = rw e (by_cond (λ (o : Option ℕ). maybe o None (λ j. Some (elements (row_at j s.rows).entry.path)) ≡ cond (expired now (row_at i s.rows).entry) None (Some (elements (row_at i s.rows).entry.path))) (expired now (row_at i s.rows).entry) (λ x. rw x) (λ x. rw x))
 
 rewrite_rows : (f : Entry → Entry) (i : ℕ) (s : State) → (rewrite f i s).rows ≡ change_row (λ r. with_entry (f r.entry) r) i s.rows
 unfolding rewrite with_rows
@@ -154,11 +154,11 @@ refreshed_path now ttl r = refl
 
 -- a row after a refresh: its key's, unexpired, with its path
 pub record RefreshedRow (k : NodeAddr) (now i : ℕ) (s d : State) : Type 0 where
-  pub held : find k d.rows ≡ some i
+  pub held : find k d.rows ≡ Some i
   pub unexpired : expired now (row_at i d.rows).entry ≡ false
   pub path : (row_at i d.rows).entry.path ≡ (row_at i s.rows).entry.path
 
-pub refreshed_row : (k : NodeAddr) (now : ℕ) (s : State) (i : ℕ) → now ≤ last_time → find k s.rows ≡ some i → i < length s.rows → RefreshedRow k now i s (rewrite (refresh now s.default_ttl) i s)
+pub refreshed_row : (k : NodeAddr) (now : ℕ) (s : State) (i : ℕ) → now ≤ last_time → find k s.rows ≡ Some i → i < length s.rows → RefreshedRow k now i s (rewrite (refresh now s.default_ttl) i s)
 refreshed_row k now s i h e l =
     let f : Row → Row = λ r. with_entry (refresh now s.default_ttl r.entry) r in
     let d = rewrite (refresh now s.default_ttl) i s in
@@ -170,13 +170,13 @@ refreshed_row k now s i h e l =
       path = ap (λ (x : Row). x.entry.path) r ∙ refreshed_path now s.default_ttl (row_at i s.rows);
     }
 
-get_refreshed : (k : NodeAddr) (now : ℕ) (s : State) (i : ℕ) → now ≤ last_time → find k s.rows ≡ some i → i < length s.rows → expired now (row_at i s.rows).entry ≡ false → get k now (rewrite (refresh now s.default_ttl) i s) ≡ get k now s
+get_refreshed : (k : NodeAddr) (now : ℕ) (s : State) (i : ℕ) → now ≤ last_time → find k s.rows ≡ Some i → i < length s.rows → expired now (row_at i s.rows).entry ≡ false → get k now (rewrite (refresh now s.default_ttl) i s) ≡ get k now s
 get_refreshed k now s i h e l x =
     let d = rewrite (refresh now s.default_ttl) i s in
     let r = refreshed_row k now s i h e l in
-    let a : get k now d ≡ some (elements (row_at i d.rows).entry.path) = get_some k now d i r.held ∙ rw r.unexpired in
-    let b : get k now s ≡ some (elements (row_at i s.rows).entry.path) = get_some k now s i e ∙ rw x in
-    a ∙ ap (λ (p : Path). some (elements p)) r.path ∙ sym b
+    let a : get k now d ≡ Some (elements (row_at i d.rows).entry.path) = get_some k now d i r.held ∙ rw r.unexpired in
+    let b : get k now s ≡ Some (elements (row_at i s.rows).entry.path) = get_some k now s i e ∙ rw x in
+    a ∙ ap (λ (p : Path). Some (elements p)) r.path ∙ sym b
 
 -- a touched key is found as it was, and nothing is found where nothing was
 get_touched : (R : ℕ) (k : NodeAddr) (now : ℕ) (s : State) → Sound R s → now ≤ last_time → get k now (touched k now s) ≡ get k now s
@@ -187,7 +187,7 @@ get_touched R k now s h l = by_maybe (λ (d : State). get k now d ≡ get k now 
     (λ x. get_none k now (take_out i s) (find_gone k (take_out i s).rows (take_out_gone k i s (rising_unique (cores s.rows) h.rising) g.inside g.key)) ∙ sym (expired_none i e x))
     (λ x. get_refreshed k now s i l e g.inside x))
   where
-    expired_none : (i : ℕ) → find k s.rows ≡ some i → expired now (row_at i s.rows).entry ≡ true → get k now s ≡ none
+    expired_none : (i : ℕ) → find k s.rows ≡ Some i → expired now (row_at i s.rows).entry ≡ true → get k now s ≡ None
     expired_none i e x = get_some k now s i e ∙ rw x
 
 -- get and get_and_touch are refused alike
@@ -195,7 +195,7 @@ same_refusal : (R : ℕ) (k : NodeAddr) (now : ℕ) (s : State) → refusal R s 
 unfolding refusal reasons path_given draws_stamps verified_write
 same_refusal R k now s = refl
 
-get_allowed : (R : ℕ) (k : NodeAddr) (now : ℕ) (s : State) → sound R s ≡ true → refusal R s (Asked (Get k now)) ≡ none
+get_allowed : (R : ℕ) (k : NodeAddr) (now : ℕ) (s : State) → sound R s ≡ true → refusal R s (Asked (Get k now)) ≡ None
 unfolding path_given draws_stamps verified_write
 get_allowed R k now s h = refused_only_one R s (Get k now) h refl refl refl
 
@@ -203,7 +203,7 @@ get_answer : (R : ℕ) (k : NodeAddr) (now : ℕ) (s : State) → sound R s ≡ 
 unfolding serve perform_request perform gives
 get_answer R k now s h = rw (get_allowed R k now s h)
 
-touch_done : (R : ℕ) (k : NodeAddr) (now : ℕ) (s : State) → refusal R s (Asked (GetAndTouch k now)) ≡ none → step R s (GetAndTouch k now) ≡ gives (PathFound (get k now s)) (touched k now s)
+touch_done : (R : ℕ) (k : NodeAddr) (now : ℕ) (s : State) → refusal R s (Asked (GetAndTouch k now)) ≡ None → step R s (GetAndTouch k now) ≡ gives (PathFound (get k now s)) (touched k now s)
 unfolding serve perform_request perform
 touch_done R k now s e = rw e
 
@@ -215,7 +215,7 @@ done_answer : (m : Answer) (s : State) → (gives m s).answer ≡ m
 unfolding gives
 done_answer m s = refl
 
-touch_refused : (R : ℕ) (k : NodeAddr) (now : ℕ) (s : State) (n : ℕ) → refusal R s (Asked (GetAndTouch k now)) ≡ some n → (step R (step R s (GetAndTouch k now)).state (Get k now)).answer ≡ (step R s (GetAndTouch k now)).answer
+touch_refused : (R : ℕ) (k : NodeAddr) (now : ℕ) (s : State) (n : ℕ) → refusal R s (Asked (GetAndTouch k now)) ≡ Some n → (step R (step R s (GetAndTouch k now)).state (Get k now)).answer ≡ (step R s (GetAndTouch k now)).answer
 unfolding serve gives
 touch_refused R k now s n e = rw (e, same_refusal R k now s ∙ e)
 
@@ -223,13 +223,13 @@ touch_get : (R : ℕ) (k : NodeAddr) (now : ℕ) (s : State) → now ≤ last_ti
 touch_get R k now s l = go (refusal R s (Asked (GetAndTouch k now))) refl
   where
     go : (o : Option ℕ) → refusal R s (Asked (GetAndTouch k now)) ≡ o → (step R (step R s (GetAndTouch k now)).state (Get k now)).answer ≡ (step R s (GetAndTouch k now)).answer
-    go none e =
+    go None e =
         let a = allowed R s (GetAndTouch k now) e in
         let d : step R s (GetAndTouch k now) ≡ gives (PathFound (get k now s)) (touched k now s) = touch_done R k now s e in
         let z : (step R s (GetAndTouch k now)).state ≡ touched k now s = ap (λ (t : Step). t.state) d ∙ done_state (PathFound (get k now s)) (touched k now s) in
         let q : sound R (touched k now s) ≡ true = subst (λ (x : State). sound R x ≡ true) z (step_sound R s (GetAndTouch k now) a.sound) in
         ap (λ (x : State). (step R x (Get k now)).answer) z ∙ get_answer R k now (touched k now s) q ∙ ap PathFound (get_touched R k now s (sound_is R s a.sound) l) ∙ sym (ap (λ (t : Step). t.answer) d ∙ done_answer (PathFound (get k now s)) (touched k now s))
-    go (some n) e = touch_refused R k now s n e
+    go (Some n) e = touch_refused R k now s n e
 
 -- what get_and_touch answers, get answers on the memory after it
 pub got_after_touch : (l : List ℕ) (k : NodeAddr) (now : ℕ) → Bytes l → Typed (GetAndTouch k now) → (call (call l (GetAndTouch k now)).memory (Get k now)).answer ≡ (call l (GetAndTouch k now)).answer

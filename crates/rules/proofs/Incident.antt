@@ -2,7 +2,7 @@
 use Prim.Native.Nat.{ℕ, ◌+◌, ◌≤◌, min}
 use mathlib.Core.Path.{◌≡◌, refl}
 use mathlib.Core.List.{List, [], ◌∷◌}
-use mathlib.Core.Option.{none, some}
+use Rattle.std.specs.Prelude.{None, Some}
 use mathlib.Core.Bool.{true, false, or-true}
 use lib.Dec.{leb}
 use native.Mathlib.Omega.{arith}
@@ -21,11 +21,11 @@ use Rattle.rules.proofs.ThirdDemand.{kept_after}
 
 -- a write of any kind, of another key, in the millisecond of v
 pub record WriteBeside (v : VerifiedWrite) (q : Call) : Type 0 where
-  pub writes : path_given q ≡ none → ⊥
+  pub writes : path_given q ≡ None → ⊥
   pub other : names_other v q ≡ true
-  pub time : time_given q ≡ some v.time
+  pub time : time_given q ≡ Some v.time
 
-no_sweep : (q : Call) (p : Path) (x : ℕ) → (path_given q ≡ none → ⊥) → sweep_matches q p x ≡ false
+no_sweep : (q : Call) (p : Path) (x : ℕ) → (path_given q ≡ None → ⊥) → sweep_matches q p x ≡ false
 unfolding path_given sweep_matches
 no_sweep (Insert k p t) r x h = refl
 no_sweep (InsertWithTtl k p t l) r x h = refl
@@ -60,6 +60,6 @@ all_spare R ttl v l s (q ∷ qs) h = (beside_spares ttl v q (step R s q).answer 
 
 -- THE INCIDENT CANNOT HAPPEN: on a sound state, whatever its condition, a verified insert that was not refused keeps its place
 -- through every list of writes of other keys in the same millisecond, of any kind and any number
-pub second_write_spares_the_first : (R : ℕ) (s : State) (q : Call) (v : VerifiedWrite) (qs : List Call) → sound R s ≡ true → verified_write q ≡ some v → v.time ≤ last_time
+pub second_write_spares_the_first : (R : ℕ) (s : State) (q : Call) (v : VerifiedWrite) (qs : List Call) → sound R s ≡ true → verified_write q ≡ Some v → v.time ≤ last_time
     → was_refused (step R s q).answer ≡ false → Every (WriteBeside v) qs → KeepsPlace s.default_ttl v (run R (step R s q).state qs).state.rows
 second_write_spares_the_first R s q v qs h e l done beside = kept_after R s q v qs h e done (all_spare R s.default_ttl v l (step R s q).state qs beside)

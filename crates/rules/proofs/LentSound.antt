@@ -2,7 +2,7 @@
 use mathlib.Core.Path.{◌≡◌, refl, sym, ◌∙◌, ap}
 use Prim.Native.Nat.{ℕ}
 use mathlib.Core.List.{List}
-use mathlib.Core.Option.{none}
+use Rattle.std.specs.Prelude.{None}
 use mathlib.Core.Bool.{Bool, true, false, ◌||◌, or-false, or-true}
 use lib.Dec.{eqb}
 use Rattle.types.specs.Values.{says, refuses}
@@ -50,7 +50,7 @@ call_same l q b g false h = rw (unsound_one l q (sym h)).memory h
 
 fresh_answer : (l : List ℕ) (m ttl : ℕ) → bad_size (capacity l) m ≡ false → (lent l (Fresh m ttl)).answer ≡ Done
 unfolding lent serve perform_request gives
-fresh_answer l m ttl h = let e : refusal (capacity l) (view l) (Fresh m ttl) ≡ none = fresh_refusal (capacity l) m ttl (view l) ∙ rw h in rw e
+fresh_answer l m ttl h = let e : refusal (capacity l) (view l) (Fresh m ttl) ≡ None = fresh_refusal (capacity l) m ttl (view l) ∙ rw h in rw e
 
 pub fresh_sound : (l : List ℕ) (m ttl : ℕ) → Bytes l → Small number_size m → Small number_size ttl → (f : Bool) → f ≡ sound (capacity l) (view l) → (n : ℕ) → n ≡ refusal_of (lent l (Fresh m ttl)).answer
     → f || eqb n 0 ≡ sound (capacity (lent l (Fresh m ttl)).memory) (view (lent l (Fresh m ttl)).memory)

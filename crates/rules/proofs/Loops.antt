@@ -2,7 +2,7 @@
 use Prim.Native.Nat.{ℕ, zero, suc, ◌+◌, ◌<◌, ◌≤◌}
 use mathlib.Core.Path.{◌≡◌, refl, sym, ◌∙◌, ap}
 use mathlib.Core.List.{List, [], ◌∷◌, ◌++◌, append_assoc, append-nil}
-use mathlib.Core.Option.{Option, none, some}
+use Rattle.std.specs.Prelude.{Option, None, Some}
 use mathlib.Core.Bool.{Bool, true, false, cond, not}
 use lib.Dec.{ltb}
 use lib.ListN.{length, take, drop, drop_of_length-le}
@@ -24,7 +24,7 @@ waking now w = return_lapsed (visits_left now w) now w
 abbrev row : ℕ → Walk → Row
 row i w = row_at i w.state.rows
 
-pub lapsed_lapsed : (now : ℕ) (w : Walk) (i : ℕ) → lowest_stamp parked w.state.rows ≡ some i → ltb (row i w).stamp_first now ≡ true → (visits_left now w ≡ suc (visits_left now (take_up restamp i w))) × (waking now w ≡ waking now (take_up restamp i w))
+pub lapsed_lapsed : (now : ℕ) (w : Walk) (i : ℕ) → lowest_stamp parked w.state.rows ≡ Some i → ltb (row i w).stamp_first now ≡ true → (visits_left now w ≡ suc (visits_left now (take_up restamp i w))) × (waking now w ≡ waking now (take_up restamp i w))
 unfolding return_lapsed
 lapsed_lapsed now w i l h =
     let g = lowest_at parked w.state.rows i l in
@@ -34,12 +34,12 @@ lapsed_lapsed now w i l h =
     go : (n : ℕ) → return_lapsed (suc n) now w ≡ return_lapsed n now (take_up restamp i w)
     go n = rw (l, return_lapsed, h)
 
-pub lapsed_none : (now n : ℕ) (w : Walk) → lowest_stamp parked w.state.rows ≡ none → return_lapsed n now w ≡ w
+pub lapsed_none : (now n : ℕ) (w : Walk) → lowest_stamp parked w.state.rows ≡ None → return_lapsed n now w ≡ w
 unfolding return_lapsed
 lapsed_none now zero w l = refl
 lapsed_none now (suc n) w l = rw (l, return_lapsed)
 
-pub lapsed_calm : (now n : ℕ) (w : Walk) (i : ℕ) → lowest_stamp parked w.state.rows ≡ some i → ltb (row i w).stamp_first now ≡ false → return_lapsed n now w ≡ w
+pub lapsed_calm : (now n : ℕ) (w : Walk) (i : ℕ) → lowest_stamp parked w.state.rows ≡ Some i → ltb (row i w).stamp_first now ≡ false → return_lapsed n now w ≡ w
 unfolding return_lapsed
 lapsed_calm now zero w i l h = refl
 lapsed_calm now (suc n) w i l h = rw (l, return_lapsed, h)
@@ -49,12 +49,12 @@ lapsed_calm now (suc n) w i l h = rw (l, return_lapsed, h)
 abbrev pub seeking : ℕ → Walk → Sought
 seeking now w = seek (visits_left now w) now w
 
-pub seek_none : (now n : ℕ) (w : Walk) → lowest_stamp by_use w.state.rows ≡ none → seek n now w ≡ sought none w
+pub seek_none : (now n : ℕ) (w : Walk) → lowest_stamp by_use w.state.rows ≡ None → seek n now w ≡ sought None w
 unfolding seek
 seek_none now zero w l = refl
 seek_none now (suc n) w l = rw (l, seek)
 
-pub seek_stale : (now : ℕ) (w : Walk) (i : ℕ) → lowest_stamp by_use w.state.rows ≡ some i → stale (row i w) ≡ true → (visits_left now w ≡ suc (visits_left now (take_up restamp i w))) × (seeking now w ≡ seeking now (take_up restamp i w))
+pub seek_stale : (now : ℕ) (w : Walk) (i : ℕ) → lowest_stamp by_use w.state.rows ≡ Some i → stale (row i w) ≡ true → (visits_left now w ≡ suc (visits_left now (take_up restamp i w))) × (seeking now w ≡ seeking now (take_up restamp i w))
 unfolding seek
 seek_stale now w i l h =
     let g = lowest_at by_use w.state.rows i l in
@@ -64,7 +64,7 @@ seek_stale now w i l h =
     go : (n : ℕ) → seek (suc n) now w ≡ seek n now (take_up restamp i w)
     go n = rw (l, seek, h)
 
-pub seek_verified : (now : ℕ) (w : Walk) (i : ℕ) → lowest_stamp by_use w.state.rows ≡ some i → stale (row i w) ≡ false → verified now (row i w).entry ≡ true → (visits_left now w ≡ suc (visits_left now (take_up park i w))) × (seeking now w ≡ seeking now (take_up park i w))
+pub seek_verified : (now : ℕ) (w : Walk) (i : ℕ) → lowest_stamp by_use w.state.rows ≡ Some i → stale (row i w) ≡ false → verified now (row i w).entry ≡ true → (visits_left now w ≡ suc (visits_left now (take_up park i w))) × (seeking now w ≡ seeking now (take_up park i w))
 unfolding seek
 seek_verified now w i l h v =
     let g = lowest_at by_use w.state.rows i l in
@@ -74,13 +74,13 @@ seek_verified now w i l h v =
     go : (n : ℕ) → seek (suc n) now w ≡ seek n now (take_up park i w)
     go n = rw (l, seek, h, v)
 
-pub seek_yields : (now : ℕ) (w : Walk) (i : ℕ) → lowest_stamp by_use w.state.rows ≡ some i → stale (row i w) ≡ false → verified now (row i w).entry ≡ false → seeking now w ≡ sought (some i) (take_up untouched i w)
+pub seek_yields : (now : ℕ) (w : Walk) (i : ℕ) → lowest_stamp by_use w.state.rows ≡ Some i → stale (row i w) ≡ false → verified now (row i w).entry ≡ false → seeking now w ≡ sought (Some i) (take_up untouched i w)
 unfolding seek
 seek_yields now w i l h v =
     let g = lowest_at by_use w.state.rows i l in
     go (visits_left now w) (omega (arith, total_some (main_visits now) i w.state.rows g.inside, turns_last now (row i w) g.there h))
   where
-    go : (n : ℕ) → 1 ≤ n → seek n now w ≡ sought (some i) (take_up untouched i w)
+    go : (n : ℕ) → 1 ≤ n → seek n now w ≡ sought (Some i) (take_up untouched i w)
     go zero m = absurd (let z : ⊥ = omega arith in z)
     go (suc n) m = rw (l, seek, h, v)
 
@@ -93,11 +93,11 @@ pub choose_done : (now w : ℕ) (v : Walk) → has_room w v.state ≡ true → c
 unfolding choose_victims
 choose_done now w v f = rw f
 
-pub choose_none : (now w : ℕ) (v : Walk) → has_room w v.state ≡ false → (next_victim now v).victim ≡ none → choosing now w v ≡ record { made = false; walk = (next_victim now v).walk }
+pub choose_none : (now w : ℕ) (v : Walk) → has_room w v.state ≡ false → (next_victim now v).victim ≡ None → choosing now w v ≡ record { made = false; walk = (next_victim now v).walk }
 unfolding choose_victims
 choose_none now w v f n = rw (f, n)
 
-pub choose_more : (now w : ℕ) (s : State) (v : Walk) (i : ℕ) → Led now s v → has_room w v.state ≡ false → (next_victim now v).victim ≡ some i → choosing now w v ≡ choosing now w (set_aside i (next_victim now v).walk)
+pub choose_more : (now w : ℕ) (s : State) (v : Walk) (i : ℕ) → Led now s v → has_room w v.state ≡ false → (next_victim now v).victim ≡ Some i → choosing now w v ≡ choosing now w (set_aside i (next_victim now v).walk)
 unfolding choose_victims
 choose_more now w s v i h f n = let m = ((next_led now s v h).yields i n).1 in rw (f, n) (ap (λ (k : ℕ). choose_victims k now w (set_aside i (next_victim now v).walk)) (sym m))
 
@@ -105,26 +105,26 @@ choose_more now w s v i h f n = let m = ((next_led now s v h).yields i n).1 in r
 
 -- an index of rows from i on, as one of all rows
 unfoldable pub from : ℕ → Option ℕ → Option ℕ
-from i none = none
-from i (some j) = some (i + j)
+from i None = None
+from i (Some j) = Some (i + j)
 
 -- row i against the best of the rows behind it
 unfoldable pub better : ℕ → ℕ → List Row → Option ℕ → Option ℕ
-better p i rs o = cond (at_place p (row_at i rs)) (some (maybe o i (λ j. cond (stamp_before (row_at j rs) (row_at i rs)) j i))) o
+better p i rs o = cond (at_place p (row_at i rs)) (Some (maybe o i (λ j. cond (stamp_before (row_at j rs) (row_at i rs)) j i))) o
 
 pub lowest_down : (p i : ℕ) (rs : List Row) → i < length rs → from i (lowest_stamp p (drop i rs)) ≡ better p i rs (from (suc i) (lowest_stamp p (drop (suc i) rs)))
 unfolding better lowest_stamp lower_of from next_index
 lowest_down p i rs h = rw (drop-cons rs i blank_row h) (go (at_place p (row_at i rs)) (lowest_stamp p (drop (suc i) rs)))
   where
-    go : (b : Bool) (o : Option ℕ) → from i (cond b (some (lower_of (row_at i rs) (drop (suc i) rs) o)) (next_index o)) ≡ cond b (some (maybe (from (suc i) o) i (λ j. cond (stamp_before (row_at j rs) (row_at i rs)) j i))) (from (suc i) o)
-    go true none = ap some (let z : i + 0 ≡ i = omega arith in z)
-    go true (some j) = ap some (rw (get_or-drop (suc i) rs j blank_row) (pick (stamp_before (row_at (suc i + j) rs) (row_at i rs)) j))
+    go : (b : Bool) (o : Option ℕ) → from i (cond b (Some (lower_of (row_at i rs) (drop (suc i) rs) o)) (next_index o)) ≡ cond b (Some (maybe (from (suc i) o) i (λ j. cond (stamp_before (row_at j rs) (row_at i rs)) j i))) (from (suc i) o)
+    go true None = ap Some (let z : i + 0 ≡ i = omega arith in z)
+    go true (Some j) = ap Some (rw (get_or-drop (suc i) rs j blank_row) (pick (stamp_before (row_at (suc i + j) rs) (row_at i rs)) j))
       where
         pick : (c : Bool) (j : ℕ) → i + cond c (suc j) 0 ≡ cond c (suc i + j) i
         pick true j = omega arith
         pick false j = omega arith
-    go false none = refl
-    go false (some j) = ap some (let z : i + suc j ≡ suc i + j = omega arith in z)
+    go false None = refl
+    go false (Some j) = ap Some (let z : i + suc j ≡ suc i + j = omega arith in z)
 
 -- ---- the victims leave, by a loop that goes down
 

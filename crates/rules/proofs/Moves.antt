@@ -2,7 +2,7 @@
 use Prim.Native.Nat.{ℕ, zero, suc, ◌+◌, ◌*◌, ◌<◌, ◌≤◌}
 use mathlib.Core.Path.{◌≡◌, refl, sym, ◌∙◌, ap, subst}
 use mathlib.Core.List.{List, [], ◌∷◌}
-use mathlib.Core.Option.{some}
+use Rattle.std.specs.Prelude.{Some}
 use mathlib.Core.Bool.{Bool, true, false, cond}
 use lib.Dec.{ltb, eqb}
 use lib.ListN.{length}
@@ -155,7 +155,7 @@ pub record ProbationEvicted (R : ℕ) (s : State) (w : Walk) : Type 1 where
   pub sound : Sound R w.state
   pub limits : limits_of w.state ≡ limits_of s
   pub keeps : (P : Core → Type 0) → Every P (cores s.rows) → Every P (cores w.state.rows)
-  pub spares : (k : NodeAddr) (x : Core) → x.on_probation ≡ false → look k (cores s.rows) ≡ some x → look k (cores w.state.rows) ≡ some x
+  pub spares : (k : NodeAddr) (x : Core) → x.on_probation ≡ false → look k (cores s.rows) ≡ Some x → look k (cores w.state.rows) ≡ Some x
   pub done : w.examined + total probation_visits w.state.rows ≡ total probation_visits s.rows
   pub stamps : w.state.seq ≤ s.seq + w.examined
 
@@ -203,8 +203,8 @@ module _ (R : ℕ) (s : State) where
         stamps = omega (arith, h.stamps);
       }
     where
-      other : (r : Row) (k : NodeAddr) (x : Core) → k ≡ r.key → look r.key (cores w.state.rows) ≡ some (core r) → look k (cores w.state.rows) ≡ some x → core r ≡ x
-      other r k x z a b = let c : look r.key (cores w.state.rows) ≡ some x = subst (λ j. look j (cores w.state.rows) ≡ some x) z b in cc
+      other : (r : Row) (k : NodeAddr) (x : Core) → k ≡ r.key → look r.key (cores w.state.rows) ≡ Some (core r) → look k (cores w.state.rows) ≡ Some x → core r ≡ x
+      other r k x z a b = let c : look r.key (cores w.state.rows) ≡ Some x = subst (λ j. look j (cores w.state.rows) ≡ Some x) z b in cc
 
 probation_le : (r : Row) → cond (in_probation r) 1 0 ≤ probation_visits r
 unfolding probation_visits

@@ -1,7 +1,7 @@
 -- Placement on a sound state: it stays sound; what it does to other keys and to its own key's charge; what it charges; how much it examines.
 use Prim.Native.Nat.{ℕ, ◌+◌, ◌-◌, ◌*◌, ◌<◌, ◌≤◌, max}
 use mathlib.Core.Path.{◌≡◌, refl, sym, ◌∙◌, ap}
-use mathlib.Core.Option.{some}
+use Rattle.std.specs.Prelude.{Some}
 use mathlib.Core.Bool.{Bool, true, false, cond, ◌||◌}
 use lib.Dec.{ltb, leb, eqb, leb-zero}
 use lib.ListN.{length}
@@ -37,7 +37,7 @@ use Rattle.rules.proofs.Moves.{EntryOk, Gone, ProbationEvicted, file_main, file_
 pub record LeavesOthers (k : NodeAddr) (now : ℕ) (s s' : State) : Type 1 where
   pub limits : limits_of s' ≡ limits_of s
   pub others : (P : Core → Type 0) → Every (λ y. (y.key ≡ k → ⊥) → P y) (cores s.rows) → Every (λ y. (y.key ≡ k → ⊥) → P y) (cores s'.rows)
-  pub spares : (j : NodeAddr) (x : Core) → (j ≡ k → ⊥) → verified now x.entry ≡ true → x.on_probation ≡ false → look j (cores s.rows) ≡ some x → look j (cores s'.rows) ≡ some x
+  pub spares : (j : NodeAddr) (x : Core) → (j ≡ k → ⊥) → verified now x.entry ≡ true → x.on_probation ≡ false → look j (cores s.rows) ≡ Some x → look j (cores s'.rows) ≡ Some x
 
 pub leaves_trans : {k : NodeAddr} {now : ℕ} {c d e : State} → LeavesOthers k now c d → LeavesOthers k now d e → LeavesOthers k now c e
 leaves_trans f g = record { limits = g.limits ∙ f.limits; others = λ P h. g.others P (f.others P h); spares = λ j x n a m h. g.spares j x n a m (f.spares j x n a m h) }

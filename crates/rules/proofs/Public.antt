@@ -3,7 +3,7 @@ use mathlib.Core.Path.{◌≡◌, refl, sym, ap, ◌∙◌, subst}
 use Prim.Native.Nat.{ℕ, ◌+◌, ◌*◌, ◌-◌, ◌≤◌, min}
 use native.Mathlib.Omega.{arith}
 use mathlib.Core.List.{List}
-use mathlib.Core.Option.{none, some}
+use Rattle.std.specs.Prelude.{None, Some}
 use mathlib.Core.Bool.{true, false}
 use lib.ListN.{length, drop}
 use lib.Seq.{drop-drop}
@@ -48,7 +48,7 @@ pub record RefusedCall (l : List ℕ) (q : Call) (n : ℕ) : Type 0 where
   pub answer : (call l q).answer ≡ Refused n
   pub memory : (call l q).memory ≡ l
 
-pub call_refused : (l : List ℕ) (q : Call) (n : ℕ) → refusal (capacity l) (view l) (Asked q) ≡ some n → RefusedCall l q n
+pub call_refused : (l : List ℕ) (q : Call) (n : ℕ) → refusal (capacity l) (view l) (Asked q) ≡ Some n → RefusedCall l q n
 unfolding lent serve gives was_refused
 call_refused l q n e = record { answer = rw e; memory = rw e }
 
@@ -61,15 +61,15 @@ pub record DoneCall (l : List ℕ) (q : Call) (m : List ℕ) : Type 0 where
   pub answer : (call l q).answer ≡ (perform (view l) q).answer
   pub memory : (call l q).memory ≡ m
 
-done_answer_is : (l : List ℕ) (q : Call) → refusal (capacity l) (view l) (Asked q) ≡ none → (call l q).answer ≡ (perform (view l) q).answer
+done_answer_is : (l : List ℕ) (q : Call) → refusal (capacity l) (view l) (Asked q) ≡ None → (call l q).answer ≡ (perform (view l) q).answer
 unfolding lent serve perform_request
 done_answer_is l q e = rw e
 
-done_memory_is : (l : List ℕ) (q : Call) → refusal (capacity l) (view l) (Asked q) ≡ none → (call l q).memory ≡ memory (perform (view l) q).state
+done_memory_is : (l : List ℕ) (q : Call) → refusal (capacity l) (view l) (Asked q) ≡ None → (call l q).memory ≡ memory (perform (view l) q).state
 unfolding lent serve perform_request
 done_memory_is l q e = rw (e, done_perform (view l) q)
 
-pub call_done : (l : List ℕ) (q : Call) (m : List ℕ) → Bytes m → length m ≡ length l → refusal (capacity l) (view l) (Asked q) ≡ none
+pub call_done : (l : List ℕ) (q : Call) (m : List ℕ) → Bytes m → length m ≡ length l → refusal (capacity l) (view l) (Asked q) ≡ None
     → view_rows (length (perform (view l) q).state.rows) m ≡ (perform (view l) q).state → DoneCall l q m
 call_done l q m b z e v =
     let R = capacity l in
@@ -91,13 +91,13 @@ pub record FreshRefused (l : List ℕ) (m ttl : ℕ) : Type 0 where
 
 pub fresh_refused : (l : List ℕ) (m ttl : ℕ) → bad_size (capacity l) m ≡ true → FreshRefused l m ttl
 unfolding lent serve gives was_refused
-fresh_refused l m ttl h = let e : refusal (capacity l) (view l) (Fresh m ttl) ≡ some 5 = fresh_refusal (capacity l) m ttl (view l) ∙ rw h in record { answer = rw e; memory = rw e }
+fresh_refused l m ttl h = let e : refusal (capacity l) (view l) (Fresh m ttl) ≡ Some 5 = fresh_refusal (capacity l) m ttl (view l) ∙ rw h in record { answer = rw e; memory = rw e }
 
 pub record FreshDone (l : List ℕ) (m ttl : ℕ) (x : List ℕ) : Type 0 where
   pub answer : (lent l (Fresh m ttl)).answer ≡ Done
   pub memory : (lent l (Fresh m ttl)).memory ≡ x
 
-fresh_lent : (l : List ℕ) (m ttl : ℕ) → refusal (capacity l) (view l) (Fresh m ttl) ≡ none → ((lent l (Fresh m ttl)).answer ≡ Done) × ((lent l (Fresh m ttl)).memory ≡ memory (fresh (capacity l) m ttl (tail_of l)))
+fresh_lent : (l : List ℕ) (m ttl : ℕ) → refusal (capacity l) (view l) (Fresh m ttl) ≡ None → ((lent l (Fresh m ttl)).answer ≡ Done) × ((lent l (Fresh m ttl)).memory ≡ memory (fresh (capacity l) m ttl (tail_of l)))
 unfolding lent serve perform_request gives was_refused
 fresh_lent l m ttl e = rw e (refl, refl)
 
@@ -109,7 +109,7 @@ pub fresh_is_done : (l : List ℕ) (m ttl : ℕ) (x : List ℕ) → Bytes x → 
 fresh_is_done l m ttl x b z h v =
     let R = capacity l in
     let s = fresh R m ttl (tail_of l) in
-    let e : refusal R (view l) (Fresh m ttl) ≡ none = fresh_refusal R m ttl (view l) ∙ rw h in
+    let e : refusal R (view l) (Fresh m ttl) ≡ None = fresh_refusal R m ttl (view l) ∙ rw h in
     let k = fresh_lent l m ttl e in
     let w : view_rows (length s.rows) x ≡ s = ap (λ (n : ℕ). view_rows n x) (no_rows R m ttl (tail_of l)) ∙ v ∙ ap (fresh R m ttl) (sym (tail_is l)) in
     record { answer = k.0; memory = k.1 ∙ sym (shown_memory R x s b (capacity_same l x z) (sound_is R s (fresh_sound R m ttl (tail_of l) h)) w) }

@@ -2,7 +2,7 @@
 use Prim.Native.Nat.{ℕ}
 use mathlib.Core.Path.{◌≡◌, refl, sym, ◌∙◌, ap, subst}
 use mathlib.Core.List.{List, [], ◌∷◌}
-use mathlib.Core.Option.{Option, none, some}
+use Rattle.std.specs.Prelude.{Option, None, Some}
 use mathlib.Core.Bool.{Bool, true, false, cond, ◌&&◌, ◌||◌, not, or-true}
 use lib.Dec.{eqb}
 use borrow.Author.Tests.{eq-eqb, eqb-false, eqb-true, not-false, not-true}
@@ -45,49 +45,49 @@ abbrev pub GivenFirst : ℕ → List Reason → Type 0
 GivenFirst n [] = ⊥
 GivenFirst n (r ∷ rs) = cond (eqb r.number n) (r.given ≡ true) ((r.given ≡ false) × GivenFirst n rs)
 
-some_none : {C : Type 0} {m : ℕ} {o : Option ℕ} → o ≡ some m → o ≡ none → C
+some_none : {C : Type 0} {m : ℕ} {o : Option ℕ} → o ≡ Some m → o ≡ None → C
 some_none p q = contradiction {b = true} refl (cc)
 
 -- a number that is given is one of the list's
-given_listed : (n : ℕ) (rs : List Reason) → first_given rs ≡ some n → is_one_of n (numbers rs) ≡ true
+given_listed : (n : ℕ) (rs : List Reason) → first_given rs ≡ Some n → is_one_of n (numbers rs) ≡ true
 unfolding first_given
-given_listed n [] e = some_none {o = none} e refl
+given_listed n [] e = some_none {o = None} e refl
 given_listed n (r ∷ rs) e = cond_some r.given e (λ g z. rw (eq-eqb r.number n z)) (λ g f. rw (given_listed n rs f, or-true))
 
-first_number_lem : (n : ℕ) (rs : List Reason) → distinct (numbers rs) ≡ true → first_given rs ≡ some n → GivenFirst n rs
+first_number_lem : (n : ℕ) (rs : List Reason) → distinct (numbers rs) ≡ true → first_given rs ≡ Some n → GivenFirst n rs
 unfolding first_given
-first_number_lem n [] d e = some_none {o = none} e refl
+first_number_lem n [] d e = some_none {o = None} e refl
 first_number_lem n (r ∷ rs) d e = go (is_one_of r.number (numbers rs)) refl d (eqb r.number n) refl r.given refl e (first_number_lem n rs)
   where
-    go : (a : Bool) → is_one_of r.number (numbers rs) ≡ a → not a && distinct (numbers rs) ≡ true → (b : Bool) → eqb r.number n ≡ b → (g : Bool) → r.given ≡ g → cond g (some r.number) (first_given rs) ≡ some n
-        → (distinct (numbers rs) ≡ true → first_given rs ≡ some n → GivenFirst n rs) → cond b (r.given ≡ true) ((r.given ≡ false) × GivenFirst n rs)
+    go : (a : Bool) → is_one_of r.number (numbers rs) ≡ a → not a && distinct (numbers rs) ≡ true → (b : Bool) → eqb r.number n ≡ b → (g : Bool) → r.given ≡ g → cond g (Some r.number) (first_given rs) ≡ Some n
+        → (distinct (numbers rs) ≡ true → first_given rs ≡ Some n → GivenFirst n rs) → cond b (r.given ≡ true) ((r.given ≡ false) × GivenFirst n rs)
     go true o d b i g h f later = contradiction {b = false} d refl
     go false o d true i true h f later = h
     go false o d true i false h f later = contradiction (given_listed n rs f) (subst (λ (m : ℕ). is_one_of m (numbers rs) ≡ false) (eqb-true r.number n i) o)
     go false o d false i true h f later = absurd (eqb-false r.number n i (cc))
     go false o d false i false h f later = (h, later d f)
 
-number_first : (n : ℕ) (rs : List Reason) → GivenFirst n rs → first_given rs ≡ some n
+number_first : (n : ℕ) (rs : List Reason) → GivenFirst n rs → first_given rs ≡ Some n
 unfolding first_given
 number_first n [] x = absurd x
 number_first n (r ∷ rs) x = go (eqb r.number n) refl x (number_first n rs)
   where
-    go : (b : Bool) → eqb r.number n ≡ b → cond b (r.given ≡ true) ((r.given ≡ false) × GivenFirst n rs) → (GivenFirst n rs → first_given rs ≡ some n) → cond r.given (some r.number) (first_given rs) ≡ some n
-    go true i h later = rw h (ap some (eqb-true r.number n i))
+    go : (b : Bool) → eqb r.number n ≡ b → cond b (r.given ≡ true) ((r.given ≡ false) × GivenFirst n rs) → (GivenFirst n rs → first_given rs ≡ Some n) → cond r.given (Some r.number) (first_given rs) ≡ Some n
+    go true i h later = rw h (ap Some (eqb-true r.number n i))
     go false i h later = rw h.0 (later h.1)
 
 -- NUMBER n IS GIVEN EXACTLY IF THE REASON OF THAT NUMBER HOLDS AND NONE BEFORE IT DOES
-pub given_first : (n : ℕ) (rs : List Reason) → distinct (numbers rs) ≡ true → Iff (first_given rs ≡ some n) (GivenFirst n rs)
+pub given_first : (n : ℕ) (rs : List Reason) → distinct (numbers rs) ≡ true → Iff (first_given rs ≡ Some n) (GivenFirst n rs)
 given_first n rs d = (first_number_lem n rs d, number_first n rs)
 
 -- NONE IS GIVEN EXACTLY IF NO REASON HOLDS
-pub none_given : (rs : List Reason) → Iff (first_given rs ≡ none) (Every (λ r. r.given ≡ false) rs)
+pub none_given : (rs : List Reason) → Iff (first_given rs ≡ None) (Every (λ r. r.given ≡ false) rs)
 unfolding first_given
 none_given [] = (λ e. tt, λ h. refl)
 none_given (r ∷ rs) = (λ e. go r.given refl e (none_given rs).0, λ h. rw h.0 ((none_given rs).1 h.1))
   where
-    go : (g : Bool) → r.given ≡ g → cond g (some r.number) (first_given rs) ≡ none → (first_given rs ≡ none → Every (λ x. x.given ≡ false) rs) → (r.given ≡ false) × Every (λ x. x.given ≡ false) rs
-    go true h e later = some_none {o = some r.number} refl e
+    go : (g : Bool) → r.given ≡ g → cond g (Some r.number) (first_given rs) ≡ None → (first_given rs ≡ None → Every (λ x. x.given ≡ false) rs) → (r.given ≡ false) × Every (λ x. x.given ≡ false) rs
+    go true h e later = some_none {o = Some r.number} refl e
     go false h e later = (h, later e)
 
 -- ---- the table's reasons
@@ -97,15 +97,15 @@ unfolding reasons reason
 table_distinct R s (Fresh m ttl) = refl
 table_distinct R s (Asked q) = refl
 
-table_given : (R : ℕ) (s : State) (x : Request) (n : ℕ) → Iff (refusal R s x ≡ some n) (GivenFirst n (reasons R s x))
+table_given : (R : ℕ) (s : State) (x : Request) (n : ℕ) → Iff (refusal R s x ≡ Some n) (GivenFirst n (reasons R s x))
 unfolding refusal
 table_given R s x n = given_first n (reasons R s x) (table_distinct R s x)
 
-table_number : (R : ℕ) (s : State) (x : Request) (n : ℕ) → refusal R s x ≡ some n → is_one_of n (numbers (reasons R s x)) ≡ true
+table_number : (R : ℕ) (s : State) (x : Request) (n : ℕ) → refusal R s x ≡ Some n → is_one_of n (numbers (reasons R s x)) ≡ true
 unfolding refusal
 table_number R s x n = given_listed n (reasons R s x)
 
-table_none : (R : ℕ) (s : State) (x : Request) → Iff (refusal R s x ≡ none) (Every (λ r. r.given ≡ false) (reasons R s x))
+table_none : (R : ℕ) (s : State) (x : Request) → Iff (refusal R s x ≡ None) (Every (λ r. r.given ≡ false) (reasons R s x))
 unfolding refusal
 table_none R s x = none_given (reasons R s x)
 
@@ -124,10 +124,10 @@ table_without_six R s (Fresh m ttl) = refl
 table_without_six R s (Asked q) = refl
 
 -- 6 is the command stream's alone
-pub not_six : (R : ℕ) (s : State) (x : Request) (n : ℕ) → refusal R s x ≡ some n → n ≡ 6 → ⊥
+pub not_six : (R : ℕ) (s : State) (x : Request) (n : ℕ) → refusal R s x ≡ Some n → n ≡ 6 → ⊥
 not_six R s x n e z = contradiction (subst (λ (m : ℕ). is_one_of m (numbers (reasons R s x)) ≡ true) z (table_number R s x n e)) (table_without_six R s x)
 
-pub allowed : (R : ℕ) (s : State) (q : Call) → refusal R s (Asked q) ≡ none → Allowed R s q
+pub allowed : (R : ℕ) (s : State) (q : Call) → refusal R s (Asked q) ≡ None → Allowed R s q
 unfolding reasons reason
 allowed R s q e =
     let unsound = (table_none R s (Asked q)).0 e in
@@ -163,7 +163,7 @@ unfolding perform_request gives was_refused
 done_request R s (Fresh m ttl) = refl
 done_request R s (Asked q) = done_perform s q
 
-pub by_serve {κ} : (R : ℕ) (s : State) (x : Request) (P : Step → Type κ) → ((n : ℕ) → refusal R s x ≡ some n → P (gives (Refused n) s)) → (refusal R s x ≡ none → P (perform_request R s x)) → P (serve R s x)
+pub by_serve {κ} : (R : ℕ) (s : State) (x : Request) (P : Step → Type κ) → ((n : ℕ) → refusal R s x ≡ Some n → P (gives (Refused n) s)) → (refusal R s x ≡ None → P (perform_request R s x)) → P (serve R s x)
 unfolding serve
 by_serve R s x P f g = by_maybe P (refusal R s x) g f
 
@@ -172,11 +172,11 @@ pub by_step {κ} : (R : ℕ) (s : State) (q : Call) (P : Step → Type κ) → (
 unfolding perform_request
 by_step R s q P f g = by_serve R s (Asked q) P (λ n e. f n) (λ e. g (allowed R s q e))
 
-refused_by_lem : (R : ℕ) (s : State) (x : Request) (n : ℕ) → (serve R s x).answer ≡ Refused n → refusal R s x ≡ some n
+refused_by_lem : (R : ℕ) (s : State) (x : Request) (n : ℕ) → (serve R s x).answer ≡ Refused n → refusal R s x ≡ Some n
 unfolding gives was_refused
-refused_by_lem R s x n = by_serve R s x (λ (t : Step). t.answer ≡ Refused n → refusal R s x ≡ some n) (λ m e g. let z : m ≡ n = cc in e ∙ ap some z) (λ e g. contradiction (let w : was_refused (perform_request R s x).answer ≡ true = rw g in w) (done_request R s x))
+refused_by_lem R s x n = by_serve R s x (λ (t : Step). t.answer ≡ Refused n → refusal R s x ≡ Some n) (λ m e g. let z : m ≡ n = cc in e ∙ ap Some z) (λ e g. contradiction (let w : was_refused (perform_request R s x).answer ≡ true = rw g in w) (done_request R s x))
 
-gives_number : (R : ℕ) (s : State) (x : Request) (n : ℕ) → refusal R s x ≡ some n → (serve R s x).answer ≡ Refused n
+gives_number : (R : ℕ) (s : State) (x : Request) (n : ℕ) → refusal R s x ≡ Some n → (serve R s x).answer ≡ Refused n
 unfolding serve gives
 gives_number R s x n e = rw e
 
@@ -209,8 +209,8 @@ unfolding serve gives refusal_of
 refusal_number R s x = go (refusal R s x)
   where
     go : (o : Option ℕ) → refusal_of (maybe o (perform_request R s x) (λ n. gives (Refused n) s)).answer ≡ maybe o 0 (λ n. n)
-    go none = zero_if_done (perform_request R s x).answer (done_request R s x)
-    go (some n) = refl
+    go None = zero_if_done (perform_request R s x).answer (done_request R s x)
+    go (Some n) = refl
 
 -- ---- each number is given exactly if
 
@@ -239,7 +239,7 @@ given_exactly R s q =
     }
 
 -- fresh, on any state
-pub fresh_refusal : (R m ttl : ℕ) (s : State) → refusal R s (Fresh m ttl) ≡ cond (bad_size R m) (some 5) none
+pub fresh_refusal : (R m ttl : ℕ) (s : State) → refusal R s (Fresh m ttl) ≡ cond (bad_size R m) (Some 5) None
 unfolding refusal reasons first_given reason
 fresh_refusal R m ttl s = refl
 
@@ -260,21 +260,21 @@ five_exactly R m ttl s =
     go n true i h = sym (eqb-true 5 n i)
     go n false i h = contradiction {b = false} h refl
 
-pub fresh_allowed : (R m ttl : ℕ) (s : State) → refusal R s (Fresh m ttl) ≡ none → bad_size R m ≡ false
+pub fresh_allowed : (R m ttl : ℕ) (s : State) → refusal R s (Fresh m ttl) ≡ None → bad_size R m ≡ false
 unfolding reasons reason
 fresh_allowed R m ttl s e = ((table_none R s (Fresh m ttl)).0 e).0
 
 -- ---- the table's answer, as a call finds it: each number where none before it is given, and none
 
-pub refused_one : (R : ℕ) (s : State) (q : Call) → sound R s ≡ false → refusal R s (Asked q) ≡ some 1
+pub refused_one : (R : ℕ) (s : State) (q : Call) → sound R s ≡ false → refusal R s (Asked q) ≡ Some 1
 unfolding reasons reason
 refused_one R s q h = (table_given R s (Asked q) 1).1 (ap not h)
 
-pub refused_two : (R : ℕ) (s : State) (q : Call) → sound R s ≡ true → maybe (path_given q) false bad_path ≡ true → refusal R s (Asked q) ≡ some 2
+pub refused_two : (R : ℕ) (s : State) (q : Call) → sound R s ≡ true → maybe (path_given q) false bad_path ≡ true → refusal R s (Asked q) ≡ Some 2
 unfolding reasons reason
 refused_two R s q h p = (table_given R s (Asked q) 2).1 (ap not h, p)
 
-pub refused_three : (R : ℕ) (s : State) (q : Call) → sound R s ≡ true → maybe (path_given q) false bad_path ≡ false → draws_stamps q ≡ true → seq_spent s ≡ true → refusal R s (Asked q) ≡ some 3
+pub refused_three : (R : ℕ) (s : State) (q : Call) → sound R s ≡ true → maybe (path_given q) false bad_path ≡ false → draws_stamps q ≡ true → seq_spent s ≡ true → refusal R s (Asked q) ≡ Some 3
 unfolding reasons reason
 refused_three R s q h p d w = (table_given R s (Asked q) 3).1 (ap not h, (p, rw (d, w)))
 
@@ -282,18 +282,18 @@ unspent : (b : Bool) {c : Bool} → c ≡ false → b && c ≡ false
 unspent true h = h
 unspent false h = refl
 
-pub refused_four : (R : ℕ) (s : State) (q : Call) → sound R s ≡ true → maybe (path_given q) false bad_path ≡ false → seq_spent s ≡ false → maybe (verified_write q) false (no_place_for R s) ≡ true → refusal R s (Asked q) ≡ some 4
+pub refused_four : (R : ℕ) (s : State) (q : Call) → sound R s ≡ true → maybe (path_given q) false bad_path ≡ false → seq_spent s ≡ false → maybe (verified_write q) false (no_place_for R s) ≡ true → refusal R s (Asked q) ≡ Some 4
 unfolding reasons reason
 refused_four R s q h p w v = (table_given R s (Asked q) 4).1 (ap not h, (p, (unspent (draws_stamps q) w, v)))
 
-pub refused_by_none : (R : ℕ) (s : State) (q : Call) → Allowed R s q → refusal R s (Asked q) ≡ none
+pub refused_by_none : (R : ℕ) (s : State) (q : Call) → Allowed R s q → refusal R s (Asked q) ≡ None
 unfolding reasons reason
 refused_by_none R s q a = (table_none R s (Asked q)).1 (ap not a.sound, (a.path, (a.stamps, (a.place, tt))))
 
 -- a call that takes a path and draws stamps
-pub write_allowed : (R : ℕ) (s : State) (q : Call) → sound R s ≡ true → maybe (path_given q) false bad_path ≡ false → seq_spent s ≡ false → maybe (verified_write q) false (no_place_for R s) ≡ false → refusal R s (Asked q) ≡ none
+pub write_allowed : (R : ℕ) (s : State) (q : Call) → sound R s ≡ true → maybe (path_given q) false bad_path ≡ false → seq_spent s ≡ false → maybe (verified_write q) false (no_place_for R s) ≡ false → refusal R s (Asked q) ≡ None
 write_allowed R s q h p w v = refused_by_none R s q (record { sound = h; path = p; stamps = unspent (draws_stamps q) w; place = v })
 
 -- a call that takes no path and draws no stamps is refused by 1 alone
-pub refused_only_one : (R : ℕ) (s : State) (q : Call) → sound R s ≡ true → path_given q ≡ none → verified_write q ≡ none → draws_stamps q && seq_spent s ≡ false → refusal R s (Asked q) ≡ none
+pub refused_only_one : (R : ℕ) (s : State) (q : Call) → sound R s ≡ true → path_given q ≡ None → verified_write q ≡ None → draws_stamps q && seq_spent s ≡ false → refusal R s (Asked q) ≡ None
 refused_only_one R s q h p v d = refused_by_none R s q (record { sound = h; path = rw p; stamps = d; place = rw v })

@@ -2,7 +2,7 @@
 use Prim.Native.Nat.{ℕ, ◌≤◌}
 use mathlib.Core.Path.{◌≡◌, refl, ◌∙◌, subst}
 use mathlib.Core.List.{List, [], ◌∷◌}
-use mathlib.Core.Option.{some}
+use Rattle.std.specs.Prelude.{Some}
 use mathlib.Core.Bool.{true, false}
 use lib.ListN.{length}
 use Rattle.rules.specs.Cases.{Every}
@@ -50,7 +50,7 @@ unfolding gives was_refused
 done_sound R s q = by_step R s q (λ (t : Step). was_refused t.answer ≡ false → sound R s ≡ true) (λ n h. contradiction {b = true} refl h) (λ a h. a.sound)
 
 -- a done verified insert keeps its place in the memory while every later event must spare it, from any memory of bytes on
-pub kept_on_bytes : (l : List ℕ) (q : Call) (v : VerifiedWrite) (qs : List Call) → Bytes l → Typed q → Every Typed qs → verified_write q ≡ some v → was_refused (call l q).answer ≡ false
+pub kept_on_bytes : (l : List ℕ) (q : Call) (v : VerifiedWrite) (qs : List Call) → Bytes l → Typed q → Every Typed qs → verified_write q ≡ Some v → was_refused (call l q).answer ≡ false
     → let r = calls (call l q).memory qs in Every (λ e. must_spare (view l).default_ttl v e ≡ true) r.events → KeepsPlace (view l).default_ttl v (view r.memory).rows
 unfolding lent
 kept_on_bytes l q v qs b g gs w h =
@@ -61,7 +61,7 @@ kept_on_bytes l q v qs b g gs w h =
     rw (k.events, k.state, r, c.state) (λ spared. kept_after R (view l) q v qs (done_sound R (view l) q h) w h spared)
 
 -- THE INCIDENT CANNOT HAPPEN ON THE BYTES
-pub second_write_on_bytes : (l : List ℕ) (q : Call) (v : VerifiedWrite) (qs : List Call) → Bytes l → Typed q → Every Typed qs → verified_write q ≡ some v → v.time ≤ last_time
+pub second_write_on_bytes : (l : List ℕ) (q : Call) (v : VerifiedWrite) (qs : List Call) → Bytes l → Typed q → Every Typed qs → verified_write q ≡ Some v → v.time ≤ last_time
     → was_refused (call l q).answer ≡ false → Every (WriteBeside v) qs → KeepsPlace (view l).default_ttl v (view (calls (call l q).memory qs).memory).rows
 unfolding lent
 second_write_on_bytes l q v qs b g gs w t h beside =

@@ -2,7 +2,7 @@
 use Prim.Native.Nat.{ℕ, zero, suc, ◌+◌, ◌*◌, ◌-◌, ◌<◌, ◌≤◌}
 use mathlib.Core.Path.{◌≡◌, refl, sym, ◌∙◌, ap, subst}
 use mathlib.Core.List.{List, [], ◌∷◌, ◌++◌, map}
-use mathlib.Core.Option.{Option, none, some}
+use Rattle.std.specs.Prelude.{Option, None, Some}
 use mathlib.Core.Bool.{Bool, true, false, cond, ◌&&◌, ◌||◌}
 use lib.Dec.{ltb, eqb}
 use lib.ListN.{length, take, drop, replicate}
@@ -19,28 +19,28 @@ pub by_cond {ℓ κ} : {A : Type ℓ} (P : A → Type κ) (b : Bool) {x y : A} �
 by_cond P true f g = f refl
 by_cond P false f g = g refl
 
-pub by_maybe {ℓ κ μ} : {A : Type ℓ} {B : Type κ} (P : B → Type μ) (o : Option A) {d : B} {f : A → B} → (o ≡ none → P d) → ((a : A) → o ≡ some a → P (f a)) → P (maybe o d f)
-by_maybe P none f g = f refl
-by_maybe P (some a) f g = g a refl
+pub by_maybe {κ μ} : {A : Type 0} {B : Type κ} (P : B → Type μ) (o : Option A) {d : B} {f : A → B} → (o ≡ None → P d) → ((a : A) → o ≡ Some a → P (f a)) → P (maybe o d f)
+by_maybe P None f g = f refl
+by_maybe P (Some a) f g = g a refl
 
-pub none_unless {ℓ} : {A : Type ℓ} (o : Option A) → ((a : A) → o ≡ some a → ⊥) → o ≡ none
-none_unless none f = refl
-none_unless (some a) f = absurd (f a refl)
+pub none_unless : {A : Type 0} (o : Option A) → ((a : A) → o ≡ Some a → ⊥) → o ≡ None
+none_unless None f = refl
+none_unless (Some a) f = absurd (f a refl)
 
 -- a first match: at the head, or further on
-pub cond_some {ℓ κ} : {A : Type ℓ} {C : Type κ} (b : Bool) {a x : A} {o : Option A} → cond b (some a) o ≡ some x → (b ≡ true → a ≡ x → C) → (b ≡ false → o ≡ some x → C) → C
+pub cond_some {κ} : {A : Type 0} {C : Type κ} (b : Bool) {a x : A} {o : Option A} → cond b (Some a) o ≡ Some x → (b ≡ true → a ≡ x → C) → (b ≡ false → o ≡ Some x → C) → C
 cond_some true h f g = f refl (cc)
 cond_some false h f g = g refl h
 
-pub next_some : {C : Type 0} (o : Option ℕ) {i : ℕ} → next_index o ≡ some i → ((j : ℕ) → o ≡ some j → suc j ≡ i → C) → C
+pub next_some : {C : Type 0} (o : Option ℕ) {i : ℕ} → next_index o ≡ Some i → ((j : ℕ) → o ≡ Some j → suc j ≡ i → C) → C
 unfolding next_index
-next_some none h f = contradiction {b = true} refl (cc)
-next_some (some j) h f = f j refl (cc)
+next_some None h f = contradiction {b = true} refl (cc)
+next_some (Some j) h f = f j refl (cc)
 
-pub next_none : (o : Option ℕ) → next_index o ≡ none → o ≡ none
+pub next_none : (o : Option ℕ) → next_index o ≡ None → o ≡ None
 unfolding next_index
-next_none none h = refl
-next_none (some j) h = contradiction {b = true} refl (cc)
+next_none None h = refl
+next_none (Some j) h = contradiction {b = true} refl (cc)
 
 -- a row without place and stamp
 pub record Core : Type 0 where
@@ -57,8 +57,8 @@ cores [] = []
 cores (r ∷ rs) = core r ∷ cores rs
 
 unfoldable pub look : NodeAddr → List Core → Option Core
-look k [] = none
-look k (x ∷ xs) = cond (same_addr k x.key) (some x) (look k xs)
+look k [] = None
+look k (x ∷ xs) = cond (same_addr k x.key) (Some x) (look k xs)
 
 abbrev pub Unique : List Core → Type 0
 Unique [] = Unit {0}
@@ -309,41 +309,41 @@ rising_insert r (x ∷ xs) n h = by_cond (λ u. Rising (cores u)) (addr_before r
 
 -- ---- a key's row
 
-pub look_key : (k : NodeAddr) (x : Core) (xs : List Core) → look k xs ≡ some x → x.key ≡ k
+pub look_key : (k : NodeAddr) (x : Core) (xs : List Core) → look k xs ≡ Some x → x.key ≡ k
 unfolding look
 look_key k x [] h = contradiction {b = true} refl (cc)
 look_key k x (y ∷ ys) h = cond_some (same_addr k y.key) h (λ e p. cc (same_true k y.key e)) (λ e p. look_key k x ys p)
 
-pub look_keep : (k : NodeAddr) (x : Core) (p : Row → Bool) (rs : List Row) → Every (λ r. core r ≡ x → p r ≡ true) rs → look k (cores rs) ≡ some x → look k (cores (keep_rows p rs)) ≡ some x
+pub look_keep : (k : NodeAddr) (x : Core) (p : Row → Bool) (rs : List Row) → Every (λ r. core r ≡ x → p r ≡ true) rs → look k (cores rs) ≡ Some x → look k (cores (keep_rows p rs)) ≡ Some x
 unfolding look keep_rows
 look_keep k x p [] f h = h
 look_keep k x p (r ∷ rs) f h = cond_some (same_addr k r.key) h
-    (λ e q. by_cond (λ u. look k (cores u) ≡ some x) (p r) (λ t. rw e (ap some q)) (λ t. contradiction (f.0 q) t))
-    (λ e q. by_cond (λ u. look k (cores u) ≡ some x) (p r) (λ t. rw e (look_keep k x p rs f.1 q)) (λ t. look_keep k x p rs f.1 q))
+    (λ e q. by_cond (λ u. look k (cores u) ≡ Some x) (p r) (λ t. rw e (ap Some q)) (λ t. contradiction (f.0 q) t))
+    (λ e q. by_cond (λ u. look k (cores u) ≡ Some x) (p r) (λ t. rw e (look_keep k x p rs f.1 q)) (λ t. look_keep k x p rs f.1 q))
 
 pub look_change : (j : NodeAddr) (f : Row → Row) (i : ℕ) (rs : List Row) → (j ≡ (row_at i rs).key → ⊥) → (f (row_at i rs)).key ≡ (row_at i rs).key → look j (cores (change_row f i rs)) ≡ look j (cores rs)
 unfolding look change_row
 look_change j f i [] n g = refl
 look_change j f zero (r ∷ rs) n g = rw (g, same_ne j r.key n)
-look_change j f (suc i) (r ∷ rs) n g = ap (λ o. cond (same_addr j r.key) (some (core r)) o) (look_change j f i rs n g)
+look_change j f (suc i) (r ∷ rs) n g = ap (λ o. cond (same_addr j r.key) (Some (core r)) o) (look_change j f i rs n g)
 
 pub look_without : (j : NodeAddr) (i : ℕ) (rs : List Row) → (j ≡ (row_at i rs).key → ⊥) → look j (cores (without_row i rs)) ≡ look j (cores rs)
 unfolding look without_row
 look_without j i [] n = refl
 look_without j zero (r ∷ rs) n = rw (same_ne j r.key n)
-look_without j (suc i) (r ∷ rs) n = ap (λ o. cond (same_addr j r.key) (some (core r)) o) (look_without j i rs n)
+look_without j (suc i) (r ∷ rs) n = ap (λ o. cond (same_addr j r.key) (Some (core r)) o) (look_without j i rs n)
 
 pub look_insert : (j : NodeAddr) (r : Row) → (j ≡ r.key → ⊥) → (rs : List Row) → look j (cores (insert_in_order r rs)) ≡ look j (cores rs)
 unfolding look insert_in_order
 look_insert j r n [] = let d = same_ne j r.key n in simp d
 look_insert j r n (x ∷ xs) = by_cond (λ u. look j (cores u) ≡ look j (core x ∷ cores xs)) (addr_before r.key x.key)
     (λ e. let d = same_ne j r.key n in simp d)
-    (λ e. ap (λ o. cond (same_addr j x.key) (some (core x)) o) (look_insert j r n xs))
+    (λ e. ap (λ o. cond (same_addr j x.key) (Some (core x)) o) (look_insert j r n xs))
 
-pub look_entered : (r : Row) (rs : List Row) → Every (λ y. y.key ≡ r.key → ⊥) (cores rs) → look r.key (cores (insert_in_order r rs)) ≡ some (core r)
+pub look_entered : (r : Row) (rs : List Row) → Every (λ y. y.key ≡ r.key → ⊥) (cores rs) → look r.key (cores (insert_in_order r rs)) ≡ Some (core r)
 unfolding look insert_in_order
 look_entered r [] h = simp (same_eq r.key r.key refl)
-look_entered r (x ∷ xs) h = by_cond (λ u. look r.key (cores u) ≡ some (core r)) (addr_before r.key x.key)
+look_entered r (x ∷ xs) h = by_cond (λ u. look r.key (cores u) ≡ Some (core r)) (addr_before r.key x.key)
     (λ e. simp (same_eq r.key r.key refl))
     (λ e. let d : same_addr r.key x.key ≡ false = same_ne r.key x.key (λ q. h.0 (sym q)) in simp d (look_entered r xs h.1))
 
@@ -353,46 +353,46 @@ without_gone i [] l u = tt
 without_gone zero (r ∷ rs) l u = u.0
 without_gone (suc i) (r ∷ rs) l u = (λ q. every_at (λ x. x.key ≡ r.key → ⊥) i rs (omega arith) (of_cores (λ y. y.key ≡ r.key → ⊥) rs u.0) (sym q), without_gone i rs (omega arith) u.1)
 
-pub look_at : (i : ℕ) (rs : List Row) → i < length rs → Unique (cores rs) → look (row_at i rs).key (cores rs) ≡ some (core (row_at i rs))
+pub look_at : (i : ℕ) (rs : List Row) → i < length rs → Unique (cores rs) → look (row_at i rs).key (cores rs) ≡ Some (core (row_at i rs))
 unfolding look
 look_at i [] l u = absurd (let z : ⊥ = omega arith in z)
 look_at zero (r ∷ rs) l u = rw (same_eq r.key r.key refl)
 look_at (suc i) (r ∷ rs) l u = rw (same_ne (row_at i rs).key r.key (every_at (λ x. x.key ≡ r.key → ⊥) i rs (omega arith) (of_cores (λ y. y.key ≡ r.key → ⊥) rs u.0))) (look_at i rs (omega arith) u.1)
 
-pub unique_look : (xs : List Core) → Unique xs → Every (λ y. look y.key xs ≡ some y) xs
+pub unique_look : (xs : List Core) → Unique xs → Every (λ y. look y.key xs ≡ Some y) xs
 unfolding look
 unique_look [] u = tt
-unique_look (x ∷ xs) u = (rw (same_eq x.key x.key refl), every_both (λ (y : Core) (f : y.key ≡ x.key → ⊥) (g : look y.key xs ≡ some y). rw (same_ne y.key x.key f) g) xs u.0 (unique_look xs u.1))
+unique_look (x ∷ xs) u = (rw (same_eq x.key x.key refl), every_both (λ (y : Core) (f : y.key ≡ x.key → ⊥) (g : look y.key xs ≡ Some y). rw (same_ne y.key x.key f) g) xs u.0 (unique_look xs u.1))
 
 -- the row that is found
 pub record Found (k : NodeAddr) (rs : List Row) (i : ℕ) : Type 0 where
   pub inside : i < length rs
   pub key : (row_at i rs).key ≡ k
-  pub looked : look k (cores rs) ≡ some (core (row_at i rs))
+  pub looked : look k (cores rs) ≡ Some (core (row_at i rs))
 
-pub find_at : (k : NodeAddr) (rs : List Row) (i : ℕ) → find k rs ≡ some i → Found k rs i
+pub find_at : (k : NodeAddr) (rs : List Row) (i : ℕ) → find k rs ≡ Some i → Found k rs i
 unfolding find look
 find_at k [] i h = contradiction {b = true} refl (cc)
 find_at k (r ∷ rs) i h = cond_some (same_addr k r.key) h
     (λ e q. subst (Found k (r ∷ rs)) q (record { inside = omega arith; key = sym (same_true k r.key e); looked = rw e }))
     (λ e q. next_some (find k rs) q (λ j f z. let g = find_at k rs j f in subst (Found k (r ∷ rs)) z (record { inside = omega (arith, g.inside); key = g.key; looked = rw e g.looked })))
 
-pub find_none : (k : NodeAddr) (rs : List Row) → find k rs ≡ none → Every (λ y. y.key ≡ k → ⊥) (cores rs)
+pub find_none : (k : NodeAddr) (rs : List Row) → find k rs ≡ None → Every (λ y. y.key ≡ k → ⊥) (cores rs)
 unfolding find
 find_none k [] h = tt
 find_none k (x ∷ xs) h = go (same_addr k x.key) refl (find_none k xs)
   where
-    go : (b : Bool) → same_addr k x.key ≡ b → (find k xs ≡ none → Every (λ y. y.key ≡ k → ⊥) (cores xs)) → Every (λ y. y.key ≡ k → ⊥) (cores (x ∷ xs))
-    go true e ih = contradiction {b = true} refl (let h2 : some 0 ≡ none = simp e at h in cc)
+    go : (b : Bool) → same_addr k x.key ≡ b → (find k xs ≡ None → Every (λ y. y.key ≡ k → ⊥) (cores xs)) → Every (λ y. y.key ≡ k → ⊥) (cores (x ∷ xs))
+    go true e ih = contradiction {b = true} refl (let h2 : Some 0 ≡ None = simp e at h in cc)
     go false e ih = (λ q. same_false k x.key e (sym q), ih (next_none (find k xs) (simp e at h)))
 
 pub record Looked (k : NodeAddr) (x : Core) (rs : List Row) : Type 0 where
   pub at : ℕ
-  pub there : find k rs ≡ some at
+  pub there : find k rs ≡ Some at
   pub inside : at < length rs
   pub same : core (row_at at rs) ≡ x
 
-pub look_find : (k : NodeAddr) (x : Core) (rs : List Row) → look k (cores rs) ≡ some x → Looked k x rs
+pub look_find : (k : NodeAddr) (x : Core) (rs : List Row) → look k (cores rs) ≡ Some x → Looked k x rs
 unfolding look find next_index
 look_find k x [] h = contradiction {b = true} refl (cc)
 look_find k x (r ∷ rs) h = cond_some (same_addr k r.key) h
@@ -422,16 +422,16 @@ after_le a b h = go (ltb a.stamp_first b.stamp_first) refl h
     go true e t = contradiction {b = true} refl t
     go false e t = omega (arith, ltb-false a.stamp_first b.stamp_first e)
 
-pub lowest_none : (p : ℕ) (rs : List Row) → lowest_stamp p rs ≡ none → Every (λ r. at_place p r ≡ false) rs
+pub lowest_none : (p : ℕ) (rs : List Row) → lowest_stamp p rs ≡ None → Every (λ r. at_place p r ≡ false) rs
 unfolding lowest_stamp
 lowest_none p [] h = tt
 lowest_none p (r ∷ rs) h = go (at_place p r) refl (lowest_none p rs) h
   where
-    go : (b : Bool) → at_place p r ≡ b → (lowest_stamp p rs ≡ none → Every (λ x. at_place p x ≡ false) rs) → cond b (some (lower_of r rs (lowest_stamp p rs))) (next_index (lowest_stamp p rs)) ≡ none → Every (λ x. at_place p x ≡ false) (r ∷ rs)
+    go : (b : Bool) → at_place p r ≡ b → (lowest_stamp p rs ≡ None → Every (λ x. at_place p x ≡ false) rs) → cond b (Some (lower_of r rs (lowest_stamp p rs))) (next_index (lowest_stamp p rs)) ≡ None → Every (λ x. at_place p x ≡ false) (r ∷ rs)
     go true e ih q = contradiction {b = true} refl (cc)
     go false e ih q = (e, ih (next_none (lowest_stamp p rs) q))
 
-pub lowest_at : (p : ℕ) (rs : List Row) (i : ℕ) → lowest_stamp p rs ≡ some i → Lowest p rs i
+pub lowest_at : (p : ℕ) (rs : List Row) (i : ℕ) → lowest_stamp p rs ≡ Some i → Lowest p rs i
 unfolding lowest_stamp lower_of
 lowest_at p [] i h = contradiction {b = true} refl (cc)
 lowest_at p (r ∷ rs) i h = go (at_place p r) refl (lowest_stamp p rs) refl (λ j. lowest_at p rs j) h
@@ -443,7 +443,7 @@ lowest_at p (r ∷ rs) i h = go (at_place p r) refl (lowest_stamp p rs) refl (λ
     pick j e g true q = later j g (λ z. before_le (row_at j rs) r q)
     pick j e g false q = record { inside = omega arith; there = e; least = (λ z. omega arith, every_map (λ x l z. omega (arith, l z, after_le (row_at j rs) r q)) rs g.least) }
 
-    go : (b : Bool) → at_place p r ≡ b → (o : Option ℕ) → lowest_stamp p rs ≡ o → ((j : ℕ) → lowest_stamp p rs ≡ some j → Lowest p rs j) → cond b (some (lower_of r rs o)) (next_index o) ≡ some i → Lowest p (r ∷ rs) i
-    go true e none q ih t = let z : 0 ≡ i = cc in subst (Lowest p (r ∷ rs)) z (record { inside = omega arith; there = e; least = (λ z. omega arith, every_map (λ x a c. contradiction c a) rs (lowest_none p rs q)) })
-    go true e (some j) q ih t = let z : cond (stamp_before (row_at j rs) r) (suc j) 0 ≡ i = cc in subst (Lowest p (r ∷ rs)) z (pick j e (ih j q) (stamp_before (row_at j rs) r) refl)
+    go : (b : Bool) → at_place p r ≡ b → (o : Option ℕ) → lowest_stamp p rs ≡ o → ((j : ℕ) → lowest_stamp p rs ≡ Some j → Lowest p rs j) → cond b (Some (lower_of r rs o)) (next_index o) ≡ Some i → Lowest p (r ∷ rs) i
+    go true e None q ih t = let z : 0 ≡ i = cc in subst (Lowest p (r ∷ rs)) z (record { inside = omega arith; there = e; least = (λ z. omega arith, every_map (λ x a c. contradiction c a) rs (lowest_none p rs q)) })
+    go true e (Some j) q ih t = let z : cond (stamp_before (row_at j rs) r) (suc j) 0 ≡ i = cc in subst (Lowest p (r ∷ rs)) z (pick j e (ih j q) (stamp_before (row_at j rs) r) refl)
     go false e o q ih t = next_some o t (λ j f z. subst (Lowest p (r ∷ rs)) z (later j (ih j (q ∙ f)) (λ c. contradiction c e)))

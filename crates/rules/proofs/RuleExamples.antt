@@ -1,11 +1,10 @@
 -- Closed examples of entries, room, placement, sweeps and statistics. tests/branches.txt has a list of the same name for each that the original can be asked.
 use mathlib.Core.Path.{◌≡◌, refl}
 use mathlib.Core.List.{[], ◌∷◌, ◌++◌, map}
-use mathlib.Core.Option.{none, some}
+use Rattle.std.specs.Prelude.{None, Some}
 use mathlib.Core.Bool.{true, false}
 use Rattle.types.specs.declared.coord.Path.{Path}
 use Rattle.types.specs.declared.entry.CoordSource.TheVariants.{Hint, Verified}
-use Rattle.types.specs.declared.entry.PathMtu.TheVariants.{Known, Unknown}
 use Rattle.types.specs.declared.placed.Funding.TheVariants.{Uncharged, Upto}
 use Rattle.types.specs.declared.placed.HintOutcome.TheVariants.{Changed, Inserted, Rejected, Unchanged}
 use Rattle.types.specs.declared.placed.Segment.TheVariants.{Main, Probation}
@@ -28,7 +27,7 @@ clear_mtu_keeps_verification = refl
 
 -- an MTU value under mark 0 is not shown, and a value under a mark 1 is
 entry_shown : map (λ m. entry_value (record { path = path 1; created_at = 1; last_used = 2; expires_at = 3; mtu_mark = m; mtu = 1400; source = m; verified_until = 4 })) (0 ∷ 1 ∷ [])
-    ≡ record { path = path 1; created_at = 1; last_used = 2; expires_at = 3; path_mtu = Unknown; source = Verified; verified_until = 4 } ∷ record { path = path 1; created_at = 1; last_used = 2; expires_at = 3; path_mtu = Known 1400; source = Hint; verified_until = 4 } ∷ []
+    ≡ record { path = path 1; created_at = 1; last_used = 2; expires_at = 3; path_mtu = None; source = Verified; verified_until = 4 } ∷ record { path = path 1; created_at = 1; last_used = 2; expires_at = 3; path_mtu = Some 1400; source = Hint; verified_until = 4 } ∷ []
 unfolding seen_from
 entry_shown = refl
 
@@ -37,7 +36,7 @@ junk : Path
 junk = record { entries = elements_from 90 32; len = 1 }
 
 places_past_the_length : (seen 24 2 300000 (insert A junk 0 ∷ insert_verified B junk 0 ∷ insert A junk 1 ∷ Remove A ∷ Remove B ∷ [])).answers
-    ≡ hint Inserted 16 Main false 0 ∷ done 16 0 ∷ hint Unchanged 0 Main false 0 ∷ EntryRemoved (some (record { path = path 1; created_at = 0; last_used = 1; expires_at = 300001; path_mtu = Unknown; source = Hint; verified_until = 0 })) ∷ EntryRemoved (some (record { path = path 1; created_at = 0; last_used = 0; expires_at = 300000; path_mtu = Unknown; source = Verified; verified_until = 300000 })) ∷ []
+    ≡ hint Inserted 16 Main false 0 ∷ done 16 0 ∷ hint Unchanged 0 Main false 0 ∷ EntryRemoved (Some (record { path = path 1; created_at = 0; last_used = 1; expires_at = 300001; path_mtu = None; source = Hint; verified_until = 0 })) ∷ EntryRemoved (Some (record { path = path 1; created_at = 0; last_used = 0; expires_at = 300000; path_mtu = None; source = Verified; verified_until = 300000 })) ∷ []
 unfolding seen junk
 places_past_the_length = refl
 
@@ -69,7 +68,7 @@ verified_seeks_the_path_weight = refl
 
 -- expired rows are no better victims: A is older than B, which has expired
 expired_is_no_better_victim : answers_of 24 2 300000 (insert A (path 1) 1 ∷ insert_with_ttl B (path 1) 2 1 ∷ insert C (path 1) 10 ∷ Remove A ∷ Demote B ∷ [])
-    ≡ hint Inserted 16 Main false 0 ∷ hint Inserted 16 Main false 0 ∷ hint Inserted 16 Main false 1 ∷ EntryRemoved none ∷ KeyHeld true ∷ []
+    ≡ hint Inserted 16 Main false 0 ∷ hint Inserted 16 Main false 0 ∷ hint Inserted 16 Main false 1 ∷ EntryRemoved None ∷ KeyHeld true ∷ []
 unfolding answers_of
 expired_is_no_better_victim = refl
 
@@ -97,7 +96,7 @@ other_roots_leaves_the_root = refl
 
 -- both segments count, ages run from created_at, and the total is exact
 stats_both_segments_by_created : answers_of 24 4 10 (insert A (path 1) 0 ∷ insert_funded B (path 1) 0 (Upto 15) ∷ GetAndTouch A 5 ∷ Stats 11 ∷ NextExpiry ∷ [])
-    ≡ hint Inserted 16 Main false 0 ∷ hint Inserted 0 Probation true 0 ∷ found 1 ∷ StatsGiven (record { entries = 2; max_entries = 4; expired = 1; avg_age_ms = 11 }) ∷ ExpiryGiven (some 10) ∷ []
+    ≡ hint Inserted 16 Main false 0 ∷ hint Inserted 0 Probation true 0 ∷ found 1 ∷ StatsGiven (record { entries = 2; max_entries = 4; expired = 1; avg_age_ms = 11 }) ∷ ExpiryGiven (Some 10) ∷ []
 unfolding answers_of
 stats_both_segments_by_created = refl
 

@@ -2,7 +2,7 @@
 use Prim.Native.Nat.{ℕ, ◌+◌, ◌≤◌}
 use mathlib.Core.Path.{◌≡◌, refl, sym, ◌∙◌, ap, subst}
 use mathlib.Core.List.{List, [], ◌∷◌, ◌++◌}
-use mathlib.Core.Option.{Option, none, some}
+use Rattle.std.specs.Prelude.{Option, None, Some}
 use mathlib.Core.Bool.{Bool, true, false, cond}
 use lib.Dec.{ltb, eqb}
 use borrow.Author.Tests.{ltb-true, ltb-false, lt-ltb, eqb-true, eqb-false}
@@ -73,7 +73,7 @@ run_funded R a s [] h = tt
 run_funded R a s (q ∷ qs) h = ((step_demand R a s q h).funded, run_funded R (accounts_after (event q (step R s q)) a) (step R s q).state qs (step_demand R a s q h).accounted)
 
 run_spared : (R ttl : ℕ) (v : VerifiedWrite) (x : Core) → Fixed ttl v x → (a : NodeAddr → ℕ) (s : State) (qs : List Call) → Accounted a s → Every (λ e. must_spare ttl v e ≡ true) (run R s qs).events
-    → look v.key (cores s.rows) ≡ some x → look v.key (cores (run R s qs).state.rows) ≡ some x
+    → look v.key (cores s.rows) ≡ Some x → look v.key (cores (run R s qs).state.rows) ≡ Some x
 unfolding run
 run_spared R ttl v x d a s [] h e l = l
 run_spared R ttl v x d a s (q ∷ qs) h e l = run_spared R ttl v x d (accounts_after (event q (step R s q)) a) (step R s q).state qs (step_demand R a s q h).accounted e.1 ((step_demand R a s q h).spared ttl v x d e.0 l)
@@ -82,7 +82,7 @@ run_spared R ttl v x d a s (q ∷ qs) h e l = run_spared R ttl v x d (accounts_a
 record Made (ttl : ℕ) (v : VerifiedWrite) (s : State) : Type 0 where
   row : Core
   fixed : Fixed ttl v row
-  looked : look v.key (cores s.rows) ≡ some row
+  looked : look v.key (cores s.rows) ≡ Some row
 
 inserted_made : (R : ℕ) (k : NodeAddr) (p : Path) (now : ℕ) (mtu : Option ℕ) (s : State) → Sound R s → Made s.default_ttl (record { key = k; path = p; time = now }) (insert_verified k p now mtu s).state
 unfolding insert_verified file_new at_place
@@ -93,14 +93,14 @@ inserted_made R k p now mtu s h =
     let r : Row = record { key = k; entry = e; place = by_use; stamp_first = e.last_used; stamp_seq = d.seq + 1; weight = path_weight p } in
     record { row = core r; fixed = verified_fixed k p now (path_weight p) mtu s; looked = look_entered r d.rows (room_gone k now (path_weight p) (without_key k s) o.sound o.gone) }
 
-perform_made : (R : ℕ) (s : State) (q : Call) (v : VerifiedWrite) → Sound R s → verified_write q ≡ some v → Made s.default_ttl v (perform s q).state
+perform_made : (R : ℕ) (s : State) (q : Call) (v : VerifiedWrite) → Sound R s → verified_write q ≡ Some v → Made s.default_ttl v (perform s q).state
 unfolding verified_write perform verifies gives
 perform_made R s (Insert k p t) v h e = contradiction {b = true} refl (cc)
 perform_made R s (InsertWithTtl k p t l) v h e = contradiction {b = true} refl (cc)
 perform_made R s (InsertFunded k p t f) v h e = contradiction {b = true} refl (cc)
 perform_made R s (InsertStated k p t f) v h e = contradiction {b = true} refl (cc)
-perform_made R s (InsertVerified k p t) v h e = let q : record { key = k; path = p; time = t } ≡ v = cc in subst (λ u. Made s.default_ttl u (insert_verified k p t none s).state) q (inserted_made R k p t none s h)
-perform_made R s (InsertVerifiedWithPathMtu k p t m) v h e = let q : record { key = k; path = p; time = t } ≡ v = cc in subst (λ u. Made s.default_ttl u (insert_verified k p t (some m) s).state) q (inserted_made R k p t (some m) s h)
+perform_made R s (InsertVerified k p t) v h e = let q : record { key = k; path = p; time = t } ≡ v = cc in subst (λ u. Made s.default_ttl u (insert_verified k p t None s).state) q (inserted_made R k p t None s h)
+perform_made R s (InsertVerifiedWithPathMtu k p t m) v h e = let q : record { key = k; path = p; time = t } ≡ v = cc in subst (λ u. Made s.default_ttl u (insert_verified k p t (Some m) s).state) q (inserted_made R k p t (Some m) s h)
 perform_made R s (Get k t) v h e = contradiction {b = true} refl (cc)
 perform_made R s (GetAndTouch k t) v h e = contradiction {b = true} refl (cc)
 perform_made R s (Remove k) v h e = contradiction {b = true} refl (cc)
@@ -113,7 +113,7 @@ perform_made R s (InvalidateOtherRoots b) v h e = contradiction {b = true} refl 
 perform_made R s (Stats t) v h e = contradiction {b = true} refl (cc)
 perform_made R s NextExpiry v h e = contradiction {b = true} refl (cc)
 
-step_made : (R : ℕ) (s : State) (q : Call) (v : VerifiedWrite) → verified_write q ≡ some v → was_refused (step R s q).answer ≡ false → Made s.default_ttl v (step R s q).state
+step_made : (R : ℕ) (s : State) (q : Call) (v : VerifiedWrite) → verified_write q ≡ Some v → was_refused (step R s q).answer ≡ false → Made s.default_ttl v (step R s q).state
 unfolding gives was_refused
 step_made R s q v e = by_step R s q (λ (t : Step). was_refused t.answer ≡ false → Made s.default_ttl v t.state) (λ n r. contradiction {b = true} refl r)
     (λ l r. perform_made R s q v (sound_is R s l.sound) e)
@@ -122,7 +122,7 @@ main_of : (r : Row) → r.place ≤ 2 → at_place probation r ≡ false → in_
 unfolding in_main at_place
 main_of r l h = lt-ltb r.place 2 (let n = eqb-false r.place 2 h in omega arith)
 
-stands : (ttl : ℕ) (v : VerifiedWrite) (x : Core) (s : State) → Settled s → Fixed ttl v x → look v.key (cores s.rows) ≡ some x → KeepsPlace ttl v s.rows
+stands : (ttl : ℕ) (v : VerifiedWrite) (x : Core) (s : State) → Settled s → Fixed ttl v x → look v.key (cores s.rows) ≡ Some x → KeepsPlace ttl v s.rows
 stands ttl v x s h d l =
     let f = look_find v.key x s.rows l in
     let q = f.same in
@@ -138,7 +138,7 @@ stands ttl v x s h d l =
 
 -- protection, by the events before the insert
 protect : (R ttl : ℕ) (a : NodeAddr → ℕ) (s : State) (qs : List Call) → s.default_ttl ≡ ttl → Settled s → Accounted a s → (earlier later : List Event) (e : Event) (v : VerifiedWrite)
-    → (run R s qs).events ≡ earlier ++ (e ∷ later) → verified_write e.call ≡ some v → was_refused e.answer ≡ false
+    → (run R s qs).events ≡ earlier ++ (e ∷ later) → verified_write e.call ≡ Some v → was_refused e.answer ≡ false
     → Every (λ l. must_spare ttl v l ≡ true) later → KeepsPlace ttl v (run R s qs).state.rows
 unfolding run
 protect R ttl a s [] t st h [] later e v p claim not_refused spared = contradiction {b = true} refl (cc)
@@ -147,7 +147,7 @@ protect R ttl a s (q ∷ qs) t st h [] later e v p claim not_refused spared =
     let x = step R s q in
     let pe : e ≡ event q x = cc in
     let pl : later ≡ (run R x.state qs).events = cc in
-    let m = step_made R s q v (subst (λ (u : Event). verified_write u.call ≡ some v) pe claim) (subst (λ (u : Event). was_refused u.answer ≡ false) pe not_refused) in
+    let m = step_made R s q v (subst (λ (u : Event). verified_write u.call ≡ Some v) pe claim) (subst (λ (u : Event). was_refused u.answer ≡ false) pe not_refused) in
     let d : Fixed ttl v m.row = subst (λ u. Fixed u v m.row) t m.fixed in
     stands ttl v m.row (run R x.state qs).state (settled_run R x.state qs (settled_step R s q st)) d
     (run_spared R ttl v m.row d (accounts_after (event q x) a) x.state qs (step_demand R a s q h).accounted (subst (Every (λ l. must_spare ttl v l ≡ true)) pl spared) m.looked)
@@ -159,7 +159,7 @@ sound_settled : (R : ℕ) (s : State) → Sound R s → Settled s
 sound_settled R s h = record { stored_weight = h.stored_weight; places = every_map {P = RowOk s.seq} (λ r o. o.place) s.rows h.each }
 
 -- protection from any sound state on, foreign ones too
-pub kept_after : (R : ℕ) (s : State) (q : Call) (v : VerifiedWrite) (qs : List Call) → sound R s ≡ true → verified_write q ≡ some v → was_refused (step R s q).answer ≡ false
+pub kept_after : (R : ℕ) (s : State) (q : Call) (v : VerifiedWrite) (qs : List Call) → sound R s ≡ true → verified_write q ≡ Some v → was_refused (step R s q).answer ≡ false
     → Every (λ e. must_spare s.default_ttl v e ≡ true) (run R (step R s q).state qs).events → KeepsPlace s.default_ttl v (run R (step R s q).state qs).state.rows
 kept_after R s q v qs h e done spared =
     let g = sound_is R s h in

@@ -2,7 +2,7 @@
 use Prim.Native.Nat.{ℕ, zero, suc, ◌+◌, ◌*◌, ◌<◌, ◌≤◌, min}
 use mathlib.Core.Path.{◌≡◌, refl, sym, ◌∙◌, ap, subst}
 use mathlib.Core.List.{List, map}
-use mathlib.Core.Option.{none, some}
+use Rattle.std.specs.Prelude.{None, Some}
 use mathlib.Core.Bool.{Bool, true, false, cond, ◌&&◌, not}
 use lib.Dec.{ltb, leb, eqb}
 use lib.ListN.{length}
@@ -273,8 +273,8 @@ pub record Stuck (now : ℕ) (s : State) (w x : Walk) : Type 0 where
   pub weights : main_weight x.state ≡ main_weight w.state
 
 pub record Ends (now : ℕ) (s : State) (w : Walk) (x : Sought) : Type 0 where
-  pub ended : x.victim ≡ none → Stuck now s w x.walk
-  pub yields : (i : ℕ) → x.victim ≡ some i → Led now s (set_aside i x.walk) × (suc (main_count (set_aside i x.walk).state) ≡ main_count w.state)
+  pub ended : x.victim ≡ None → Stuck now s w x.walk
+  pub yields : (i : ℕ) → x.victim ≡ Some i → Led now s (set_aside i x.walk) × (suc (main_count (set_aside i x.walk).state) ≡ main_count w.state)
 
 calm_restamp : (now : ℕ) (w : Walk) (i : ℕ) → in_main (row_at i w.state.rows) ≡ true → Calm now w.state.rows → Calm now (take_up restamp i w).state.rows
 unfolding take_up restamp stamp with_rows raised at_place
@@ -447,7 +447,7 @@ turns_main now r = go (at_place by_use r) refl (stale r) (at_place parked r) ref
 pub record Roomed (now w : ℕ) (s : State) (m : Room) : Type 1 where
   pub limits : limits_of m.state ≡ limits_of s
   pub keeps : (P : Core → Type 0) → Every P (cores s.rows) → Every P (cores m.state.rows)
-  pub spares : (k : NodeAddr) (x : Core) → verified now x.entry ≡ true → look k (cores s.rows) ≡ some x → look k (cores m.state.rows) ≡ some x
+  pub spares : (k : NodeAddr) (x : Core) → verified now x.entry ≡ true → look k (cores s.rows) ≡ Some x → look k (cores m.state.rows) ≡ Some x
   pub each : Every (RowOk m.state.seq) m.state.rows
   pub rising : Rising (cores m.state.rows)
   pub counted : m.state.row_count ≡ length m.state.rows
@@ -486,7 +486,7 @@ remains_rising : (b : Bool) (rs : List Row) → Rising (cores rs) → Rising (co
 remains_rising true rs h = rising_keep stays rs h
 remains_rising false rs h = rw (map_cores put_back back_core rs) h
 
-remains_spares : (now q : ℕ) (b : Bool) (rs : List Row) → Every (Going now q) rs → (k : NodeAddr) (x : Core) → verified now x.entry ≡ true → look k (cores rs) ≡ some x → look k (cores (remains b rs)) ≡ some x
+remains_spares : (now q : ℕ) (b : Bool) (rs : List Row) → Every (Going now q) rs → (k : NodeAddr) (x : Core) → verified now x.entry ≡ true → look k (cores rs) ≡ Some x → look k (cores (remains b rs)) ≡ Some x
 remains_spares now q true rs g k x v h = look_keep k x stays rs (every_map (λ r z e. go r z (subst (λ (y : Core). verified now y.entry ≡ true) (sym e) v) (at_place aside r) refl) rs g) h
   where
     go : (r : Row) → Going now q r → verified now r.entry ≡ true → (b : Bool) → at_place aside r ≡ b → not b ≡ true

@@ -1,6 +1,5 @@
 -- The calls of document 01, their answers, and what each call says.
-use Rattle.std.specs.Prelude.{ℕ, List, Bool, true, false, not, ltb}
-use Rattle.std.proofs.Math.Option.{Option, none, some}
+use Rattle.std.specs.Prelude.{ℕ, List, Bool, true, false, not, ltb, Option, None, Some}
 use Rattle.types.specs.declared.node_addr.NodeAddr.{NodeAddr}
 use Rattle.types.specs.declared.coord.CoordEntry.{CoordEntry}
 use Rattle.types.specs.declared.coord.Path.{Path}
@@ -49,61 +48,61 @@ pub data Answer : Type 0 where
 
 -- sweeps and statistics name no key
 unfoldable pub key_named : Call → Option NodeAddr
-key_named (Insert k p t) = some k
-key_named (InsertWithTtl k p t l) = some k
-key_named (InsertFunded k p t f) = some k
-key_named (InsertStated k p t f) = some k
-key_named (InsertVerified k p t) = some k
-key_named (InsertVerifiedWithPathMtu k p t m) = some k
-key_named (Get k t) = some k
-key_named (GetAndTouch k t) = some k
-key_named (Remove k) = some k
-key_named (Demote k) = some k
-key_named (ClearPathMtu k) = some k
-key_named (PurgeExpired t) = none
-key_named Clear = none
-key_named (InvalidateViaNode a) = none
-key_named (InvalidateOtherRoots a) = none
-key_named (Stats t) = none
-key_named NextExpiry = none
+key_named (Insert k p t) = Some k
+key_named (InsertWithTtl k p t l) = Some k
+key_named (InsertFunded k p t f) = Some k
+key_named (InsertStated k p t f) = Some k
+key_named (InsertVerified k p t) = Some k
+key_named (InsertVerifiedWithPathMtu k p t m) = Some k
+key_named (Get k t) = Some k
+key_named (GetAndTouch k t) = Some k
+key_named (Remove k) = Some k
+key_named (Demote k) = Some k
+key_named (ClearPathMtu k) = Some k
+key_named (PurgeExpired t) = None
+key_named Clear = None
+key_named (InvalidateViaNode a) = None
+key_named (InvalidateOtherRoots a) = None
+key_named (Stats t) = None
+key_named NextExpiry = None
 
 unfoldable pub path_given : Call → Option Path
-path_given (Insert k p t) = some p
-path_given (InsertWithTtl k p t l) = some p
-path_given (InsertFunded k p t f) = some p
-path_given (InsertStated k p t f) = some p
-path_given (InsertVerified k p t) = some p
-path_given (InsertVerifiedWithPathMtu k p t m) = some p
-path_given (Get k t) = none
-path_given (GetAndTouch k t) = none
-path_given (Remove k) = none
-path_given (Demote k) = none
-path_given (ClearPathMtu k) = none
-path_given (PurgeExpired t) = none
-path_given Clear = none
-path_given (InvalidateViaNode a) = none
-path_given (InvalidateOtherRoots a) = none
-path_given (Stats t) = none
-path_given NextExpiry = none
+path_given (Insert k p t) = Some p
+path_given (InsertWithTtl k p t l) = Some p
+path_given (InsertFunded k p t f) = Some p
+path_given (InsertStated k p t f) = Some p
+path_given (InsertVerified k p t) = Some p
+path_given (InsertVerifiedWithPathMtu k p t m) = Some p
+path_given (Get k t) = None
+path_given (GetAndTouch k t) = None
+path_given (Remove k) = None
+path_given (Demote k) = None
+path_given (ClearPathMtu k) = None
+path_given (PurgeExpired t) = None
+path_given Clear = None
+path_given (InvalidateViaNode a) = None
+path_given (InvalidateOtherRoots a) = None
+path_given (Stats t) = None
+path_given NextExpiry = None
 
 unfoldable pub time_given : Call → Option ℕ
-time_given (Insert k p t) = some t
-time_given (InsertWithTtl k p t l) = some t
-time_given (InsertFunded k p t f) = some t
-time_given (InsertStated k p t f) = some t
-time_given (InsertVerified k p t) = some t
-time_given (InsertVerifiedWithPathMtu k p t m) = some t
-time_given (Get k t) = some t
-time_given (GetAndTouch k t) = some t
-time_given (Remove k) = none
-time_given (Demote k) = none
-time_given (ClearPathMtu k) = none
-time_given (PurgeExpired t) = some t
-time_given Clear = none
-time_given (InvalidateViaNode a) = none
-time_given (InvalidateOtherRoots a) = none
-time_given (Stats t) = some t
-time_given NextExpiry = none
+time_given (Insert k p t) = Some t
+time_given (InsertWithTtl k p t l) = Some t
+time_given (InsertFunded k p t f) = Some t
+time_given (InsertStated k p t f) = Some t
+time_given (InsertVerified k p t) = Some t
+time_given (InsertVerifiedWithPathMtu k p t m) = Some t
+time_given (Get k t) = Some t
+time_given (GetAndTouch k t) = Some t
+time_given (Remove k) = None
+time_given (Demote k) = None
+time_given (ClearPathMtu k) = None
+time_given (PurgeExpired t) = Some t
+time_given Clear = None
+time_given (InvalidateViaNode a) = None
+time_given (InvalidateOtherRoots a) = None
+time_given (Stats t) = Some t
+time_given NextExpiry = None
 
 -- insert and insert_with_ttl are Uncharged; so is what is no hint
 unfoldable pub funding_of : Call → Funding
@@ -152,23 +151,23 @@ pub record VerifiedWrite : Type 0 where
   pub time : ℕ
 
 unfoldable pub verified_write : Call → Option VerifiedWrite
-verified_write (Insert k p t) = none
-verified_write (InsertWithTtl k p t l) = none
-verified_write (InsertFunded k p t f) = none
-verified_write (InsertStated k p t f) = none
-verified_write (InsertVerified k p t) = some (record { key = k; path = p; time = t })
-verified_write (InsertVerifiedWithPathMtu k p t m) = some (record { key = k; path = p; time = t })
-verified_write (Get k t) = none
-verified_write (GetAndTouch k t) = none
-verified_write (Remove k) = none
-verified_write (Demote k) = none
-verified_write (ClearPathMtu k) = none
-verified_write (PurgeExpired t) = none
-verified_write Clear = none
-verified_write (InvalidateViaNode a) = none
-verified_write (InvalidateOtherRoots a) = none
-verified_write (Stats t) = none
-verified_write NextExpiry = none
+verified_write (Insert k p t) = None
+verified_write (InsertWithTtl k p t l) = None
+verified_write (InsertFunded k p t f) = None
+verified_write (InsertStated k p t f) = None
+verified_write (InsertVerified k p t) = Some (record { key = k; path = p; time = t })
+verified_write (InsertVerifiedWithPathMtu k p t m) = Some (record { key = k; path = p; time = t })
+verified_write (Get k t) = None
+verified_write (GetAndTouch k t) = None
+verified_write (Remove k) = None
+verified_write (Demote k) = None
+verified_write (ClearPathMtu k) = None
+verified_write (PurgeExpired t) = None
+verified_write Clear = None
+verified_write (InvalidateViaNode a) = None
+verified_write (InvalidateOtherRoots a) = None
+verified_write (Stats t) = None
+verified_write NextExpiry = None
 
 -- whether a sweep matches an entry of this path and expires_at: purge_expired, expired rows;
 -- invalidate_via_node, paths containing the address; invalidate_other_roots, other last addresses; clear, all

@@ -1,17 +1,17 @@
 -- The command stream of document 01: commands from bytes, replies as numbers, lines as text, a run.
-use Rattle.std.specs.Prelude.{ℕ, zero, suc, ◌+◌, ◌/◌, ◌%◌, List, [], ◌∷◌, ◌++◌, Bool, cond, ◌&&◌, ltb, leb, eqb, length, take, drop}
-use Rattle.std.proofs.Math.Option.{Option, none, some}
+use Rattle.std.specs.Prelude.{ℕ, zero, suc, ◌+◌, ◌/◌, ◌%◌, List, [], ◌∷◌, ◌++◌, Bool, cond, ◌&&◌, ltb, leb, eqb, length, take, drop, Option, None, Some, Result, Ok, Err}
 use Rattle.types.specs.declared.node_addr.NodeAddr.{NodeAddr}
 use Rattle.types.specs.declared.coord.CoordEntry.{CoordEntry}
+use Rattle.types.specs.declared.coord.Path.{Path}
 use Rattle.types.specs.declared.sender.Sender.{Sender}
-use Rattle.types.specs.declared.coord.Appended.{Appended}
+use Rattle.types.specs.declared.refusal.Refusal.{Refusal}
 use Rattle.types.specs.Paths.{appended}
-use Rattle.types.specs.Senders.{new_sender, with_pending, emptied}
+use Rattle.types.specs.Senders.{new_sender, with_element, emptied}
 use Rattle.types.specs.declared.placed.Funding.{Funding}
 use Rattle.types.specs.declared.placed.Funding.TheVariants.{Upto, Uncharged}
 use Rattle.types.specs.declared.reply.Reply.{Reply}
 use Rattle.types.specs.declared.reply.Tally.{Tally}
-use Rattle.types.specs.Values.{bit, says, refuses, placed_reply, verified_reply, stats_reply, tallied}
+use Rattle.types.specs.Values.{bit, refusal_code, says, refuses, placed_reply, verified_reply, stats_reply, tallied}
 use Rattle.rules.specs.Cases.{maybe}
 use Rattle.rules.specs.Records.{State}
 use Rattle.rules.specs.Memory.{cut, le_number, coord_entry_of}
@@ -120,14 +120,14 @@ amount_in o = le_number (cut amount_at number_size o)
 
 -- kind 0 Uncharged, 1 Upto
 unfoldable pub funded : List ℕ → (Funding → Sender → Call) → Option Command
-funded o f = cond (eqb (kind_in o) 0) (some (WithPath (f Uncharged))) (cond (eqb (kind_in o) 1) (some (WithPath (f (Upto (amount_in o))))) none)
+funded o f = cond (eqb (kind_in o) 0) (Some (WithPath (f Uncharged))) (cond (eqb (kind_in o) 1) (Some (WithPath (f (Upto (amount_in o))))) None)
 
 -- none for a funding kind over 1
 unfoldable pub read_as : Operands → List ℕ → Option Command
-read_as (Elements f) o = some (Element (f o))
-read_as (Writes f) o = some (WithPath (f o))
+read_as (Elements f) o = Some (Element (f o))
+read_as (Writes f) o = Some (WithPath (f o))
 read_as (Funds f) o = funded o (f o)
-read_as (Requests f) o = some (Plain (f o))
+read_as (Requests f) o = Some (Plain (f o))
 
 abbrev pub reads : Code → List ℕ → Option Command
 reads c o = read_as c.says o
@@ -158,8 +158,8 @@ codes =
     ∷ []
 
 unfoldable pub code_of : ℕ → List Code → Option Code
-code_of b [] = none
-code_of b (c ∷ cs) = cond (eqb b c.byte) (some c) (code_of b cs)
+code_of b [] = None
+code_of b (c ∷ cs) = cond (eqb b c.byte) (Some c) (code_of b cs)
 
 -- the command that starts with the byte b, and the bytes past it
 pub record Decoded : Type 0 where
@@ -169,9 +169,9 @@ pub record Decoded : Type 0 where
 -- by a table of codes; none is number 6: command unknown, cut, or funding kind over 1
 unfoldable pub decode_in : List Code → ℕ → List ℕ → Option Decoded
 decode_in cs b bs =
-    maybe (code_of b cs) none (λ c.
-    let read = maybe (reads c (take c.width bs)) none (λ q. some (record { command = q; left = drop c.width bs })) in
-    cond (leb c.width (length bs)) read none)
+    maybe (code_of b cs) None (λ c.
+    let read = maybe (reads c (take c.width bs)) None (λ q. Some (record { command = q; left = drop c.width bs })) in
+    cond (leb c.width (length bs)) read None)
 
 abbrev pub decode : ℕ → List ℕ → Option Decoded
 decode b bs = decode_in codes b bs
@@ -191,11 +191,12 @@ unfoldable pub obeyed : Step → Sender → Obeyed
 obeyed t k = record { reply = reply t.answer; session = record { state = t.state; sender = k } }
 
 -- 01: pending; a 33rd element is refused by 2 and dropped
-abbrev pub element_reply : Appended → Reply
-element_reply a = cond (eqb a.refusal 0) (says a.path.len 0 0 0 0) (refuses a.refusal)
+abbrev pub element_reply : Result Path Refusal → Reply
+element_reply (Ok p) = says p.len 0 0 0 0
+element_reply (Err r) = refuses (refusal_code r)
 
-unfoldable pub pended : Session → Appended → Obeyed
-pended s a = record { reply = element_reply a; session = record { state = s.state; sender = with_pending a.path s.sender } }
+unfoldable pub pended : Session → Result Path Refusal → Obeyed
+pended s a = record { reply = element_reply a; session = record { state = s.state; sender = with_element a s.sender } }
 
 -- codes 10 to 15 empty the pending path, refused or not; every other command keeps it
 unfoldable pub obey : ℕ → Session → Command → Obeyed

@@ -1,6 +1,5 @@
 -- Accounts of document 01, and the third demand over a whole list of calls.
-use Rattle.std.specs.Prelude.{ℕ, ◌+◌, ◌≡◌, List, [], ◌∷◌, ◌++◌, Bool, true, false, cond, ◌&&◌, ◌||◌, not, leb}
-use Rattle.std.proofs.Math.Option.{some}
+use Rattle.std.specs.Prelude.{ℕ, ◌+◌, ◌≡◌, List, [], ◌∷◌, ◌++◌, Bool, true, false, cond, ◌&&◌, ◌||◌, not, leb, Some}
 use Rattle.types.specs.declared.node_addr.NodeAddr.{NodeAddr}
 use Rattle.types.specs.Addresses.{same_addr}
 use Rattle.types.specs.Paths.{as_written, path_weight}
@@ -78,7 +77,7 @@ must_spare ttl v e = was_refused e.answer || (names_other v e.call && (not_past 
 -- the entry keeps its place: in main, Verified, with that insert's path, expiry and verified_until
 pub record KeepsPlace (ttl : ℕ) (v : VerifiedWrite) (rows : List Row) : Type 0 where
   pub at : ℕ
-  pub there : find v.key rows ≡ some at
+  pub there : find v.key rows ≡ Some at
   pub main : in_main (row_at at rows) ≡ true
   pub source : (row_at at rows).entry.source ≡ verified_source
   pub path : (row_at at rows).entry.path ≡ as_written v.path
@@ -94,6 +93,6 @@ pub record ThirdDemand (ttl : ℕ) (events : List Event) (stored_weight : ℕ) (
   pub funding : Every (λ e. within_funding e ≡ true) events
   pub protection : (earlier later : List Event) (e : Event) (v : VerifiedWrite)
       → events ≡ earlier ++ (e ∷ later)
-      → verified_write e.call ≡ some v → was_refused e.answer ≡ false
+      → verified_write e.call ≡ Some v → was_refused e.answer ≡ false
       → Every (λ x. must_spare ttl v x ≡ true) later
       → KeepsPlace ttl v rows

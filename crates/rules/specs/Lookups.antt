@@ -1,6 +1,5 @@
 -- Lookups and sweeps of document 01.
-use Rattle.std.specs.Prelude.{ℕ, List, Bool, true, false, cond, not}
-use Rattle.std.proofs.Math.Option.{Option, none, some}
+use Rattle.std.specs.Prelude.{ℕ, List, Bool, true, false, cond, not, Option, None, Some}
 use Rattle.types.specs.declared.node_addr.NodeAddr.{NodeAddr}
 use Rattle.types.specs.declared.coord.CoordEntry.{CoordEntry}
 use Rattle.types.specs.Paths.{elements}
@@ -13,11 +12,11 @@ use Rattle.rules.specs.Room.{refile, take_out}
 
 -- the row of an unexpired key
 unfoldable pub unexpired_row : NodeAddr → ℕ → State → Option ℕ
-unexpired_row k now s = maybe (find k s.rows) none (λ i. cond (expired now (row_at i s.rows).entry) none (some i))
+unexpired_row k now s = maybe (find k s.rows) None (λ i. cond (expired now (row_at i s.rows).entry) None (Some i))
 
 -- get: an unexpired key's stored path, the elements up to its length and no more
 unfoldable pub get : NodeAddr → ℕ → State → Option (List CoordEntry)
-get k now s = maybe (unexpired_row k now s) none (λ i. some (elements (row_at i s.rows).entry.path))
+get k now s = maybe (unexpired_row k now s) None (λ i. Some (elements (row_at i s.rows).entry.path))
 
 unfoldable pub with_entry : Entry → Row → Row
 with_entry e r = record { key = r.key; entry = e; place = r.place; stamp_first = r.stamp_first; stamp_seq = r.stamp_seq; weight = r.weight }
@@ -32,7 +31,7 @@ touched k now s = maybe (find k s.rows) s (λ i. cond (expired now (row_at i s.r
 
 -- remove: the removed entry or nothing, expired or not
 unfoldable pub removed_entry : NodeAddr → State → Option CacheEntry
-removed_entry k s = maybe (find k s.rows) none (λ i. some (entry_value (row_at i s.rows).entry))
+removed_entry k s = maybe (find k s.rows) None (λ i. Some (entry_value (row_at i s.rows).entry))
 
 -- demote: makes the key's entry a hint, refiles it if parked
 unfoldable pub demoted : NodeAddr → State → State

@@ -1,10 +1,9 @@
 -- Records of document 01: entry, row, head; their codes; the bounds.
 -- Fields have 01's names.
-use Rattle.std.specs.Prelude.{ℕ, ◌*◌, ◌-◌, ◌/◌, max, List, cond, eqb}
+use Rattle.std.specs.Prelude.{ℕ, ◌*◌, ◌-◌, ◌/◌, max, List, cond, eqb, None, Some}
 use Rattle.types.specs.declared.node_addr.NodeAddr.{NodeAddr}
 use Rattle.types.specs.declared.coord.Path.{Path}
 use Rattle.types.specs.Paths.{addrs_per_entry, as_written, empty_path, path_places}
-use Rattle.types.specs.declared.entry.PathMtu.TheVariants.{Unknown, Known}
 use Rattle.types.specs.declared.entry.CacheEntry.{CacheEntry}
 use Rattle.types.specs.Values.{source_of}
 
@@ -111,7 +110,7 @@ entry_value e =
       created_at = e.created_at;
       last_used = e.last_used;
       expires_at = e.expires_at;
-      path_mtu = cond (eqb e.mtu_mark some_mtu) (Known e.mtu) Unknown;
+      path_mtu = cond (eqb e.mtu_mark some_mtu) (Some e.mtu) None;
       source = source_of e.source;
       verified_until = e.verified_until;
     }

@@ -1,6 +1,5 @@
 -- Refusals of document 01 as one table, and a request's answer and state by it.
-use Rattle.std.specs.Prelude.{ℕ, ◌+◌, ◌*◌, ◌-◌, List, [], ◌∷◌, ◌++◌, Bool, false, cond, ◌&&◌, ◌||◌, not, ltb, leb, eqb, length, drop}
-use Rattle.std.proofs.Math.Option.{Option, none, some}
+use Rattle.std.specs.Prelude.{ℕ, ◌+◌, ◌*◌, ◌-◌, List, [], ◌∷◌, ◌++◌, Bool, false, cond, ◌&&◌, ◌||◌, not, ltb, leb, eqb, length, drop, Option, None, Some}
 use Rattle.types.specs.declared.node_addr.NodeAddr.{NodeAddr}
 use Rattle.types.specs.declared.coord.Path.{Path}
 use Rattle.types.specs.Addresses.{same_addr}
@@ -72,8 +71,8 @@ reasons R s (Asked q) =
     ∷ []
 
 unfoldable pub first_given : List Reason → Option ℕ
-first_given [] = none
-first_given (r ∷ rs) = let later = first_given rs in cond r.given (some r.number) later
+first_given [] = None
+first_given (r ∷ rs) = let later = first_given rs in cond r.given (Some r.number) later
 
 -- the number by which a request is refused, or none
 unfoldable pub refusal : ℕ → State → Request → Option ℕ
@@ -105,8 +104,8 @@ perform s (Insert k p t) = hinted (place_hint k p t s.default_ttl Uncharged fals
 perform s (InsertWithTtl k p t l) = hinted (place_hint k p t l Uncharged false s)
 perform s (InsertFunded k p t f) = hinted (place_hint k p t s.default_ttl f false s)
 perform s (InsertStated k p t f) = hinted (place_hint k p t s.default_ttl f (starts_at k p) s)
-perform s (InsertVerified k p t) = verifies k p t none s
-perform s (InsertVerifiedWithPathMtu k p t m) = verifies k p t (some m) s
+perform s (InsertVerified k p t) = verifies k p t None s
+perform s (InsertVerifiedWithPathMtu k p t m) = verifies k p t (Some m) s
 perform s (Get k t) = gives (PathFound (get k t s)) s
 perform s (GetAndTouch k t) = gives (PathFound (get k t s)) (touched k t s)
 perform s (Remove k) = gives (EntryRemoved (removed_entry k s)) (without_key k s)

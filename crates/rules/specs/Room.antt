@@ -1,6 +1,5 @@
 -- Stamps and room of document 01 (next_key, file_new, refile, next_victim, make_room, make_probation_room).
-use Rattle.std.specs.Prelude.{ℕ, zero, suc, ◌+◌, min, map, Bool, true, false, cond, ◌&&◌, not, ltb, leb, eqb, length, drop}
-use Rattle.std.proofs.Math.Option.{Option, none, some}
+use Rattle.std.specs.Prelude.{ℕ, zero, suc, ◌+◌, min, map, Bool, true, false, cond, ◌&&◌, not, ltb, leb, eqb, length, drop, Option, None, Some}
 use Rattle.types.specs.declared.node_addr.NodeAddr.{NodeAddr}
 use Rattle.rules.specs.Cases.{maybe}
 use Rattle.rules.specs.Records.{Entry, Row, State, by_use, parked, probation, aside, weight_bound, probation_limit, with_held, with_seq}
@@ -94,12 +93,12 @@ sought v w = record { victim = v; walk = w }
 -- the lowest ByUse stamp is taken up; if first ≠ last_used the row is restamped and the walk goes on;
 -- otherwise, if verified, it is parked; the walk ends at the first entry that is neither, and yields it
 unfoldable pub seek : ℕ → ℕ → Walk → Sought
-seek zero now w = sought none w
+seek zero now w = sought None w
 seek (suc n) now w =
-    maybe (lowest_stamp by_use w.state.rows) (sought none w) (λ i.
+    maybe (lowest_stamp by_use w.state.rows) (sought None w) (λ i.
     let restamps = seek n now (take_up restamp i w) in
     let parks = seek n now (take_up park i w) in
-    let yields = sought (some i) (take_up untouched i w) in
+    let yields = sought (Some i) (take_up untouched i w) in
     cond (stale (row_at i w.state.rows)) restamps
     (cond (verified now (row_at i w.state.rows).entry) parks yields))
 

@@ -1,6 +1,5 @@
 -- Rows of a state: by key, by stamp, by index; sums over them; states with other rows.
-use Rattle.std.specs.Prelude.{ℕ, zero, suc, ◌+◌, ◌*◌, ◌-◌, List, [], ◌∷◌, ◌++◌, Bool, cond, ◌&&◌, ◌||◌, ltb, eqb, length, get_or, replicate}
-use Rattle.std.proofs.Math.Option.{Option, none, some}
+use Rattle.std.specs.Prelude.{ℕ, zero, suc, ◌+◌, ◌*◌, ◌-◌, List, [], ◌∷◌, ◌++◌, Bool, cond, ◌&&◌, ◌||◌, ltb, eqb, length, get_or, replicate, Option, None, Some}
 use Rattle.types.specs.declared.node_addr.NodeAddr.{NodeAddr}
 use Rattle.types.specs.Addresses.{same_addr, addr_before}
 use Rattle.rules.specs.Records.{Row, State, empty_entry, probation, with_held}
@@ -31,23 +30,23 @@ stamp_before a b = ltb a.stamp_first b.stamp_first || (eqb a.stamp_first b.stamp
 -- ---- rows by key, by stamp, by index
 
 unfoldable pub next_index : Option ℕ → Option ℕ
-next_index none = none
-next_index (some i) = some (suc i)
+next_index None = None
+next_index (Some i) = Some (suc i)
 
 -- the row of key k
 unfoldable pub find : NodeAddr → List Row → Option ℕ
-find k [] = none
-find k (r ∷ rs) = cond (same_addr k r.key) (some 0) (next_index (find k rs))
+find k [] = None
+find k (r ∷ rs) = cond (same_addr k r.key) (Some 0) (next_index (find k rs))
 
 -- row 0, or the lowest of the rows behind it
 unfoldable pub lower_of : Row → List Row → Option ℕ → ℕ
-lower_of r rs none = 0
-lower_of r rs (some i) = cond (stamp_before (row_at i rs) r) (suc i) 0
+lower_of r rs None = 0
+lower_of r rs (Some i) = cond (stamp_before (row_at i rs) r) (suc i) 0
 
 -- the lowest stamp of a place; equal stamps go to the lower key
 unfoldable pub lowest_stamp : ℕ → List Row → Option ℕ
-lowest_stamp p [] = none
-lowest_stamp p (r ∷ rs) = cond (at_place p r) (some (lower_of r rs (lowest_stamp p rs))) (next_index (lowest_stamp p rs))
+lowest_stamp p [] = None
+lowest_stamp p (r ∷ rs) = cond (at_place p r) (Some (lower_of r rs (lowest_stamp p rs))) (next_index (lowest_stamp p rs))
 
 -- f at row i, and every other row as it was
 unfoldable pub change_row : (Row → Row) → ℕ → List Row → List Row

@@ -1,6 +1,5 @@
 -- Statistics of document 01.
-use Rattle.std.specs.Prelude.{ℕ, zero, suc, ◌-◌, ◌/◌, min, List, [], ◌∷◌, length}
-use Rattle.std.proofs.Math.Option.{Option, none, some}
+use Rattle.std.specs.Prelude.{ℕ, zero, suc, ◌-◌, ◌/◌, min, List, [], ◌∷◌, length, Option, None, Some}
 use Rattle.types.specs.declared.stats.CacheStats.{CacheStats}
 use Rattle.rules.specs.Cases.{maybe}
 use Rattle.rules.specs.Records.{Row, State}
@@ -23,5 +22,5 @@ stats now s = record { entries = length s.rows; max_entries = s.max_entries; exp
 
 -- the smallest expires_at held, or none
 unfoldable pub next_expiry : List Row → Option ℕ
-next_expiry [] = none
-next_expiry (r ∷ rs) = some (maybe (next_expiry rs) r.entry.expires_at (min r.entry.expires_at))
+next_expiry [] = None
+next_expiry (r ∷ rs) = Some (maybe (next_expiry rs) r.entry.expires_at (min r.entry.expires_at))

@@ -13,7 +13,7 @@ use Rattle.rules.specs.Layout.{address_size, head_size, row_size}
 use Rattle.memory.proofs.Fields.{row_key}
 use Rattle.search.specs.BigEndian.{NumberOf}
 use Rattle.search.specs.ByKey.{order_of}
-use Rattle.search.specs.declared.keys.Order.TheVariants.{Less, Equal, Greater}
+use Rattle.std.specs.declared.cmp.Ordering.TheVariants.{Less, Equal, Greater}
 use Rattle.search.proofs.OrderLaws.{before_less, same_equal, behind_greater}
 use Rattle.search.proofs.BigEndianLaws.{held_halves, given_halves, first_less, second_less, both_same}
 

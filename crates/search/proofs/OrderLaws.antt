@@ -5,7 +5,7 @@ use Rattle.types.specs.declared.node_addr.NodeAddr.{NodeAddr}
 use Rattle.types.specs.Addresses.{same_addr, addr_before}
 use Rattle.rules.proofs.Addresses.{before_irrefl, before_total, contradiction, same_false, same_ne, same_true, before_not_behind}
 use Rattle.search.specs.ByKey.{order_of}
-use Rattle.search.specs.declared.keys.Order.TheVariants.{Less, Equal, Greater}
+use Rattle.std.specs.declared.cmp.Ordering.TheVariants.{Less, Equal, Greater}
 
 pub before_differs : (a b : NodeAddr) → addr_before a b ≡ true → a ≡ b → ⊥
 before_differs a b h e = contradiction h (rw e (before_irrefl b))

@@ -3,7 +3,7 @@ use mathlib.Core.Path.{◌≡◌, refl, sym}
 use mathlib.Core.Logic.{⊎_elim}
 use mathlib.Core.Bool.{true}
 use mathlib.Core.List.{List, [], ◌∷◌}
-use mathlib.Core.Option.{none, some}
+use Rattle.std.specs.Prelude.{None, Some, Ok, Err}
 use Prim.Native.Nat.{ℕ, zero, suc, ◌+◌, ◌≤◌, ◌<◌}
 use native.Mathlib.Nat.{eq-or-lt_of_le}
 use native.Mathlib.Omega.{arith}
@@ -17,8 +17,7 @@ use Rattle.rules.specs.Sound.{ascends, leads}
 use Rattle.rules.proofs.Addresses.{before_trans, same_eq, same_ne, same_true, before_not_behind}
 use Rattle.rules.proofs.SoundTest.{and_left, and_right}
 use Rattle.search.specs.ByKey.{order_of, rows_before, searched}
-use Rattle.search.specs.declared.keys.Order.TheVariants.{Less, Equal, Greater}
-use Rattle.search.specs.declared.outcome.Search.TheVariants.{At, Absent}
+use Rattle.std.specs.declared.cmp.Ordering.TheVariants.{Less, Equal, Greater}
 use Rattle.search.proofs.OrderLaws.{before_differs, less_before, equal_same, greater_behind}
 
 -- ---- ascending rows
@@ -43,7 +42,7 @@ rising_at (r ∷ rs) (suc i) (suc j) a h l = rising_at rs i j (rest_ascends r rs
 
 -- ---- the row of a key is found, and a key without a row isn't
 
-found_at : (k : NodeAddr) (rs : List Row) (i : ℕ) → ascends rs ≡ true → i < length rs → same_addr (row_at i rs).key k ≡ true → find k rs ≡ some i
+found_at : (k : NodeAddr) (rs : List Row) (i : ℕ) → ascends rs ≡ true → i < length rs → same_addr (row_at i rs).key k ≡ true → find k rs ≡ Some i
 unfolding find next_index
 found_at k [] i a h e = absurd (let z : ⊥ = omega arith in z)
 found_at k (r ∷ rs) zero a h e = rw (same_eq k r.key (sym (same_true r.key k e)))
@@ -53,7 +52,7 @@ found_at k (r ∷ rs) (suc i) a h e =
 
 -- the rows below row m stand before k, and the others behind it
 pub parted : (k : NodeAddr) (rs : List Row) (m : ℕ) → m ≤ length rs → ((j : ℕ) → j < m → addr_before (row_at j rs).key k ≡ true) → ((j : ℕ) → m ≤ j → j < length rs → addr_before k (row_at j rs).key ≡ true)
-    → (find k rs ≡ none) × (rows_before k rs ≡ m)
+    → (find k rs ≡ None) × (rows_before k rs ≡ m)
 unfolding find next_index total
 parted k [] m h f g = (refl, omega arith)
 parted k (r ∷ rs) zero h f g =
@@ -90,11 +89,11 @@ module _ {k : NodeAddr} {rs : List Row} {lo hi : ℕ} (d : Halved k rs lo hi) (a
       let higher : (j : ℕ) → m < j → j < length rs → addr_before k (row_at j rs).key ≡ true = λ j h l. before_trans k (row_at m rs).key (row_at j rs).key b (rising_at rs m j a h l) in
       record { ordered = p; within = omega arith; before = d.before; behind = λ j h l. ⊎_elim (λ u. rw u at b) (λ u. higher j u l) (eq-or-lt_of_le h) }
 
-  pub halved_equal : order_of (row_at m rs).key k ≡ Equal → At m ≡ searched k rs
+  pub halved_equal : order_of (row_at m rs).key k ≡ Equal → Ok m ≡ searched k rs
   unfolding searched
   halved_equal e = rw (found_at k rs m a (omega arith) (equal_same (row_at m rs).key k e))
 
-pub halved_end : {k : NodeAddr} {rs : List Row} {lo hi : ℕ} → Halved k rs lo hi → hi ≤ lo → Absent lo ≡ searched k rs
+pub halved_end : {k : NodeAddr} {rs : List Row} {lo hi : ℕ} → Halved k rs lo hi → hi ≤ lo → Err lo ≡ searched k rs
 unfolding searched
 halved_end {k} {rs} {lo} d h =
     let p = parted k rs lo (omega arith) d.before (λ j l u. d.behind j (omega arith) u) in

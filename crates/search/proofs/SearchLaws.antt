@@ -2,7 +2,7 @@
 use mathlib.Core.Path.{◌≡◌, refl, sym, ap, ◌∙◌}
 use mathlib.Core.Bool.{true}
 use mathlib.Core.List.{List, [], ◌∷◌, ◌++◌}
-use mathlib.Core.Option.{Option, none, some}
+use Rattle.std.specs.Prelude.{Option, None, Some, Ok, Err}
 use Prim.Native.Nat.{ℕ, zero, suc, ◌+◌, ◌≤◌, ◌<◌}
 use native.Mathlib.Omega.{arith}
 use lib.ListN.{length, take, drop}
@@ -16,31 +16,30 @@ use Rattle.rules.specs.Sound.{ascends}
 use Rattle.rules.proofs.Addresses.{before_total, before_trans, contradiction}
 use Rattle.rules.proofs.RowLists.{by_cond, cores, find_at, find_none, none_unless}
 use Rattle.search.specs.ByKey.{rows_before, searched}
-use Rattle.search.specs.declared.outcome.Search.TheVariants.{At, Absent}
 use Rattle.search.proofs.RisingRows.{first_before, parted, rest_ascends}
 
-pub find_searched : (k : NodeAddr) (rs : List Row) (i : ℕ) → find k rs ≡ some i → searched k rs ≡ At i
+pub find_searched : (k : NodeAddr) (rs : List Row) (i : ℕ) → find k rs ≡ Some i → searched k rs ≡ Ok i
 unfolding searched
 find_searched k rs i h = rw h
 
-pub none_searched : (k : NodeAddr) (rs : List Row) → find k rs ≡ none → searched k rs ≡ Absent (rows_before k rs)
+pub none_searched : (k : NodeAddr) (rs : List Row) → find k rs ≡ None → searched k rs ≡ Err (rows_before k rs)
 unfolding searched
 none_searched k rs h = rw h
 
-pub at_found : (k : NodeAddr) (rs : List Row) (i : ℕ) → searched k rs ≡ At i → find k rs ≡ some i
+pub at_found : (k : NodeAddr) (rs : List Row) (i : ℕ) → searched k rs ≡ Ok i → find k rs ≡ Some i
 at_found k rs i h = go (find k rs) refl
   where
-    go : (o : Option ℕ) → find k rs ≡ o → o ≡ some i
-    go none e = contradiction {b = true} refl (let z = sym (none_searched k rs e) ∙ h in cc)
-    go (some j) e = let z = sym (find_searched k rs j e) ∙ h in cc
+    go : (o : Option ℕ) → find k rs ≡ o → o ≡ Some i
+    go None e = contradiction {b = true} refl (let z = sym (none_searched k rs e) ∙ h in cc)
+    go (Some j) e = let z = sym (find_searched k rs j e) ∙ h in cc
 
-pub absent_none : (k : NodeAddr) (rs : List Row) (i : ℕ) → searched k rs ≡ Absent i → find k rs ≡ none
+pub absent_none : (k : NodeAddr) (rs : List Row) (i : ℕ) → searched k rs ≡ Err i → find k rs ≡ None
 absent_none k rs i h = none_unless (find k rs) (λ j e. contradiction {b = true} refl (let z = sym (find_searched k rs j e) ∙ h in cc))
 
-pub at_inside : (k : NodeAddr) (rs : List Row) (i : ℕ) → searched k rs ≡ At i → i < length rs
+pub at_inside : (k : NodeAddr) (rs : List Row) (i : ℕ) → searched k rs ≡ Ok i → i < length rs
 at_inside k rs i h = (find_at k rs i (at_found k rs i h)).inside
 
-pub absent_count : (k : NodeAddr) (rs : List Row) (i : ℕ) → searched k rs ≡ Absent i → rows_before k rs ≡ i
+pub absent_count : (k : NodeAddr) (rs : List Row) (i : ℕ) → searched k rs ≡ Err i → rows_before k rs ≡ i
 absent_count k rs i h = let z = sym (none_searched k rs (absent_none k rs i h)) ∙ h in cc
 
 count_inside : (k : NodeAddr) (rs : List Row) → rows_before k rs ≤ length rs
@@ -50,7 +49,7 @@ count_inside k (r ∷ rs) =
     let h = count_inside k rs in
     by_cond (λ u. u + rows_before k rs ≤ suc (length rs)) (addr_before r.key k) (λ e. omega arith) (λ e. omega arith)
 
-pub absent_inside : (k : NodeAddr) (rs : List Row) (i : ℕ) → searched k rs ≡ Absent i → i ≤ length rs
+pub absent_inside : (k : NodeAddr) (rs : List Row) (i : ℕ) → searched k rs ≡ Err i → i ≤ length rs
 absent_inside k rs i h = omega (arith, absent_count k rs i h, count_inside k rs)
 
 -- nothing stands before the key of a row that goes in front
@@ -70,5 +69,5 @@ put_in r (x ∷ xs) a n = by_cond (λ u. u ≡ take (rows_before r.key (x ∷ xs
     rw c (ap (λ (ys : List Row). x ∷ ys) (put_in r xs (rest_ascends x xs a) n.1)))
 
 -- a new row goes in where the search for its key ended
-pub absent_insert : (r : Row) (rs : List Row) (i : ℕ) → ascends rs ≡ true → searched r.key rs ≡ Absent i → insert_in_order r rs ≡ take i rs ++ (r ∷ drop i rs)
+pub absent_insert : (r : Row) (rs : List Row) (i : ℕ) → ascends rs ≡ true → searched r.key rs ≡ Err i → insert_in_order r rs ≡ take i rs ++ (r ∷ drop i rs)
 absent_insert r rs i a h = rw (absent_count r.key rs i h) at (put_in r rs a (find_none r.key rs (absent_none r.key rs i h)))

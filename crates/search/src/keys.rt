@@ -7,17 +7,10 @@ ghost use Rattle.rules.specs.Layout.{address_size, head_size, row_size};
 ghost use Rattle.search.specs.BigEndian.{NumberOf};
 ghost use Rattle.search.specs.ByKey.{order_of, searched};
 
-use crate::outcome::Search;
 use raw::layout::{HEAD, ROW};
 use raw::numbers::wide;
+use std::cmp::Ordering;
 use types::node_addr::NodeAddr;
-
-#[derive(Clone, Copy)]
-pub enum Order {
-    Less,
-    Equal,
-    Greater,
-}
 
 // Eight bytes as a number, the first highest. Summed by fours, it compiles to one load and a reversal of its bytes.
 fn be_u64(s: &[u8], at: usize) -> u64
@@ -36,7 +29,7 @@ fn be_u64(s: &[u8], at: usize) -> u64
 }
 
 // The address at `at` against an address: sixteen bytes against sixteen, as two numbers each, whose order is proved to be the bytes'.
-fn order_to(state: &[u8], at: usize, key: NodeAddr) -> Order
+fn order_to(state: &[u8], at: usize, key: NodeAddr) -> Ordering
     requires { at + address_size ≤ length state.now }
     ensures { result ≡ order_of (record { 0 = cut at address_size state.now }) key }
 {
@@ -44,24 +37,24 @@ fn order_to(state: &[u8], at: usize, key: NodeAddr) -> Order
     let high = be_u64(state, at);
     let key_high = be_u64(&bytes, 0);
     if high < key_high {
-        return Order::Less;
+        return Ordering::Less;
     }
     if key_high < high {
-        return Order::Greater;
+        return Ordering::Greater;
     }
     let low = be_u64(state, at + 8);
     let key_low = be_u64(&bytes, 8);
     if low < key_low {
-        return Order::Less;
+        return Ordering::Less;
     }
     if key_low < low {
-        return Order::Greater;
+        return Ordering::Greater;
     }
-    Order::Equal
+    Ordering::Equal
 }
 
 // The key of row i of n against an address.
-fn key_order(state: &[u8], n: usize, i: usize, key: NodeAddr) -> Order
+fn key_order(state: &[u8], n: usize, i: usize, key: NodeAddr) -> Ordering
     requires { (i < n) × (head_size + n * row_size ≤ length state.now) }
     ensures { result ≡ order_of (row_at i (view_rows n state.now).rows).key key }
 {
@@ -84,8 +77,7 @@ fn guess_from(state: &[u8], n: usize, i: usize, key_high: u64) -> usize
     if held < key_high {
         return i + rows_in(n, key_high - held);
     }
-    let back = rows_in(n, held - key_high);
-    if back < i { i - back } else { 0 }
+    i.saturating_sub(rows_in(n, held - key_high))
 }
 
 // The next row to compare: the guess, brought within the bounds, or the middle once `trust` is used up.
@@ -96,15 +88,12 @@ fn probe(lo: usize, hi: usize, guess: usize, trust: usize) -> usize
     if trust == 0 {
         return lo + (hi - lo) / 2;
     }
-    if guess < lo {
-        return lo;
-    }
-    if guess < hi { guess } else { hi - 1 }
+    guess.clamp(lo, hi - 1)
 }
 
 // The row of a key: rows below `lo` stand before it, rows from `hi` on behind it. Where seven guesses don't end it, as with keys
 // that are no hashes, halving does.
-pub fn search(state: &[u8], n: usize, key: NodeAddr) -> Search
+pub fn search(state: &[u8], n: usize, key: NodeAddr) -> Result<usize, usize>
     requires { (ascends (view_rows n state.now).rows ≡ true) × (head_size + n * row_size ≤ length state.now) }
     ensures { result ≡ searched key (view_rows n state.now).rows }
 {
@@ -121,16 +110,16 @@ pub fn search(state: &[u8], n: usize, key: NodeAddr) -> Search
         guess = guess_from(state, n, mid, key_high);
         trust = trust / 2;
         match order {
-            Order::Less => {
+            Ordering::Less => {
                 lo = mid + 1;
             }
-            Order::Equal => {
-                return Search::At(mid);
+            Ordering::Equal => {
+                return Ok(mid);
             }
-            Order::Greater => {
+            Ordering::Greater => {
                 hi = mid;
             }
         }
     }
-    Search::Absent(lo)
+    Err(lo)
 }

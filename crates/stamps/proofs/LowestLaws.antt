@@ -3,7 +3,7 @@ use mathlib.Core.Path.{◌≡◌, refl, sym, ap, ◌∙◌, subst}
 use Prim.Native.Nat.{ℕ, suc, ◌+◌, ◌-◌, ◌≤◌, ◌<◌}
 use native.Mathlib.Omega.{arith}
 use mathlib.Core.List.{List}
-use mathlib.Core.Option.{Option, none, some}
+use Rattle.std.specs.Prelude.{Option, None, Some}
 use mathlib.Core.Bool.{Bool, true, false, cond, ◌&&◌, ◌||◌}
 use lib.Dec.{ltb, eqb}
 use lib.ListN.{length, drop, drop_of_length-le}
@@ -46,15 +46,15 @@ lower p n k i rs b ek h hn d = go (at_place p r) (lowest_down p i rs h) (subst (
     mine : Best
     mine = record { row = i; first = r.stamp_first; seq = r.stamp_seq }
 
-    taken : lowest_from p i rs ≡ some i → Down p n i rs mine
+    taken : lowest_from p i rs ≡ Some i → Down p n i rs mine
     taken u = record { row = u ∙ rw (lt-ltb i n hn); stamp = λ z. (refl, refl) }
 
-    go : (a : Bool) → lowest_from p i rs ≡ cond a (some (maybe (lowest_from p (suc i) rs) i (λ j. cond (stamp_before (row_at j rs) r) j i))) (lowest_from p (suc i) rs) →
-        lowest_from p (suc i) rs ≡ cond (ltb b.row n) (some b.row) none → Down p n i rs (cond a (cond (ltb b.row n && under b r) b mine) b)
+    go : (a : Bool) → lowest_from p i rs ≡ cond a (Some (maybe (lowest_from p (suc i) rs) i (λ j. cond (stamp_before (row_at j rs) r) j i))) (lowest_from p (suc i) rs) →
+        lowest_from p (suc i) rs ≡ cond (ltb b.row n) (Some b.row) None → Down p n i rs (cond a (cond (ltb b.row n && under b r) b mine) b)
     go false u e = record { row = u ∙ e; stamp = d.stamp }
     go true u e = held (ltb b.row n) refl (u ∙ rw e)
       where
-        held : (c : Bool) → ltb b.row n ≡ c → lowest_from p i rs ≡ some (maybe (cond c (some b.row) none) i (λ j. cond (stamp_before (row_at j rs) r) j i)) →
+        held : (c : Bool) → ltb b.row n ≡ c → lowest_from p i rs ≡ Some (maybe (cond c (Some b.row) None) i (λ j. cond (stamp_before (row_at j rs) r) j i)) →
             Down p n i rs (cond (c && under b r) b mine)
         held false q u = taken u
         held true q u =
@@ -62,7 +62,7 @@ lower p n k i rs b ek h hn d = go (at_place p r) (lowest_down p i rs h) (subst (
             let t : under b r ≡ stamp_before (row_at b.row rs) r = rw (s.0, s.1) in
             rw t (pick (stamp_before (row_at b.row rs) r) u)
           where
-            pick : (c : Bool) → lowest_from p i rs ≡ some (cond c b.row i) → Down p n i rs (cond c b mine)
+            pick : (c : Bool) → lowest_from p i rs ≡ Some (cond c b.row i) → Down p n i rs (cond c b mine)
             pick true u = record { row = u ∙ rw q; stamp = d.stamp }
             pick false u = taken u
 
@@ -78,5 +78,5 @@ down_end {p} {n} {i} {rs} {b} h d =
     sym (whole (lowest_stamp p rs) ∙ subst (λ (x : ℕ). lowest_from p x rs ≡ best_row n b) z d.row)
   where
     whole : (o : Option ℕ) → o ≡ from 0 o
-    whole none = refl
-    whole (some j) = ap some (let e : j ≡ 0 + j = omega arith in e)
+    whole None = refl
+    whole (Some j) = ap Some (let e : j ≡ 0 + j = omega arith in e)

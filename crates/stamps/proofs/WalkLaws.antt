@@ -3,7 +3,7 @@ use mathlib.Core.Path.{◌≡◌, refl, sym, ap, ◌∙◌, subst}
 use Prim.Native.Nat.{ℕ, zero, suc, ◌+◌, ◌*◌, ◌≤◌, ◌<◌}
 use native.Mathlib.Omega.{arith}
 use mathlib.Core.List.{List}
-use mathlib.Core.Option.{Option, none, some}
+use Rattle.std.specs.Prelude.{Option, None, Some}
 use mathlib.Core.Bool.{Bool, true, false}
 use lib.Dec.{ltb}
 use lib.ListN.{length}
@@ -18,19 +18,9 @@ use Rattle.rules.proofs.RowLists.{by_cond, by_maybe, lowest_at, total_some}
 use Rattle.rules.proofs.Walks.{turns_last, turns_stale}
 use Rattle.rules.proofs.Loops.{waking, lapsed_lapsed, lapsed_none, lapsed_calm, seeking, seek_none, seek_stale, seek_verified, seek_yields}
 use Rattle.memory.proofs.RowLaws.{view_length}
-use Rattle.stamps.specs.declared.lowest.Lowest.{Lowest}
-use Rattle.stamps.specs.declared.lowest.Lowest.TheVariants.{At, Nothing}
-use Rattle.stamps.specs.Walked.{lowest_of, walk_from, sought_of}
+use Rattle.stamps.specs.Walked.{walk_from, sought_of}
 
 -- ---- what was found
-
-pub found_at : (r : Lowest) (i : ℕ) (o : Option ℕ) → lowest_of r ≡ o → r ≡ At i → o ≡ some i
-unfolding lowest_of
-found_at r i o h e = sym h ∙ rw e
-
-pub found_none : (r : Lowest) (o : Option ℕ) → lowest_of r ≡ o → r ≡ Nothing → o ≡ none
-unfolding lowest_of
-found_none r o h e = sym h ∙ rw e
 
 -- ---- a walk, from memory l after e₀ keys to memory m after e
 
@@ -44,14 +34,14 @@ pub record Going {A : Type 0} (goal : ℕ → Walk → A) (now n e₀ e : ℕ) (
 
 -- row i, the lowest of a place, is taken up next
 pub record Found {A : Type 0} (goal : ℕ → Walk → A) (place now n e₀ e i : ℕ) (l m : List ℕ) : Type 0 where
-  pub lowest : lowest_stamp place (view_rows n m).rows ≡ some i
+  pub lowest : lowest_stamp place (view_rows n m).rows ≡ Some i
   pub inside : i < n
   pub going : Going goal now n e₀ e l m
 
-pub found_row : {A : Type 0} {goal : ℕ → Walk → A} {place now n e₀ e i : ℕ} {l m : List ℕ} {r : Lowest} →
-    Going goal now n e₀ e l m → lowest_of r ≡ lowest_stamp place (view_rows n m).rows → r ≡ At i → Found goal place now n e₀ e i l m
+pub found_row : {A : Type 0} {goal : ℕ → Walk → A} {place now n e₀ e i : ℕ} {l m : List ℕ} {r : Option ℕ} →
+    Going goal now n e₀ e l m → r ≡ lowest_stamp place (view_rows n m).rows → r ≡ Some i → Found goal place now n e₀ e i l m
 found_row {place = place} {n = n} {i = i} {m = m} {r = r} g h q =
-    let k = found_at r i (lowest_stamp place (view_rows n m).rows) h q in
+    let k = sym h ∙ q in
     record { lowest = k; inside = omega (arith, (lowest_at place (view_rows n m).rows i k).inside, view_length n m); going = g }
 
 -- it was taken up, and memory x shows the rows then
@@ -95,7 +85,7 @@ module _ {now n e₀ e i : ℕ} {l m : List ℕ} (u : Found waking parked now n 
       let w = walk_from (view_rows n m) e in
       sym (u.going.same ∙ lapsed_calm now (visits_left now w) w i u.lowest (le-ltb (row_at i (view_rows n m).rows).stamp_first now h))
 
-pub lapsed_ends : {now n e₀ e : ℕ} {l m : List ℕ} → Going waking now n e₀ e l m → lowest_stamp parked (view_rows n m).rows ≡ none →
+pub lapsed_ends : {now n e₀ e : ℕ} {l m : List ℕ} → Going waking now n e₀ e l m → lowest_stamp parked (view_rows n m).rows ≡ None →
     walk_from (view_rows n m) e ≡ waking now (walk_from (view_rows n l) e₀)
 lapsed_ends {now} {n} {e₀} {e} {l} {m} g h = let w = walk_from (view_rows n m) e in sym (g.same ∙ lapsed_none now (visits_left now w) w h)
 
@@ -151,11 +141,11 @@ module _ {now n e₀ e i : ℕ} {l m : List ℕ} (u : Found seeking by_use now n
     park_turn t k q = turned u.going k (park i (view_rows n m)) q refl (seek_verified now (walk_from (view_rows n m) e) i u.lowest (sym h ∙ f) (sym d ∙ t))
 
     pub yielded : (z : State) → v ≡ false → walk_from (view_rows n l) e₀ ≡ waking now (walk_from z 0) →
-        sought_of (record { found = At i; examined = e + 1 }) (view_rows n m) ≡ next_victim now (walk_from z 0)
-    unfolding sought_of lowest_of sought next_victim take_up untouched
+        sought_of (record { found = Some i; examined = e + 1 }) (view_rows n m) ≡ next_victim now (walk_from z 0)
+    unfolding sought_of sought next_victim take_up untouched
     yielded z t q = sym (ap (seeking now) (sym q) ∙ u.going.same ∙ seek_yields now (walk_from (view_rows n m) e) i u.lowest (sym h ∙ f) (sym d ∙ t))
 
-pub none_yielded : {now n e₀ e : ℕ} {l m : List ℕ} (z : State) → Going seeking now n e₀ e l m → lowest_stamp by_use (view_rows n m).rows ≡ none →
-    walk_from (view_rows n l) e₀ ≡ waking now (walk_from z 0) → sought_of (record { found = Nothing; examined = e }) (view_rows n m) ≡ next_victim now (walk_from z 0)
-unfolding sought_of lowest_of sought next_victim
+pub none_yielded : {now n e₀ e : ℕ} {l m : List ℕ} (z : State) → Going seeking now n e₀ e l m → lowest_stamp by_use (view_rows n m).rows ≡ None →
+    walk_from (view_rows n l) e₀ ≡ waking now (walk_from z 0) → sought_of (record { found = None; examined = e }) (view_rows n m) ≡ next_victim now (walk_from z 0)
+unfolding sought_of sought next_victim
 none_yielded {now} {n} {e₀} {e} {l} {m} z g h q = let w = walk_from (view_rows n m) e in sym (ap (seeking now) (sym q) ∙ g.same ∙ seek_none now (visits_left now w) w h)

@@ -2,7 +2,7 @@
 ghost use Rattle.std.specs.Prelude.{◌≡◌, ◌+◌, ◌*◌, ◌≤◌, ◌<◌, length};
 ghost use Rattle.rules.specs.Memory.{view_rows};
 ghost use Rattle.rules.specs.Layout.{head_size, row_size};
-ghost use Rattle.stamps.specs.Walked.{no_row, lower_best, lower_row, best_row, lowest_of, LowestIs, MainIs};
+ghost use Rattle.stamps.specs.Walked.{no_row, lower_best, lower_row, best_row, LowestIs, MainIs};
 
 use memory::codes::{BY_USE, PARKED, PROBATION};
 
@@ -14,24 +14,18 @@ struct Best {
     seq: u64,
 }
 
-#[derive(Clone, Copy)]
-pub enum Lowest {
-    At(usize),
-    Nothing,
-}
-
 // The row with the lowest stamp of a place, and how many rows are at that place.
 #[derive(Clone, Copy)]
 pub struct LowestStamp {
-    pub row: Lowest,
+    pub row: Option<usize>,
     pub count: u64,
 }
 
 // The rows of main with the lowest stamps, of those parked and of those in ByUse, and how many rows main has.
 #[derive(Clone, Copy)]
 pub struct LowestOfMain {
-    pub parked: Lowest,
-    pub by_use: Lowest,
+    pub parked: Option<usize>,
+    pub by_use: Option<usize>,
     pub count: u64,
 }
 
@@ -55,13 +49,13 @@ fn lower_of(best: Best, n: usize, i: usize, first: u64, seq: u64) -> Best
     Best { row: i, first, seq }
 }
 
-fn row_of(best: Best, n: usize) -> Lowest
-    ensures { lowest_of result ≡ best_row n best }
+fn row_of(best: Best, n: usize) -> Option<usize>
+    ensures { result ≡ best_row n best }
 {
     if best.row < n {
-        return Lowest::At(best.row);
+        return Some(best.row);
     }
-    Lowest::Nothing
+    None
 }
 
 // Row i against the best so far, if it is at this place.

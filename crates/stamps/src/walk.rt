@@ -5,9 +5,9 @@ ghost use Rattle.rules.specs.Rows.{lowest_stamp};
 ghost use Rattle.rules.specs.Room.{visits_left, return_lapsed, next_victim};
 ghost use Rattle.rules.specs.Memory.{view_rows};
 ghost use Rattle.rules.specs.Layout.{head_size, number_limit, row_size};
-ghost use Rattle.stamps.specs.Walked.{lowest_of, walk_from, sought_of, MainIs};
+ghost use Rattle.stamps.specs.Walked.{walk_from, sought_of, MainIs};
 
-use crate::lowest::{Lowest, LowestOfMain, lowest_of_main, lowest_stamp};
+use crate::lowest::{LowestOfMain, lowest_of_main, lowest_stamp};
 use crate::row::{is_stale, park, restamp};
 use entries::times::is_verified;
 use memory::codes::BY_USE;
@@ -16,13 +16,13 @@ use memory::codes::BY_USE;
 #[derive(Clone, Copy)]
 struct Returned {
     rows: u64,
-    next: Lowest,
+    next: Option<usize>,
 }
 
 // The victim that a walk yields, and the keys that it took up.
 #[derive(Clone, Copy)]
 pub struct Victim {
-    pub found: Lowest,
+    pub found: Option<usize>,
     pub examined: u64,
 }
 
@@ -30,15 +30,15 @@ pub struct Victim {
 // has also found the lowest ByUse stamp.
 fn return_lapsed(state: &mut [u8], n: usize, time: u64, lowest: LowestOfMain) -> Returned
     requires { (head_size + n * row_size ≤ length state.old) × ((view_rows n state.old).seq + visits_left time (walk_from (view_rows n state.old) 0) < number_limit) × MainIs lowest (view_rows n state.old).rows }
-    ensures { (walk_from (view_rows n state.new) result.rows ≡ return_lapsed (visits_left time (walk_from (view_rows n state.old) 0)) time (walk_from (view_rows n state.old) 0)) × (lowest_of result.next ≡ lowest_stamp by_use (view_rows n state.new).rows) }
+    ensures { (walk_from (view_rows n state.new) result.rows ≡ return_lapsed (visits_left time (walk_from (view_rows n state.old) 0)) time (walk_from (view_rows n state.old) 0)) × (result.next ≡ lowest_stamp by_use (view_rows n state.new).rows) }
 {
     let mut rows: u64 = 0;
     let mut parked = lowest.parked;
     let mut next = lowest.by_use;
     loop {
         match parked {
-            Lowest::Nothing => return Returned { rows, next },
-            Lowest::At(i) => {
+            None => return Returned { rows, next },
+            Some(i) => {
                 if time <= memory::row::stamp_first(state, n, i) {
                     return Returned { rows, next };
                 }
@@ -63,8 +63,8 @@ pub fn next_victim(state: &mut [u8], n: usize, time: u64, lowest: LowestOfMain) 
     let mut next = returned.next;
     let found = loop {
         match next {
-            Lowest::Nothing => break Lowest::Nothing,
-            Lowest::At(i) => {
+            None => break None,
+            Some(i) => {
                 examined += 1;
                 if is_stale(state, n, i) {
                     restamp(state, n, i);
@@ -75,7 +75,7 @@ pub fn next_victim(state: &mut [u8], n: usize, time: u64, lowest: LowestOfMain) 
                     let again = lowest_stamp(state, n, BY_USE);
                     next = again.row;
                 } else {
-                    break Lowest::At(i);
+                    break Some(i);
                 }
             }
         }

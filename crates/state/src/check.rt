@@ -1,12 +1,14 @@
 // Whether a lent memory is a sound state: the head first, then the rows in one pass.
 
-ghost use Rattle.std.specs.Prelude.{◌≡◌};
+ghost use Rattle.std.specs.Prelude.{◌≡◌, cond};
+ghost use Rattle.types.specs.declared.refusal.Refusal.TheVariants.{UnsoundState};
 ghost use Rattle.rules.specs.Sound.{sound};
 ghost use Rattle.rules.specs.Memory.{capacity, view};
 
 use crate::head::head_is_sound;
 use crate::pass::rows_are_sound;
 use memory::bounds::probation_bound;
+use types::refusal::Refusal;
 
 // No head is trusted: no row is read before its number is known to fit.
 pub fn is_sound(state: &[u8]) -> bool
@@ -26,4 +28,15 @@ pub fn is_sound(state: &[u8]) -> bool
     let seq = memory::head::seq(state);
     let stored = memory::head::stored_weight(state);
     rows_are_sound(state, count as usize, seq, rows - q, q, stored)
+}
+
+// The refusal of every call but fresh that comes before all others.
+pub fn check_sound(state: &[u8]) -> Result<(), Refusal>
+    ensures { result ≡ cond (sound (capacity state.now) (view state.now)) (Ok tt) (Err UnsoundState) }
+{
+    if is_sound(state) {
+        Ok(())
+    } else {
+        Err(Refusal::UnsoundState)
+    }
 }

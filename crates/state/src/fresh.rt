@@ -1,17 +1,19 @@
 // fresh: a cache of these limits, with no row.
 ghost use Rattle.std.specs.Prelude.{◌≡◌};
 ghost use Rattle.rules.specs.Refusals.{Fresh};
-ghost use Rattle.rules.specs.Answers.{refusal_of};
+ghost use Rattle.rules.specs.Answers.{said, done};
 ghost use Rattle.rules.specs.Lent.{lent};
 
-// Refused by 5, the memory is untouched. What 5 asks is what a sound head asks that counts no row.
-pub fn fresh(state: &mut [u8], max: u64, ttl: u64) -> u8
-    ensures { (result ≡ refusal_of (lent state.old (Fresh max ttl)).answer) × (state.new ≡ (lent state.old (Fresh max ttl)).memory) }
+use types::refusal::Refusal;
+
+// Refused, the memory is untouched. What 5 asks is what a sound head asks that counts no row.
+pub fn fresh(state: &mut [u8], max: u64, ttl: u64) -> Result<(), Refusal>
+    ensures { (said done result ≡ (lent state.old (Fresh max ttl)).answer) × (state.new ≡ (lent state.old (Fresh max ttl)).memory) }
 {
     let rows = memory::head::rows_that_fit(state);
     if !crate::head::head_is_sound(rows as u64, max, 0) {
-        return 5;
+        return Err(Refusal::Limits);
     }
     memory::rows::make_fresh(state, rows, max, ttl);
-    0
+    Ok(())
 }

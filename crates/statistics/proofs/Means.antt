@@ -14,7 +14,7 @@ use Rattle.rules.specs.Cases.{maybe}
 use Rattle.rules.specs.Statistics.{total_age, mean, next_expiry}
 use Rattle.rules.proofs.Foreign.{view_length}
 use Rattle.rules.specs.Layout.{number_limit}
-use mathlib.Core.Option.{Option, none, some}
+use Rattle.std.specs.Prelude.{Option, None, Some}
 use Rattle.memory.proofs.RowSums.{total_next, total_end}
 use Rattle.types.specs.Values.{largest_number}
 
@@ -116,20 +116,20 @@ module _ (l : List ℕ) (n time i q r : ℕ) (m : Ages l n time i q r) where
 
 -- ---- the smallest expiry
 
-pub expiry_none : (l : List ℕ) → next_expiry (view_rows 0 l).rows ≡ none
+pub expiry_none : (l : List ℕ) → next_expiry (view_rows 0 l).rows ≡ None
 unfolding view_rows rows_of next_expiry
 expiry_none l = refl
 
-expiry_next : (i : ℕ) (rs : List Row) → i < length rs → next_expiry (drop i rs) ≡ some (maybe (next_expiry (drop (i + 1) rs)) (row_at i rs).entry.expires_at (min (row_at i rs).entry.expires_at))
+expiry_next : (i : ℕ) (rs : List Row) → i < length rs → next_expiry (drop i rs) ≡ Some (maybe (next_expiry (drop (i + 1) rs)) (row_at i rs).entry.expires_at (min (row_at i rs).entry.expires_at))
 unfolding next_expiry
 expiry_next i rs h = rw (add-one, drop-cons rs i blank_row h)
 
-no_expiry : (k : ℕ) (rs : List Row) → length rs ≤ k → next_expiry (drop k rs) ≡ none
+no_expiry : (k : ℕ) (rs : List Row) → length rs ≤ k → next_expiry (drop k rs) ≡ None
 unfolding next_expiry
 no_expiry k rs h = rw (drop_of_length-le rs h)
 
-pub expiry_last : (i : ℕ) (rs : List Row) → length rs ≡ i + 1 → next_expiry (drop i rs) ≡ some (row_at i rs).entry.expires_at
-expiry_last i rs h = expiry_next i rs (omega arith) ∙ ap (λ (o : Option ℕ). some (maybe o (row_at i rs).entry.expires_at (min (row_at i rs).entry.expires_at))) (no_expiry (i + 1) rs (omega arith))
+pub expiry_last : (i : ℕ) (rs : List Row) → length rs ≡ i + 1 → next_expiry (drop i rs) ≡ Some (row_at i rs).entry.expires_at
+expiry_last i rs h = expiry_next i rs (omega arith) ∙ ap (λ (o : Option ℕ). Some (maybe o (row_at i rs).entry.expires_at (min (row_at i rs).entry.expires_at))) (no_expiry (i + 1) rs (omega arith))
 
-pub expiry_turn : (i t : ℕ) (rs : List Row) → i < length rs → next_expiry (drop (i + 1) rs) ≡ some t → next_expiry (drop i rs) ≡ some (min (row_at i rs).entry.expires_at t)
-expiry_turn i t rs h e = expiry_next i rs h ∙ ap (λ (o : Option ℕ). some (maybe o (row_at i rs).entry.expires_at (min (row_at i rs).entry.expires_at))) e
+pub expiry_turn : (i t : ℕ) (rs : List Row) → i < length rs → next_expiry (drop (i + 1) rs) ≡ Some t → next_expiry (drop i rs) ≡ Some (min (row_at i rs).entry.expires_at t)
+expiry_turn i t rs h e = expiry_next i rs h ∙ ap (λ (o : Option ℕ). Some (maybe o (row_at i rs).entry.expires_at (min (row_at i rs).entry.expires_at))) e

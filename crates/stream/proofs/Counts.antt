@@ -3,7 +3,7 @@ use mathlib.Core.Path.{◌≡◌, refl, ap}
 use Prim.Native.Nat.{ℕ, zero, suc, ◌-◌, ◌≤◌}
 use native.Mathlib.Omega.{arith}
 use mathlib.Core.List.{List, [], ◌∷◌}
-use mathlib.Core.Option.{Option, none, some}
+use Rattle.std.specs.Prelude.{Option, None, Some}
 use mathlib.Core.Bool.{Bool}
 use lib.ListN.{length, drop, length-drop}
 use Rattle.rules.specs.Cases.{maybe}
@@ -33,8 +33,8 @@ same_run (suc n) (suc m) h (b ∷ bs) i j = go (decode b bs) refl (λ d l. same_
 
     go : (o : Option Decoded) → decode b bs ≡ o → ((d : Decoded) → length d.left ≤ length bs → run_all n (obey h d.command).session d.left ≡ run_all m (obey h d.command).session d.left)
         → maybe o six (λ d. then d (run_all n (obey h d.command).session d.left)) ≡ maybe o six (λ d. then d (run_all m (obey h d.command).session d.left))
-    go none e f = refl
-    go (some d) e f = ap (then d) (f d (left_shorter codes b bs d e))
+    go None e f = refl
+    go (Some d) e f = ap (then d) (f d (left_shorter codes b bs d e))
 
 -- THE NUMBER OF BYTES IS ENOUGH
 pub count_enough : (n : ℕ) (h : Session) (bs : List ℕ) → length bs ≤ n → run_all n h bs ≡ run_all (length bs) h bs

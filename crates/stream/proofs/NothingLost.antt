@@ -3,7 +3,7 @@ use mathlib.Core.Path.{◌≡◌, refl, sym, ◌∙◌, ap, subst}
 use Prim.Native.Nat.{ℕ, zero, suc, ◌+◌, ◌-◌, ◌≤◌, ◌<◌, min}
 use native.Mathlib.Omega.{arith}
 use mathlib.Core.List.{List, [], ◌∷◌, ◌++◌, append-nil}
-use mathlib.Core.Option.{Option, none, some}
+use Rattle.std.specs.Prelude.{Option, None, Some}
 use mathlib.Core.Bool.{Bool, true, false, not, ◌&&◌}
 use lib.Dec.{eqb, ltb}
 use lib.ListN.{length, take, drop, length-drop}
@@ -32,19 +32,19 @@ over e = record { lines = e.lines; session = e.session }
 
 -- ---- one command, then the rest
 
-obeyed_none : (h : Session) (b : ℕ) (bs : List ℕ) → decode b bs ≡ none → obey_byte h b bs ≡ refused_six b h
+obeyed_none : (h : Session) (b : ℕ) (bs : List ℕ) → decode b bs ≡ None → obey_byte h b bs ≡ refused_six b h
 unfolding obey_byte
 obeyed_none h b bs e = rw e
 
-obeyed_some : (h : Session) (b : ℕ) (bs : List ℕ) (d : Decoded) → decode b bs ≡ some d → obey_byte h b bs ≡ obey h d.command
+obeyed_some : (h : Session) (b : ℕ) (bs : List ℕ) (d : Decoded) → decode b bs ≡ Some d → obey_byte h b bs ≡ obey h d.command
 unfolding obey_byte
 obeyed_some h b bs d e = rw e
 
-all_none : (h : Session) (b : ℕ) (bs : List ℕ) → decode b bs ≡ none → to_end h (b ∷ bs) ≡ record { lines = line b (refused_six b h).reply ∷ []; session = (refused_six b h).session }
+all_none : (h : Session) (b : ℕ) (bs : List ℕ) → decode b bs ≡ None → to_end h (b ∷ bs) ≡ record { lines = line b (refused_six b h).reply ∷ []; session = (refused_six b h).session }
 unfolding run_all
 all_none h b bs e = rw e
 
-all_some : (h : Session) (b : ℕ) (bs : List ℕ) (d : Decoded) → decode b bs ≡ some d → to_end h (b ∷ bs) ≡ behind (line b (obey h d.command).reply ∷ []) (to_end (obey h d.command).session d.left)
+all_some : (h : Session) (b : ℕ) (bs : List ℕ) (d : Decoded) → decode b bs ≡ Some d → to_end h (b ∷ bs) ≡ behind (line b (obey h d.command).reply ∷ []) (to_end (obey h d.command).session d.left)
 unfolding run_all
 all_some h b bs d e = rw e (ap (behind (line b (obey h d.command).reply ∷ [])) (count_enough (length bs) (obey h d.command).session d.left (left_shorter codes b bs d e)))
 
@@ -53,11 +53,11 @@ six_ends : (h : Session) (b : ℕ) (bs more : List ℕ) → (cut_short b bs ≡ 
     → to_end h (b ∷ (bs ++ more)) ≡ record { lines = line b (obey_byte h b bs).reply ∷ []; session = (obey_byte h b bs).session }
 six_ends h b bs more c e =
     let n = (six_exactly h b bs).0 e in
-    let m : decode b (bs ++ more) ≡ none = go (cut_short b bs) refl n in
+    let m : decode b (bs ++ more) ≡ None = go (cut_short b bs) refl n in
     all_none h b (bs ++ more) m ∙ ap (λ (o : Obeyed). record { lines = line b o.reply ∷ []; session = o.session }) (sym (obeyed_none h b bs n))
   where
-    go : (a : Bool) → cut_short b bs ≡ a → decode b bs ≡ none → decode b (bs ++ more) ≡ none
-    go true f n = subst (λ (l : List ℕ). decode b l ≡ none) (sym (ap (λ (l : List ℕ). bs ++ l) (c f) ∙ append-nil bs)) n
+    go : (a : Bool) → cut_short b bs ≡ a → decode b bs ≡ None → decode b (bs ++ more) ≡ None
+    go true f n = subst (λ (l : List ℕ). decode b l ≡ None) (sym (ap (λ (l : List ℕ). bs ++ l) (c f) ∙ append-nil bs)) n
     go false f n = none_stays codes b bs more f n
 
 -- any other command, and then what is left
@@ -66,8 +66,8 @@ obeyed_first : (h : Session) (b : ℕ) (bs more : List ℕ) → ((obey_byte h b 
 obeyed_first h b bs more ne = go (decode b bs) refl
   where
     go : (o : Option Decoded) → decode b bs ≡ o → to_end h (b ∷ (bs ++ more)) ≡ behind (line b (obey_byte h b bs).reply ∷ []) (to_end (obey_byte h b bs).session (drop (operands b bs) bs ++ more))
-    go none e = absurd (ne ((six_exactly h b bs).1 e))
-    go (some d) e = rw (obeyed_some h b bs d e, ← (takes_operands codes b bs d e).left) (all_some h b (bs ++ more) (record { command = d.command; left = d.left ++ more }) (some_stays codes b bs more d e))
+    go None e = absurd (ne ((six_exactly h b bs).1 e))
+    go (Some d) e = rw (obeyed_some h b bs d e, ← (takes_operands codes b bs d e).left) (all_some h b (bs ++ more) (record { command = d.command; left = d.left ++ more }) (some_stays codes b bs more d e))
 
 -- ---- how a part's run goes
 
@@ -149,8 +149,8 @@ own_first : (h : Session) (b : ℕ) (bs more : List ℕ) → ((obey_byte h b bs)
 own_first h b bs more ne = go (decode b bs) refl
   where
     go : (o : Option Decoded) → decode b bs ≡ o → to_end h (b ∷ (take (operands b bs) bs ++ more)) ≡ behind (first h b bs ∷ []) (to_end (obey_byte h b bs).session more)
-    go none e = absurd (ne ((six_exactly h b bs).1 e))
-    go (some d) e = rw (obeyed_some h b bs d e) (all_some h b (take (operands b bs) bs ++ more) (record { command = d.command; left = more }) (some_stays codes b (take (operands b bs) bs) more (record { command = d.command; left = [] }) (own_bytes codes b bs d e)))
+    go None e = absurd (ne ((six_exactly h b bs).1 e))
+    go (Some d) e = rw (obeyed_some h b bs d e) (all_some h b (take (operands b bs) bs ++ more) (record { command = d.command; left = more }) (some_stays codes b (take (operands b bs) bs) more (record { command = d.command; left = [] }) (own_bytes codes b bs d e)))
 
 front_used : (b k u : ℕ) (bs : List ℕ) → take (1 + k + u) (b ∷ bs) ≡ b ∷ (take k bs ++ take u (drop k bs))
 front_used b k u bs = ap (λ (n : ℕ). take n (b ∷ bs)) (let z : 1 + k + u ≡ suc (k + u) = omega arith in z) ∙ ap (λ (l : List ℕ). b ∷ l) (take-add k u bs)
@@ -171,8 +171,8 @@ unfolding operands_in
 operands_there b bs = go (width_in codes b)
   where
     go : (o : Option ℕ) → maybe o 0 (λ w. min w (length bs)) ≤ length bs
-    go none = omega arith
-    go (some w) = omega arith
+    go None = omega arith
+    go (Some w) = omega arith
 
 used_there : (n : ℕ) (last : Bool) (room : ℕ) (h : Session) (bs : List ℕ) → (run_part n last room h bs).used ≤ length bs
 unfolding run_part stopped and_then
@@ -206,9 +206,9 @@ cut_short_lem : (b : ℕ) (bs : List ℕ) → cut_short b bs ≡ true → length
 unfolding cut_short_in width_in
 cut_short_lem b bs = go (code_of b codes) refl
   where
-    go : (o : Option Code) → code_of b codes ≡ o → maybe (maybe o none (λ c. some c.width)) false (λ w. ltb (length bs) w) ≡ true → length bs < most_operands
-    go none e h = contradiction h refl
-    go (some c) e h = let w = (code_found (λ x. x.width ≤ most_operands) b codes c widths e).1 in let k = ltb-true (length bs) c.width h in omega arith
+    go : (o : Option Code) → code_of b codes ≡ o → maybe (maybe o None (λ c. Some c.width)) false (λ w. ltb (length bs) w) ≡ true → length bs < most_operands
+    go None e h = contradiction h refl
+    go (Some c) e h = let w = (code_found (λ x. x.width ≤ most_operands) b codes c widths e).1 in let k = ltb-true (length bs) c.width h in omega arith
 
 cut_left : (n : ℕ) (last : Bool) (room : ℕ) (h : Session) (bs : List ℕ) → (run_part n last room h bs).stop ≡ Cut → (last ≡ false) × (length bs ≤ (run_part n last room h bs).used + most_operands)
 unfolding run_part stopped and_then

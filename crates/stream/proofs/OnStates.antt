@@ -2,7 +2,7 @@
 use mathlib.Core.Path.{◌≡◌, refl, ◌∙◌, ap, subst}
 use Prim.Native.Nat.{ℕ, zero, suc}
 use mathlib.Core.List.{List, [], ◌∷◌}
-use mathlib.Core.Option.{Option, none, some}
+use Rattle.std.specs.Prelude.{Option, None, Some}
 use lib.ListN.{length}
 use Rattle.types.specs.declared.sender.Sender.{Sender}
 use Rattle.types.specs.Senders.{emptied}
@@ -53,10 +53,10 @@ obeyed_same h (WithPath q) f g = served_same h (Asked (q h.sender)) (emptied h.s
 obeyed_same h (Plain x) f g = served_same h x h.sender f g f.sender
 
 -- a decoded command is of its types
-pub decoded_fits : (b : ℕ) (bs : List ℕ) (d : Decoded) (k : Sender) → decode b bs ≡ some d → Bytes bs → SenderFits k → Fitting k d.command
+pub decoded_fits : (b : ℕ) (bs : List ℕ) (d : Decoded) (k : Sender) → decode b bs ≡ Some d → Bytes bs → SenderFits k → Fitting k d.command
 decoded_fits b bs d k e y f = command_fits k (takes_operands codes b bs d e).reads y f
 
-pub left_bytes : (b : ℕ) (bs : List ℕ) (d : Decoded) → decode b bs ≡ some d → Bytes bs → Bytes d.left
+pub left_bytes : (b : ℕ) (bs : List ℕ) (d : Decoded) → decode b bs ≡ Some d → Bytes bs → Bytes d.left
 left_bytes b bs d e y = rw (takes_operands codes b bs d e).left (bytes_drop (operands b bs) bs y)
 
 -- ---- a stream
@@ -85,8 +85,8 @@ on_states (suc n) h (b ∷ bs) f y = go (decode b bs) refl (λ k l g z. on_state
     go : (o : Option Decoded) → decode b bs ≡ o → ((k : Session) (l : List ℕ) → SessionFits k → Bytes l → SameRun k (run_all n k l) (run_commands n (capacity k.memory) (viewed k) l))
         → SameRun h (maybe o (record { lines = line b (refused_six b h).reply ∷ []; session = (refused_six b h).session }) (λ d. let t = obey h d.command in let later = run_all n t.session d.left in record { lines = line b t.reply ∷ later.lines; session = later.session }))
         (maybe o (record { lines = line b (six_state b (viewed h)).reply ∷ []; session = (six_state b (viewed h)).session }) (λ d. let t = obey_state R (viewed h) d.command in let later = run_commands n R t.session d.left in record { lines = line b t.reply ∷ later.lines; session = later.session }))
-    go none e ih = unfold refused_six six_state after_six in record { lines = refl; state = refl; sender = refl; size = refl; fits = record { bytes = f.bytes; sender = by_cond SenderFits (takes_path b) (λ x. emptied_fits f.sender) (λ x. f.sender) } }
-    go (some d) e ih =
+    go None e ih = unfold refused_six six_state after_six in record { lines = refl; state = refl; sender = refl; size = refl; fits = record { bytes = f.bytes; sender = by_cond SenderFits (takes_path b) (λ x. emptied_fits f.sender) (λ x. f.sender) } }
+    go (Some d) e ih =
         let t = obeyed_same h d.command f (decoded_fits b bs d h.sender e y.1 f.sender) in
         let k = (obey h d.command).session in
         let s = (obey_state R (viewed h) d.command).session in

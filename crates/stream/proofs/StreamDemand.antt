@@ -3,7 +3,7 @@ use mathlib.Core.Path.{◌≡◌, refl, ◌∙◌, ap, ap₂, subst}
 use Prim.Native.Nat.{ℕ, zero, suc, ◌+◌, ◌*◌, ◌-◌}
 use native.Mathlib.Omega.{arith}
 use mathlib.Core.List.{List, [], ◌∷◌, ◌++◌}
-use mathlib.Core.Option.{Option, none, some}
+use Rattle.std.specs.Prelude.{Option, None, Some}
 use mathlib.Core.Bool.{Bool, true, false, cond}
 use lib.Dec.{eqb}
 use lib.ListN.{length, take, drop, replicate, length-drop, length-replicate}
@@ -61,8 +61,8 @@ memory_after (suc n) h (b ∷ bs) = go (decode b bs) (λ k l. memory_after n k l
     go : (o : Option Decoded) → ((k : Session) (l : List ℕ) → (run_all n k l).session.memory ≡ (requests k.memory (requests_from n k.sender l)).memory)
         → (maybe {B = Run} o (record { lines = line b (refused_six b h).reply ∷ []; session = (refused_six b h).session }) (λ d. let t = obey h d.command in let later = run_all n t.session d.left in record { lines = line b t.reply ∷ later.lines; session = later.session })).session.memory
         ≡ (requests h.memory (maybe o [] (λ d. asked h.sender d.command ++ requests_from n (sender_after h.sender d.command) d.left))).memory
-    go none ih = unfold refused_six in refl
-    go (some d) ih =
+    go None ih = unfold refused_six in refl
+    go (Some d) ih =
         let k = (obey h d.command).session in
         ih k d.left ∙ ap (λ (p : Sender). (requests k.memory (requests_from n p d.left)).memory) (sender_is h d.command) ∙ memory_is h d.command (requests_from n (sender_after h.sender d.command) d.left)
 
@@ -85,7 +85,7 @@ zero_sort false true = refl
 zero_sort false false = refl
 
 -- only 01 is a path element
-element_code : (b : ℕ) (bs : List ℕ) (d : Decoded) → decode b bs ≡ some d → is_element d.command ≡ eqb b 0x01
+element_code : (b : ℕ) (bs : List ℕ) (d : Decoded) → decode b bs ≡ Some d → is_element d.command ≡ eqb b 0x01
 unfolding code_sort
 element_code b bs d e = sort_element d.command ∙ ap (λ (n : ℕ). eqb n 0) (decoded_sort codes codes_sorted b bs d e) ∙ zero_sort (eqb b 0x01) (takes_path b)
 
@@ -110,8 +110,8 @@ replies_shown_lem (suc n) h (b ∷ bs) = go (decode b bs) refl (λ k l. replies_
     go : (o : Option Decoded) → decode b bs ≡ o → ((k : Session) (l : List ℕ) → replies_shown (run_all n k l).lines ≡ replies_to (requests k.memory (requests_from n k.sender l)).served)
         → replies_shown (maybe {B = Run} o (record { lines = line b (refused_six b h).reply ∷ []; session = (refused_six b h).session }) (λ d. let t = obey h d.command in let later = run_all n t.session d.left in record { lines = line b t.reply ∷ later.lines; session = later.session })).lines
         ≡ replies_to (requests h.memory (maybe o [] (λ d. asked h.sender d.command ++ requests_from n (sender_after h.sender d.command) d.left))).served
-    go none e ih = unfold refused_six refuses line in refl
-    go (some d) e ih =
+    go None e ih = unfold refused_six refuses line in refl
+    go (Some d) e ih =
         let k = (obey h d.command).session in
         let i = ih k d.left ∙ ap (λ (p : Sender). replies_to (requests k.memory (requests_from n p d.left)).served) (sender_is h d.command) in
         replies_are h d.command b (requests_from n (sender_after h.sender d.command) d.left) (run_all n k d.left).lines (element_code b bs d e) i
@@ -141,8 +141,8 @@ requests_fit (suc n) k (b ∷ bs) f y = go (decode b bs) refl (λ q l g z. reque
   where
     go : (o : Option Decoded) → decode b bs ≡ o → ((q : Sender) (l : List ℕ) → SenderFits q → Bytes l → Every TypedRequest (requests_from n q l))
         → Every TypedRequest (maybe o [] (λ d. asked k d.command ++ requests_from n (sender_after k d.command) d.left))
-    go none e ih = tt
-    go (some d) e ih =
+    go None e ih = tt
+    go (Some d) e ih =
         let a = asked_fits k d.command f (decoded_fits b bs d k e y.1 f) in
         every_join TypedRequest (asked k d.command) (requests_from n (sender_after k d.command) d.left) a.0 (ih (sender_after k d.command) d.left a.1 (left_bytes b bs d e y.1))
 
@@ -250,7 +250,7 @@ no_tail l h = empty_list (tail_of l) (rw (length-drop ((capacity l - length (vie
 
 fresh_24 : (l : List ℕ) → length l ≡ memory_size coordrun_rows → was_refused (lent l (Fresh 8 300000)).answer ≡ false
 unfolding lent serve perform_request gives was_refused bad_size
-fresh_24 l h = let e : refusal (capacity l) (view l) (Fresh 8 300000) ≡ none = fresh_refusal (capacity l) 8 300000 (view l) ∙ rw (rows_24 l h) in rw e
+fresh_24 l h = let e : refusal (capacity l) (view l) (Fresh 8 300000) ≡ None = fresh_refusal (capacity l) 8 300000 (view l) ∙ rw (rows_24 l h) in rw e
 
 -- coordrun's stream on a memory of 24 rows: fresh is done, the lines are those of 01, and the third demand holds
 pub record OnRows24 (l bs : List ℕ) : Type 0 where

@@ -3,7 +3,7 @@ use mathlib.Core.Path.{◌≡◌, refl, sym, ◌∙◌, ap, subst}
 use Prim.Native.Nat.{ℕ, zero, suc, ◌+◌, ◌-◌, ◌≤◌, ◌<◌, min}
 use native.Mathlib.Omega.{arith}
 use mathlib.Core.List.{List, [], ◌∷◌, ◌++◌}
-use mathlib.Core.Option.{Option, none, some}
+use Rattle.std.specs.Prelude.{Option, None, Some}
 use mathlib.Core.Bool.{Bool, true, false, cond, not, ◌&&◌}
 use lib.Dec.{ltb, eqb}
 use lib.ListN.{length, drop, get_or, length-drop, length-append}
@@ -32,7 +32,7 @@ pub next_full : (room : ℕ) (last : Bool) (b : ℕ) (bs : List ℕ) → room < 
 unfolding next_is
 next_full room last b bs h = rw (lt-ltb room 129 h)
 
-pub next_unknown : (room : ℕ) (last : Bool) (b : ℕ) (bs : List ℕ) → 129 ≤ room → width_of b ≡ none → Command 0 ≡ next_is room last b bs
+pub next_unknown : (room : ℕ) (last : Bool) (b : ℕ) (bs : List ℕ) → 129 ≤ room → width_of b ≡ None → Command 0 ≡ next_is room last b bs
 unfolding next_is cut_short_in operands_in
 next_unknown room last b bs h e = rw (le-ltb room 129 h, e) (go last)
   where
@@ -40,7 +40,7 @@ next_unknown room last b bs h e = rw (le-ltb room 129 h, e) (go last)
     go true = refl
     go false = refl
 
-pub next_whole : (room : ℕ) (last : Bool) (b : ℕ) (bs : List ℕ) (w : ℕ) → 129 ≤ room → width_of b ≡ some w → w ≤ length bs → Command w ≡ next_is room last b bs
+pub next_whole : (room : ℕ) (last : Bool) (b : ℕ) (bs : List ℕ) (w : ℕ) → 129 ≤ room → width_of b ≡ Some w → w ≤ length bs → Command w ≡ next_is room last b bs
 unfolding next_is cut_short_in operands_in
 next_whole room last b bs w h e k = rw (le-ltb room 129 h, e, le-ltb (length bs) w k) (go last ∙ ap (λ (n : ℕ). cond (not last && false) Cut (Command n)) (let z : w ≡ min w (length bs) = omega arith in z))
   where
@@ -48,11 +48,11 @@ next_whole room last b bs w h e k = rw (le-ltb room 129 h, e, le-ltb (length bs)
     go true = refl
     go false = refl
 
-pub next_last : (room : ℕ) (last : Bool) (b : ℕ) (bs : List ℕ) (w n : ℕ) → 129 ≤ room → width_of b ≡ some w → length bs < w → last ≡ true → n ≡ length bs → Command n ≡ next_is room last b bs
+pub next_last : (room : ℕ) (last : Bool) (b : ℕ) (bs : List ℕ) (w n : ℕ) → 129 ≤ room → width_of b ≡ Some w → length bs < w → last ≡ true → n ≡ length bs → Command n ≡ next_is room last b bs
 unfolding next_is cut_short_in operands_in
 next_last room last b bs w n h e k l q = rw (le-ltb room 129 h, e, l) (ap Command (let z : n ≡ min w (length bs) = omega arith in z))
 
-pub next_cut : (room : ℕ) (last : Bool) (b : ℕ) (bs : List ℕ) (w : ℕ) → 129 ≤ room → width_of b ≡ some w → length bs < w → last ≡ false → Cut ≡ next_is room last b bs
+pub next_cut : (room : ℕ) (last : Bool) (b : ℕ) (bs : List ℕ) (w : ℕ) → 129 ≤ room → width_of b ≡ Some w → length bs < w → last ≡ false → Cut ≡ next_is room last b bs
 unfolding next_is cut_short_in operands_in
 next_cut room last b bs w h e k l = rw (le-ltb room 129 h, e, l, lt-ltb (length bs) w k)
 
@@ -238,8 +238,8 @@ module _ {e : RunEnd} {last : Bool} {i o : List ℕ} {t : Tally} {at put : ℕ} 
   used = omega (arith, goes.width, few (width_in codes (get_or i at 0)), length-drop (at + 1) i)
     where
       few : (q : Option ℕ) → maybe q 0 (λ v. min v (length (drop (at + 1) i))) ≤ length (drop (at + 1) i)
-      few none = omega arith
-      few (some v) = omega arith
+      few None = omega arith
+      few (Some v) = omega arith
 
   -- it was obeyed, its line was put and counted
   module _ {r : AfterCommand} {m' : List ℕ} (a : Answers (obey_byte (session m p) (get_or i at 0) (drop (at + 1) i)) r m') {put' : ℕ} {o'' : List ℕ} {counts' : Tally}

@@ -3,7 +3,7 @@ use mathlib.Core.Path.{◌≡◌, refl, sym, ap, ◌∙◌}
 use Prim.Native.Nat.{ℕ, ◌+◌, ◌*◌, ◌-◌, ◌≤◌}
 use native.Mathlib.Omega.{arith}
 use mathlib.Core.List.{List, [], ◌∷◌}
-use mathlib.Core.Option.{none}
+use Rattle.std.specs.Prelude.{None}
 use mathlib.Core.Bool.{Bool, true, not}
 use lib.ListN.{length}
 use Rattle.types.specs.Addresses.{same_addr}
@@ -48,7 +48,7 @@ sweepable l n h e =
 pub record Sweeps (q : Call) (p : Entry → Bool) (kind time : ℕ) (a : NodeAddr) : Type 0 where
   pub does : (s : State) → perform s q ≡ sweeps p s
   pub keeps : (rs : List Row) → kept_rows kind time a rs ≡ keep_rows (λ r. not (p r.entry)) rs
-  pub allowed : (l : List ℕ) → sound (capacity l) (view l) ≡ true → refusal (capacity l) (view l) (Asked q) ≡ none
+  pub allowed : (l : List ℕ) → sound (capacity l) (view l) ≡ true → refusal (capacity l) (view l) (Asked q) ≡ None
 
 pub purge_sweeps : (time : ℕ) (a : NodeAddr) → Sweeps (PurgeExpired time) (expired time) 0 time a
 unfolding perform kept_rows sweep_test path_given verified_write draws_stamps

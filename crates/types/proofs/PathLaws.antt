@@ -9,6 +9,8 @@ use lib.Dec.{ltb}
 use lib.ListN.{length, drop, get_or, drop_of_length-le, length-take}
 use lib.Seq.{drop-cons, get_or-take}
 use borrow.Author.Tests.{eq-eqb, ne_eqb, le-ltb}
+use lib.Pointwise.{pointwise}
+use Rattle.std.specs.Prelude.{nat_eq}
 use Rattle.types.specs.declared.node_addr.NodeAddr.{NodeAddr}
 use Rattle.types.specs.declared.coord.CoordEntry.{CoordEntry}
 use Rattle.types.specs.declared.coord.Path.{Path}
@@ -49,6 +51,14 @@ module _ (x y : List ℕ) (i : ℕ) (hx : length x ≤ i) (hy : length y ≤ i) 
   pub before_end : bytes_before (drop i x) (drop i y) ≡ false
   unfolding bytes_before
   before_end = rw (drop_of_length-le x hx, drop_of_length-le y hy)
+
+-- the library's comparison, as `==` of two addresses makes it, is that of the definition
+pub equal_bytes : (xs ys : List ℕ) → pointwise nat_eq xs ys ≡ same_bytes xs ys
+unfolding same_bytes
+equal_bytes [] [] = refl
+equal_bytes [] (y ∷ ys) = refl
+equal_bytes (x ∷ xs) [] = refl
+equal_bytes (x ∷ xs) (y ∷ ys) = rw (equal_bytes xs ys)
 
 -- ---- the elements of a path
 

@@ -1,9 +1,10 @@
 -- Path elements and paths of document 01.
-use Rattle.std.specs.Prelude.{ℕ, ◌+◌, ◌-◌, max, List, [], ◌∷◌, ◌++◌, Bool, true, false, cond, ◌&&◌, ◌||◌, ltb, eqb, take, replicate, set}
+use Rattle.std.specs.Prelude.{ℕ, ◌+◌, ◌-◌, max, List, [], ◌∷◌, ◌++◌, Result, Ok, Err, Bool, true, false, cond, ◌&&◌, ◌||◌, ltb, eqb, take, replicate, set}
 use Rattle.types.specs.declared.node_addr.NodeAddr.{NodeAddr}
 use Rattle.types.specs.declared.coord.CoordEntry.{CoordEntry}
 use Rattle.types.specs.declared.coord.Path.{Path}
-use Rattle.types.specs.declared.coord.Appended.{Appended}
+use Rattle.types.specs.declared.refusal.Refusal.{Refusal}
+use Rattle.types.specs.declared.refusal.Refusal.TheVariants.{PathLength}
 use Rattle.types.specs.Addresses.{address_bytes, same_addr}
 
 -- a path holds 32 places
@@ -72,8 +73,8 @@ unfoldable pub path_weight : Path → ℕ
 path_weight p = max addrs_per_entry p.len
 
 -- an element onto a path; a 33rd is refused by 2 and dropped
-unfoldable pub appended : Path → CoordEntry → Appended
+unfoldable pub appended : Path → CoordEntry → Result Path Refusal
 appended p e =
     cond (ltb p.len path_places)
-    (record { refusal = 0; path = record { entries = set p.entries p.len e; len = p.len + 1 } })
-    (record { refusal = 2; path = p })
+    (Ok (record { entries = set p.entries p.len e; len = p.len + 1 }))
+    (Err PathLength)

@@ -1,9 +1,7 @@
 -- Document 01's number and values for each case of an answer.
-use Rattle.std.specs.Prelude.{ℕ, ◌+◌, min, [], ◌∷◌, Bool, true, false, cond, leb, eqb, replicate}
+use Rattle.std.specs.Prelude.{ℕ, ◌+◌, min, [], ◌∷◌, Option, Some, None, Bool, true, false, cond, leb, eqb, replicate}
 use Rattle.types.specs.declared.entry.CoordSource.{CoordSource}
 use Rattle.types.specs.declared.entry.CoordSource.TheVariants.{Verified, Hint}
-use Rattle.types.specs.declared.entry.PathMtu.{PathMtu}
-use Rattle.types.specs.declared.entry.PathMtu.TheVariants.{Unknown, Known}
 use Rattle.types.specs.declared.placed.Funding.{Funding}
 use Rattle.types.specs.declared.placed.Funding.TheVariants.{Upto, Uncharged}
 use Rattle.types.specs.declared.placed.Segment.{Segment}
@@ -13,6 +11,8 @@ use Rattle.types.specs.declared.placed.HintOutcome.TheVariants.{Inserted, Change
 use Rattle.types.specs.declared.placed.Placed.{Placed}
 use Rattle.types.specs.declared.placed.VerifiedInsert.{VerifiedInsert}
 use Rattle.types.specs.declared.stats.CacheStats.{CacheStats}
+use Rattle.types.specs.declared.refusal.Refusal.{Refusal}
+use Rattle.types.specs.declared.refusal.Refusal.TheVariants.{UnsoundState, PathLength, StampsSpent, NoPlace, Limits, Command}
 use Rattle.types.specs.declared.reply.Reply.{Reply}
 use Rattle.types.specs.declared.reply.Tally.{Tally}
 
@@ -30,13 +30,24 @@ source_code Verified = 0
 source_code Hint = 1
 
 -- the mark: 1 if an MTU is held
-unfoldable pub mtu_mark_of : PathMtu → ℕ
-mtu_mark_of Unknown = 0
-mtu_mark_of (Known m) = 1
+unfoldable pub mtu_mark_of : Option ℕ → ℕ
+mtu_mark_of None = 0
+mtu_mark_of (Some m) = 1
 
-unfoldable pub mtu_value_of : PathMtu → ℕ
-mtu_value_of Unknown = 0
-mtu_value_of (Known m) = m
+unfoldable pub mtu_value_of : Option ℕ → ℕ
+mtu_value_of None = 0
+mtu_value_of (Some m) = m
+
+-- ---- refusals
+
+-- the six numbers, in the order in which 01 gives their reasons
+abbrev pub refusal_code : Refusal → ℕ
+refusal_code UnsoundState = 1
+refusal_code PathLength = 2
+refusal_code StampsSpent = 3
+refusal_code NoPlace = 4
+refusal_code Limits = 5
+refusal_code Command = 6
 
 -- ---- funding
 

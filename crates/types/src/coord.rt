@@ -4,6 +4,7 @@ ghost use Rattle.types.specs.Paths.{path_places, empty_path, elements, starts_at
 ghost use Rattle.types.specs.Paths.{zero_entry};
 
 use crate::node_addr::{ADDRESS_BYTES, NodeAddr};
+use crate::refusal::Refusal;
 
 // A node on a path, with the sequence number and the timestamp of its declaration.
 #[derive(Clone, Copy)]
@@ -26,14 +27,8 @@ pub struct Path {
     pub len: usize,
 }
 
-// A path with one element more, or the path as it was and the number of the refusal.
-#[derive(Clone, Copy)]
-pub struct Appended {
-    pub refusal: u8,
-    pub path: Path,
-}
-
 // What stands past a path's length.
+#[tactic(auto, unfolding(crate::specs::Paths::zero_entry))]
 pub fn zero_entry() -> CoordEntry
     ensures { result ≡ zero_entry }
 {
@@ -45,6 +40,7 @@ pub fn zero_entry() -> CoordEntry
 }
 
 impl Path {
+    #[tactic(auto, unfolding(crate::specs::Paths::empty_path))]
     pub fn empty() -> Path
         ensures { result ≡ empty_path }
     {
@@ -57,38 +53,31 @@ impl Path {
     }
 
     // How many places hold an element. A length past the last place, which no write makes, means all of them.
+    #[tactic(auto, unfolding(crate::specs::Paths::elements))]
     pub fn count(self) -> usize
         ensures value { result ≡ length (elements self) }
         ensures upper_bound { result ≤ path_places }
     {
-        if self.len < PLACES { self.len } else { PLACES }
+        self.len.min(PLACES)
     }
 
     pub fn starts_at(self, key: NodeAddr) -> bool
         ensures { result ≡ starts_at key self }
     {
-        if self.count() == 0 {
-            return false;
-        }
-        let x = self.entries[0];
-        let a = x.node_addr;
-        a.same_as(key)
+        self.count() != 0 && self.entries[0].node_addr == key
     }
 
     // What a path adds to the main segment: an element a unit, and sixteen at least.
+    #[tactic(auto, unfolding(crate::specs::Paths::path_weight))]
     pub fn weight(self) -> u64
         ensures { result ≡ path_weight self }
     {
-        let n = self.len as u64;
-        if n < ADDRS_PER_ENTRY {
-            ADDRS_PER_ENTRY
-        } else {
-            n
-        }
+        (self.len as u64).max(ADDRS_PER_ENTRY)
     }
 
-    // The element goes behind the last one.
-    pub fn append(self, e: CoordEntry) -> Appended
+    // The element goes behind the last one, if there is a place.
+    #[tactic(auto, unfolding(crate::specs::Paths::appended))]
+    pub fn append(self, e: CoordEntry) -> Result<Path, Refusal>
         ensures { result ≡ appended self e }
     {
         let n = self.len;
@@ -96,15 +85,9 @@ impl Path {
             let mut q = self;
             q.entries[n] = e;
             q.len = n + 1;
-            Appended {
-                refusal: 0,
-                path: q,
-            }
+            Ok(q)
         } else {
-            Appended {
-                refusal: 2,
-                path: self,
-            }
+            Err(Refusal::PathLength)
         }
     }
 }

@@ -11,29 +11,24 @@ pub enum CoordSource {
     Hint,
 }
 
-// The path MTU that a lookup found, if one is held.
-#[derive(Clone, Copy)]
-pub enum PathMtu {
-    Unknown,
-    Known(u16),
-}
-
 #[derive(Clone, Copy)]
 pub struct CacheEntry {
     pub path: Path,
     pub created_at: u64,
     pub last_used: u64,
     pub expires_at: u64,
-    pub path_mtu: PathMtu,
+    // The path MTU that a lookup found, if one is held.
+    pub path_mtu: Option<u16>,
     pub source: CoordSource,
     pub verified_until: u64,
 }
 
-impl CoordSource {
-    // A number that names no kind counts as a hint, so that no byte of a row makes a path verified but the right one.
-    pub fn from_code(code: u8) -> CoordSource
-        ensures { result ≡ source_of code }
-    {
+// A number that names no kind counts as a hint, so that no byte of a row makes a path verified but the right one.
+impl From<u8> for CoordSource {
+    ghost from_gives = { λ code source. source ≡ source_of code };
+
+    #[tactic(auto, unfolding(crate::specs::Values::source_of))]
+    fn from(code: u8) -> CoordSource {
         match code {
             0 => CoordSource::Verified,
             _ => CoordSource::Hint,

@@ -2,11 +2,11 @@
 // sender of commands has.
 #![tactic(auto)]
 
-pub mod answers;
 pub mod coord;
 pub mod entry;
 pub mod node_addr;
 pub mod placed;
+pub mod refusal;
 pub mod reply;
 pub mod sender;
 pub mod stats;

@@ -2,8 +2,6 @@
 ghost use Rattle.std.specs.Prelude.{◌≡◌};
 ghost use Rattle.types.specs.Values.{covers, outcome_code, segment_code, placed_reply, verified_reply};
 
-use crate::reply::{Reply, says};
-
 // What the writer of a hint can pay, in units of weight.
 #[derive(Clone, Copy)]
 pub enum Funding {
@@ -53,6 +51,7 @@ pub struct VerifiedInsert {
 }
 
 impl Funding {
+    #[tactic(auto, unfolding(crate::specs::Values::covers))]
     pub fn covers(self, weight: u64) -> bool
         ensures { result ≡ covers self weight }
     {
@@ -63,47 +62,21 @@ impl Funding {
     }
 }
 
-impl Segment {
-    pub fn code(self) -> u8
-        ensures { result ≡ segment_code self }
-    {
-        match self {
-            Segment::Main => 0,
-            Segment::Probation => 1,
-        }
+// The kinds as numbers, in the order above.
+impl From<Segment> for u64 {
+    ghost from_gives = { λ segment code. code ≡ segment_code segment };
+
+    #[tactic(auto, unfolding(crate::specs::Values::segment_code))]
+    fn from(segment: Segment) -> u64 {
+        segment as u64
     }
 }
 
-impl HintOutcome {
-    pub fn code(self) -> u8
-        ensures { result ≡ outcome_code self }
-    {
-        match self {
-            HintOutcome::Inserted => 0,
-            HintOutcome::Changed => 1,
-            HintOutcome::Unchanged => 2,
-            HintOutcome::Rejected => 3,
-        }
-    }
-}
+impl From<HintOutcome> for u64 {
+    ghost from_gives = { λ outcome code. code ≡ outcome_code outcome };
 
-impl Placed {
-    pub fn reply(self) -> Reply
-        ensures { result ≡ placed_reply self }
-    {
-        let outcome = self.outcome;
-        let segment = self.segment;
-        let o = outcome.code() as u64;
-        let s = segment.code() as u64;
-        let u = self.unfunded as u64;
-        says(o, self.added_weight, s, u, self.examined)
-    }
-}
-
-impl VerifiedInsert {
-    pub fn reply(self) -> Reply
-        ensures { result ≡ verified_reply self }
-    {
-        says(0, self.weight, 0, 0, self.examined)
+    #[tactic(auto, unfolding(crate::specs::Values::outcome_code))]
+    fn from(outcome: HintOutcome) -> u64 {
+        outcome as u64
     }
 }

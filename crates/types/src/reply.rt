@@ -1,9 +1,11 @@
 // A command's reply: the number of its refusal, or 0, and five numbers.
-ghost use Rattle.std.specs.Prelude.{◌≡◌, ◌+◌, min};
-ghost use Rattle.types.specs.Values.{largest_number, says, refuses, tallied};
+ghost use Rattle.std.specs.Prelude.{◌≡◌};
+ghost use Rattle.types.specs.Values.{refusal_code, says, refuses, tallied};
+
+use crate::refusal::Refusal;
 
 // The largest number of 64 bits.
-pub const LARGEST_NUMBER: u64 = 18446744073709551615;
+pub const LARGEST_NUMBER: u64 = u64::MAX;
 
 #[derive(Clone, Copy)]
 pub struct Reply {
@@ -12,6 +14,7 @@ pub struct Reply {
 }
 
 // A command that was done.
+#[tactic(auto, unfolding(crate::specs::Values::says))]
 pub fn says(a: u64, b: u64, c: u64, d: u64, e: u64) -> Reply
     ensures { result ≡ says a b c d e }
 {
@@ -22,12 +25,15 @@ pub fn says(a: u64, b: u64, c: u64, d: u64, e: u64) -> Reply
 }
 
 // A refused command has nothing to report but why.
-pub fn refused(n: u8) -> Reply
-    ensures { result ≡ refuses n }
-{
-    Reply {
-        refusal: n,
-        values: [0u64; 5],
+impl From<Refusal> for Reply {
+    ghost from_gives = { λ refusal reply. reply ≡ refuses (refusal_code refusal) };
+
+    #[tactic(auto, unfolding(crate::specs::Values::refuses))]
+    fn from(refusal: Refusal) -> Reply {
+        Reply {
+            refusal: u8::from(refusal),
+            values: [0u64; 5],
+        }
     }
 }
 
@@ -38,26 +44,21 @@ pub struct Tally {
     pub refused: u64,
 }
 
-fn up_one(n: u64) -> u64
-    ensures { result ≡ min (n + 1) largest_number }
-{
-    if n < LARGEST_NUMBER { n + 1 } else { n }
-}
-
 impl Tally {
     // The tally after a command with this refusal, or 0.
+    #[tactic(auto, unfolding(crate::specs::Values::tallied))]
     pub fn counted(self, refusal: u8) -> Tally
         ensures { result ≡ tallied self refusal }
     {
         if refusal == 0 {
             return Tally {
-                done: up_one(self.done),
+                done: self.done.saturating_add(1),
                 refused: self.refused,
             };
         }
         Tally {
             done: self.done,
-            refused: up_one(self.refused),
+            refused: self.refused.saturating_add(1),
         }
     }
 }

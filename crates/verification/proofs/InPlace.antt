@@ -3,7 +3,7 @@ use mathlib.Core.Path.{◌≡◌, refl, sym, ap, ◌∙◌}
 use Prim.Native.Nat.{ℕ, zero, suc, ◌+◌, ◌-◌, ◌≤◌, ◌<◌, ◌*◌, min}
 use native.Mathlib.Omega.{arith}
 use mathlib.Core.List.{List, [], ◌∷◌, ◌++◌}
-use mathlib.Core.Option.{some}
+use Rattle.std.specs.Prelude.{Some, Option, None, Ok}
 use mathlib.Core.Bool.{Bool, true, false, cond, ◌&&◌}
 use lib.Dec.{ltb, leb}
 use lib.ListN.{length, drop, replicate, length-replicate}
@@ -12,8 +12,6 @@ use borrow.Author.Tests.{lt-ltb, le-ltb}
 use Rattle.types.specs.declared.node_addr.NodeAddr.{NodeAddr}
 use Rattle.types.specs.declared.coord.Path.{Path}
 use Rattle.types.specs.Addresses.{addr_before}
-use Rattle.types.specs.declared.entry.PathMtu.{PathMtu}
-use Rattle.types.specs.declared.entry.PathMtu.TheVariants.{Unknown, Known}
 use Rattle.rules.specs.Cases.{maybe}
 use Rattle.rules.specs.Records.{Entry, Row, State, weight_bound, max_rows, weight_limit}
 use Rattle.rules.specs.Rows.{row_at, in_main, find, change_row, without_row, insert_in_order, count_rows, weigh_rows, main_count, zero_rows, with_rows, with_only_rows}
@@ -32,11 +30,10 @@ use Rattle.memory.specs.Edits.{with_stored_weight}
 use Rattle.memory.proofs.Fields.{same_head}
 use Rattle.rules.proofs.RowLists.{change_twice}
 use Rattle.memory.proofs.RowLaws.{view_length, length_without}
-use Rattle.search.specs.declared.outcome.Search.TheVariants.{At}
 use Rattle.search.specs.ByKey.{searched}
 use Rattle.search.proofs.SearchLaws.{at_found}
 use Rattle.room.proofs.ClosedForm.{sound_small}
-use Rattle.verification.specs.Mtu.{mtu_of, given_mtu}
+use Rattle.verification.specs.Mtu.{given_mtu}
 
 -- ---- row i out, and a row of its key in again
 
@@ -106,25 +103,25 @@ mark_used : (t : ℕ) (e : Entry) → (mark_verified t e).last_used ≡ e.last_u
 unfolding mark_verified
 mark_used t e = refl
 
-mtu_used : (mtu : PathMtu) (e : Entry) → (given_mtu mtu e).last_used ≡ e.last_used
+mtu_used : (mtu : Option ℕ) (e : Entry) → (given_mtu mtu e).last_used ≡ e.last_used
 unfolding set_mtu
-mtu_used Unknown e = refl
-mtu_used (Known m) e = refl
+mtu_used None e = refl
+mtu_used (Some m) e = refl
 
-mtu_given : (mtu : PathMtu) (e : Entry) → maybe (mtu_of mtu) e (λ m. set_mtu m e) ≡ given_mtu mtu e
-mtu_given Unknown e = refl
-mtu_given (Known m) e = refl
+mtu_given : (mtu : Option ℕ) (e : Entry) → maybe mtu e (λ m. set_mtu m e) ≡ given_mtu mtu e
+mtu_given None e = refl
+mtu_given (Some m) e = refl
 
-entry_of : (k : NodeAddr) (p : Path) (t i : ℕ) (mtu : PathMtu) (s : State) → find k s.rows ≡ some i
-    → verified_entry k p t (mtu_of mtu) s ≡ given_mtu mtu (mark_verified t (update p t s.default_ttl (row_at i s.rows).entry))
+entry_of : (k : NodeAddr) (p : Path) (t i : ℕ) (mtu : Option ℕ) (s : State) → find k s.rows ≡ Some i
+    → verified_entry k p t mtu s ≡ given_mtu mtu (mark_verified t (update p t s.default_ttl (row_at i s.rows).entry))
 unfolding verified_entry
 entry_of k p t i mtu s f = rw f (mtu_given mtu (mark_verified t (update p t s.default_ttl (row_at i s.rows).entry)))
 
 -- the row updated and refiled, marked, given its MTU, and the stored weight set
-pub verified_back : (k : NodeAddr) (p : Path) (t w v : ℕ) (mtu : PathMtu) {R ttl i : ℕ} {s a b c x : State} → Sound R s → searched k s.rows ≡ At i
+pub verified_back : (k : NodeAddr) (p : Path) (t w v : ℕ) (mtu : Option ℕ) {R ttl i : ℕ} {s a b c x : State} → Sound R s → searched k s.rows ≡ Ok i
     → in_main (row_at i s.rows) ≡ true → ttl ≡ s.default_ttl → v ≡ weigh_rows in_main (without_row i s.rows) + w
     → a ≡ refile (update p t ttl (row_at i s.rows).entry) w i s → b ≡ rewrite (mark_verified t) i a → c ≡ rewrite (given_mtu mtu) i b
-    → x ≡ with_stored_weight v c → x ≡ file_new k (verified_entry k p t (mtu_of mtu) s) w 0 (take_out i s)
+    → x ≡ with_stored_weight v c → x ≡ file_new k (verified_entry k p t mtu s) w 0 (take_out i s)
 verified_back k p t w v mtu {R} {ttl} {i} {s} {a} {b} {c} d f m et ev ea eb ec ex =
     let o = find_at k s.rows i (at_found k s.rows i f) in
     let e0 = update p t s.default_ttl (row_at i s.rows).entry in

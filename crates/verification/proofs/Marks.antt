@@ -2,8 +2,7 @@
 use mathlib.Core.Path.{◌≡◌, refl, sym, ap}
 use Prim.Native.Nat.{ℕ}
 use mathlib.Core.List.{List}
-use Rattle.types.specs.declared.entry.PathMtu.{PathMtu}
-use Rattle.types.specs.declared.entry.PathMtu.TheVariants.{Unknown, Known}
+use Rattle.std.specs.Prelude.{Option, None, Some}
 use Rattle.rules.specs.Records.{Row, State, some_mtu, verified_source, with_mtu, with_source}
 use Rattle.rules.specs.Rows.{row_at, with_rows}
 use Rattle.rules.specs.Entries.{add_times, mark_verified, set_mtu, verified_ttl}
@@ -23,9 +22,9 @@ rewrite_same : (i : ℕ) (s : State) → rewrite (λ e. e) i s ≡ s
 unfolding rewrite with_rows
 rewrite_same i s = ap (λ (rs : List Row). with_rows rs s) (change_none (λ r. with_entry r.entry r) i s.rows (same_entry_lem (row_at i s.rows)))
 
-pub no_mtu_lem : (i : ℕ) (mtu : PathMtu) (s : State) → mtu ≡ Unknown → s ≡ rewrite (given_mtu mtu) i s
+pub no_mtu_lem : (i : ℕ) (mtu : Option ℕ) (s : State) → mtu ≡ None → s ≡ rewrite (given_mtu mtu) i s
 no_mtu_lem i mtu s e = rw e (sym (rewrite_same i s))
 
-pub some_mtu_lem : (i m : ℕ) (mtu : PathMtu) (s : State) → mtu ≡ Known m → rewrite (with_mtu some_mtu m) i s ≡ rewrite (given_mtu mtu) i s
+pub some_mtu_lem : (i m : ℕ) (mtu : Option ℕ) (s : State) → mtu ≡ Some m → rewrite (with_mtu some_mtu m) i s ≡ rewrite (given_mtu mtu) i s
 unfolding set_mtu
 some_mtu_lem i m mtu s e = rw e

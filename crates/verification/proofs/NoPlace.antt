@@ -20,8 +20,7 @@ use Rattle.rules.proofs.SoundTest.{ascends_test}
 use Rattle.rules.specs.Layout.{head_size, row_size}
 use Rattle.memory.proofs.Fields.{same_head}
 use Rattle.memory.proofs.RowLaws.{view_length}
-use Rattle.search.specs.declared.outcome.Search.{Search}
-use Rattle.search.specs.declared.outcome.Search.TheVariants.{At, Absent}
+use Rattle.std.specs.Prelude.{Result, Ok, Err}
 use Rattle.search.specs.ByKey.{searched}
 use Rattle.search.proofs.SearchLaws.{at_inside}
 use Rattle.refusals.proofs.SoundCalls.{found, missing}
@@ -34,14 +33,14 @@ use Rattle.room.proofs.RoomToFile.{shown, laid_out}
 pub rows_searchable : (n : ℕ) (l : List ℕ) → sound (capacity l) (view_rows n l) ≡ true → (ascends (view_rows n l).rows ≡ true) × (head_size + n * row_size ≤ length l)
 rows_searchable n l h = (ascends_test (view_rows n l).rows (shown n l h).rising, laid_out n l h)
 
-pub row_inside : (n : ℕ) (l : List ℕ) (k : NodeAddr) {i : ℕ} {r : Search} → r ≡ searched k (view_rows n l).rows → r ≡ At i → i < n
+pub row_inside : (n : ℕ) (l : List ℕ) (k : NodeAddr) {i : ℕ} {r : Result ℕ ℕ} → r ≡ searched k (view_rows n l).rows → r ≡ Ok i → i < n
 row_inside n l k {i} f g = omega (arith, at_inside k (view_rows n l).rows i (sym f ∙ g), view_length n l)
 
-pub held_in_main : (k : NodeAddr) (s : State) {i p : ℕ} {r : Search} → r ≡ searched k s.rows → r ≡ At i → p ≡ (row_at i s.rows).place → ltb p 2 ≡ key_in_main k s
+pub held_in_main : (k : NodeAddr) (s : State) {i p : ℕ} {r : Result ℕ ℕ} → r ≡ searched k s.rows → r ≡ Ok i → p ≡ (row_at i s.rows).place → ltb p 2 ≡ key_in_main k s
 unfolding key_in_main in_main
 held_in_main k s {i} {p} {r} f g e = rw (found k s.rows i r f g, e)
 
-pub absent_in_main : (k : NodeAddr) (s : State) {i : ℕ} {r : Search} → r ≡ searched k s.rows → r ≡ Absent i → false ≡ key_in_main k s
+pub absent_in_main : (k : NodeAddr) (s : State) {i : ℕ} {r : Result ℕ ℕ} → r ≡ searched k s.rows → r ≡ Err i → false ≡ key_in_main k s
 unfolding key_in_main
 absent_in_main k s {i} {r} f g = rw (missing k s.rows i r f g)
 

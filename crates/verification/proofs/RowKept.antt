@@ -2,7 +2,7 @@
 use mathlib.Core.Path.{◌≡◌, refl, sym, ap, ◌∙◌}
 use Prim.Native.Nat.{ℕ, min}
 use mathlib.Core.List.{List}
-use mathlib.Core.Option.{Option}
+use Rattle.std.specs.Prelude.{Option, Ok}
 use mathlib.Core.Bool.{Bool, true, ◌&&◌}
 use lib.ListN.{length}
 use Rattle.types.specs.declared.node_addr.NodeAddr.{NodeAddr}
@@ -16,7 +16,6 @@ use Rattle.rules.specs.Placement.{without_key, verified_entry, insert_verified}
 use Rattle.rules.specs.Memory.{view_rows}
 use Rattle.rules.proofs.SoundTest.{Sound, and_left, and_right, is_sound}
 use Rattle.rules.proofs.Moves.{take_out_sound}
-use Rattle.search.specs.declared.outcome.Search.TheVariants.{At}
 use Rattle.search.specs.ByKey.{searched}
 use Rattle.room.proofs.RoomSettled.{room_there}
 use Rattle.filing.proofs.FiledInRoom.{rows_there}
@@ -37,7 +36,7 @@ room_kept R i t w s d h =
     room_there t w R o.max_entries (main_count o) o.stored_weight (min w (weight_bound o.max_entries)) o _ (is_sound R o (take_out_sound R i s d)) refl refl refl refl refl h
 
 -- key k's row is row i, and main has room for path p without it
-module _ (k : NodeAddr) (p : Path) (t : ℕ) (mtu : Option ℕ) {R i w : ℕ} {s : State} (d : Sound R s) (f : searched k s.rows ≡ At i)
+module _ (k : NodeAddr) (p : Path) (t : ℕ) (mtu : Option ℕ) {R i w : ℕ} {s : State} (d : Sound R s) (f : searched k s.rows ≡ Ok i)
     (h : has_room (min (path_weight p) (weight_bound s.max_entries)) (take_out i s) ≡ true) (ew : w ≡ path_weight p) where
   kept : ◌≡◌ {A = Room} (record { made = true; state = take_out i s; examined = 0 }) (make_room t (path_weight p) (without_key k s))
   kept = room_kept R i t (path_weight p) s d h ∙ ap (make_room t (path_weight p)) (out_held k s (sym f) refl refl)

@@ -2,15 +2,13 @@
 use mathlib.Core.Path.{◌≡◌, refl, sym, ap, ◌∙◌}
 use Prim.Native.Nat.{ℕ, ◌≤◌}
 use mathlib.Core.List.{List}
-use mathlib.Core.Option.{Option, some}
+use Rattle.std.specs.Prelude.{Option, Some, None}
 use mathlib.Core.Bool.{Bool, true, false}
 use lib.ListN.{length}
 use borrow.Author.Tests.{ltb-false}
 use Rattle.types.specs.declared.node_addr.NodeAddr.{NodeAddr}
 use Rattle.types.specs.declared.coord.Path.{Path}
 use Rattle.types.specs.Paths.{path_weight}
-use Rattle.types.specs.declared.entry.PathMtu.{PathMtu}
-use Rattle.types.specs.declared.entry.PathMtu.TheVariants.{Unknown, Known}
 use Rattle.types.specs.declared.placed.VerifiedInsert.{VerifiedInsert}
 use Rattle.rules.specs.Cases.{maybe}
 use Rattle.rules.specs.Records.{State}
@@ -28,7 +26,6 @@ use Rattle.refusals.specs.Writes.{write_refusal}
 use Rattle.refusals.proofs.SoundCalls.{done_rows}
 use Rattle.refusals.proofs.RefusalsSaid.{said}
 use Rattle.refusals.proofs.WriteRefusals.{Passed, write_refused}
-use Rattle.verification.specs.Mtu.{mtu_of}
 use Rattle.verification.specs.Forms.{verified_call}
 
 -- the rows that the head counts
@@ -39,19 +36,19 @@ rows_sound_lem l n h e = rw (sound_memory l n h e).same h
 
 -- call q is a verified insert
 record Form (q : Call) (k : NodeAddr) (p : Path) (t : ℕ) (mtu : Option ℕ) : Type 0 where
-  path : path_given q ≡ some p
+  path : path_given q ≡ Some p
   stamps : draws_stamps q ≡ true
-  write : verified_write q ≡ some (record { key = k; path = p; time = t })
+  write : verified_write q ≡ Some (record { key = k; path = p; time = t })
   does : (s : State) → perform s q ≡ verifies k p t mtu s
 
-form : (k : NodeAddr) (p : Path) (t : ℕ) (mtu : PathMtu) → Form (verified_call k p t mtu) k p t (mtu_of mtu)
+form : (k : NodeAddr) (p : Path) (t : ℕ) (mtu : Option ℕ) → Form (verified_call k p t mtu) k p t mtu
 unfolding path_given draws_stamps verified_write perform
-form k p t Unknown = record { path = refl; stamps = refl; write = refl; does = λ s. refl }
-form k p t (Known m) = record { path = refl; stamps = refl; write = refl; does = λ s. refl }
+form k p t None = record { path = refl; stamps = refl; write = refl; does = λ s. refl }
+form k p t (Some m) = record { path = refl; stamps = refl; write = refl; does = λ s. refl }
 
 -- ---- refused by 2 or 3
 
-pub refused_early : (k : NodeAddr) (p : Path) (t : ℕ) (mtu : PathMtu) (l : List ℕ) {n : ℕ} → sound (capacity l) (view l) ≡ true → n ≡ write_refusal p (view l) → (n ≡ 0 → ⊥)
+pub refused_early : (k : NodeAddr) (p : Path) (t : ℕ) (mtu : Option ℕ) (l : List ℕ) {n : ℕ} → sound (capacity l) (view l) ≡ true → n ≡ write_refusal p (view l) → (n ≡ 0 → ⊥)
     → (Refused n ≡ (call l (verified_call k p t mtu)).answer) × (l ≡ (call l (verified_call k p t mtu)).memory)
 refused_early k p t mtu l {n} h e z = let f = form k p t mtu in write_refused l (verified_call k p t mtu) p n h f.path f.stamps e z
 
@@ -65,10 +62,10 @@ pub record Underway (k : NodeAddr) (p : Path) (t n : ℕ) (b : Bool) (l : List �
 
 module _ {k : NodeAddr} {p : Path} {t n : ℕ} {b : Bool} {l : List ℕ} (u : Underway k p t n b l) where
   -- number 4, over the rows that the code meets
-  four_of : (mtu : PathMtu) → maybe (verified_write (verified_call k p t mtu)) false (no_place_for (capacity l) (view l)) ≡ b
+  four_of : (mtu : Option ℕ) → maybe (verified_write (verified_call k p t mtu)) false (no_place_for (capacity l) (view l)) ≡ b
   four_of mtu = rw ((form k p t mtu).write, ← (sound_memory l n u.sound u.counted).same, ← u.full)
 
-  pub refused_by_four : (mtu : PathMtu) → b ≡ true → (Refused 4 ≡ (call l (verified_call k p t mtu)).answer) × (l ≡ (call l (verified_call k p t mtu)).memory)
+  pub refused_by_four : (mtu : Option ℕ) → b ≡ true → (Refused 4 ≡ (call l (verified_call k p t mtu)).answer) × (l ≡ (call l (verified_call k p t mtu)).memory)
   refused_by_four mtu y =
       let q = verified_call k p t mtu in
       said l q 4 (refused_four (capacity l) (view l) q u.sound (rw (form k p t mtu).path u.passed.path) u.passed.stamps (four_of mtu ∙ y))
@@ -83,9 +80,9 @@ module _ {k : NodeAddr} {p : Path} {t n : ℕ} {b : Bool} {l : List ℕ} (u : Un
       (rw s u.sound, record { long = g.long; short = g.short }, rw s (ltb-false last_seq (view l).seq u.passed.stamps), sym u.full ∙ y)
 
   -- the call is done
-  pub insert_done : (mtu : PathMtu) (m : List ℕ) (v : VerifiedInsert) → b ≡ false → Bytes m → length m ≡ length l
-      → v ≡ record { weight = path_weight p; examined = (insert_verified k p t (mtu_of mtu) (view_rows n l)).examined }
-      → view_rows (length (insert_verified k p t (mtu_of mtu) (view_rows n l)).state.rows) m ≡ (insert_verified k p t (mtu_of mtu) (view_rows n l)).state
+  pub insert_done : (mtu : Option ℕ) (m : List ℕ) (v : VerifiedInsert) → b ≡ false → Bytes m → length m ≡ length l
+      → v ≡ record { weight = path_weight p; examined = (insert_verified k p t mtu (view_rows n l)).examined }
+      → view_rows (length (insert_verified k p t mtu (view_rows n l)).state.rows) m ≡ (insert_verified k p t mtu (view_rows n l)).state
       → (VerifiedDone v ≡ (call l (verified_call k p t mtu)).answer) × (m ≡ (call l (verified_call k p t mtu)).memory)
   unfolding verifies gives
   insert_done mtu m v y bytes size ev em =

@@ -3,14 +3,12 @@ use mathlib.Core.Path.{◌≡◌, refl, ap, ◌∙◌, subst}
 use Prim.Native.Nat.{ℕ, ◌+◌, ◌*◌, ◌≤◌, ◌<◌}
 use native.Mathlib.Omega.{arith}
 use mathlib.Core.List.{List}
-use mathlib.Core.Option.{Option, none}
+use Rattle.std.specs.Prelude.{Option, None, Some, Result, Ok, Err}
 use mathlib.Core.Bool.{true, false}
 use lib.ListN.{length}
 use Rattle.types.specs.declared.node_addr.NodeAddr.{NodeAddr}
 use Rattle.types.specs.declared.coord.Path.{Path}
 use Rattle.types.specs.Paths.{path_weight}
-use Rattle.types.specs.declared.entry.PathMtu.{PathMtu}
-use Rattle.types.specs.declared.entry.PathMtu.TheVariants.{Unknown, Known}
 use Rattle.types.specs.declared.placed.VerifiedInsert.{VerifiedInsert}
 use Rattle.rules.specs.Records.{Entry, State, main_limit}
 use Rattle.rules.specs.Rows.{row_at, total, main_count}
@@ -23,8 +21,6 @@ use Rattle.rules.specs.Memory.{capacity, view_rows}
 use Rattle.rules.proofs.CallsKeep.{Out, without_key_out, verified_free}
 use Rattle.rules.proofs.LentMemory.{capacity_same}
 use Rattle.rules.specs.Layout.{head_size, number_limit, row_size}
-use Rattle.search.specs.declared.outcome.Search.{Search}
-use Rattle.search.specs.declared.outcome.Search.TheVariants.{At, Absent}
 use Rattle.search.specs.ByKey.{searched}
 use Rattle.refusals.proofs.SoundCalls.{found, missing}
 use Rattle.verification.proofs.NoPlace.{row_inside}
@@ -34,45 +30,44 @@ use Rattle.room.proofs.RoomToFile.{shown, Reached, reached_without}
 use Rattle.filing.specs.InRoom.{Takes}
 use Rattle.filing.proofs.FiledInRoom.{rows_there}
 use Rattle.filing.proofs.RoomSought.{Sought, room_asks, left_state, room_examined, free_main, takes}
-use Rattle.verification.specs.Mtu.{mtu_of}
 use Rattle.verification.specs.Searches.{Within}
 
 -- ---- the row that was searched for
 
-pub within : {n i : ℕ} {a : Search} → a ≡ At i → Within n a → i < n
+pub within : {n i : ℕ} {a : Result ℕ ℕ} → a ≡ Ok i → Within n a → i < n
 within {n} e h = subst (Within n) e h
 
-pub found_within : (n : ℕ) (l : List ℕ) (k : NodeAddr) (a : Search) → a ≡ searched k (view_rows n l).rows → Within n a
-found_within n l k (At i) e = row_inside n l k {r = At i} e refl
-found_within n l k (Absent i) e = tt
+pub found_within : (n : ℕ) (l : List ℕ) (k : NodeAddr) (a : Result ℕ ℕ) → a ≡ searched k (view_rows n l).rows → Within n a
+found_within n l k (Ok i) e = row_inside n l k {r = Ok i} e refl
+found_within n l k (Err i) e = tt
 
 -- ---- the entry
 
-module _ (k : NodeAddr) (p : Path) (t : ℕ) (s : State) {i ttl : ℕ} {a : Search} {x y : Entry} (f : a ≡ searched k s.rows) (et : ttl ≡ s.default_ttl) where
-  pub entry_held : a ≡ At i → x ≡ update p t ttl (row_at i s.rows).entry → y ≡ mark_verified t x → y ≡ verified_entry k p t none s
+module _ (k : NodeAddr) (p : Path) (t : ℕ) (s : State) {i ttl : ℕ} {a : Result ℕ ℕ} {x y : Entry} (f : a ≡ searched k s.rows) (et : ttl ≡ s.default_ttl) where
+  pub entry_held : a ≡ Ok i → x ≡ update p t ttl (row_at i s.rows).entry → y ≡ mark_verified t x → y ≡ verified_entry k p t None s
   unfolding verified_entry
   entry_held g ex ey = ey ∙ rw (ex, et, found k s.rows i a f g)
 
-  pub entry_new : a ≡ Absent i → x ≡ new_entry p t ttl → y ≡ mark_verified t x → y ≡ verified_entry k p t none s
+  pub entry_new : a ≡ Err i → x ≡ new_entry p t ttl → y ≡ mark_verified t x → y ≡ verified_entry k p t None s
   unfolding verified_entry
   entry_new g ex ey = ey ∙ rw (ex, et, missing k s.rows i a f g)
 
-module _ (k : NodeAddr) (p : Path) (t : ℕ) (s : State) {mtu : PathMtu} {x : Entry} (h : x ≡ verified_entry k p t none s) where
-  pub entry_plain : mtu ≡ Unknown → x ≡ verified_entry k p t (mtu_of mtu) s
+module _ (k : NodeAddr) (p : Path) (t : ℕ) (s : State) {mtu : Option ℕ} {x : Entry} (h : x ≡ verified_entry k p t None s) where
+  pub entry_plain : mtu ≡ None → x ≡ verified_entry k p t mtu s
   entry_plain e = rw e h
 
-  pub entry_with_mtu : {m : ℕ} {y : Entry} → mtu ≡ Known m → y ≡ set_mtu m x → y ≡ verified_entry k p t (mtu_of mtu) s
+  pub entry_with_mtu : {m : ℕ} {y : Entry} → mtu ≡ Some m → y ≡ set_mtu m x → y ≡ verified_entry k p t mtu s
   unfolding verified_entry
   entry_with_mtu e g = g ∙ rw (e, h)
 
 -- ---- the key's row out
 
-module _ (k : NodeAddr) (s : State) {i : ℕ} {a : Search} (f : a ≡ searched k s.rows) where
-  pub out_held : {x : State} → a ≡ At i → x ≡ take_out i s → x ≡ without_key k s
+module _ (k : NodeAddr) (s : State) {i : ℕ} {a : Result ℕ ℕ} (f : a ≡ searched k s.rows) where
+  pub out_held : {x : State} → a ≡ Ok i → x ≡ take_out i s → x ≡ without_key k s
   unfolding without_key
   out_held g e = e ∙ rw (found k s.rows i a f g)
 
-  pub out_absent : a ≡ Absent i → s ≡ without_key k s
+  pub out_absent : a ≡ Err i → s ≡ without_key k s
   unfolding without_key
   out_absent g = rw (missing k s.rows i a f g)
 

@@ -1,15 +1,8 @@
 -- A path MTU that a verified insert sets, if it sets one.
-use Rattle.std.specs.Prelude.{ℕ}
-use Rattle.std.proofs.Math.Option.{Option, none, some}
-use Rattle.types.specs.declared.entry.PathMtu.{PathMtu}
-use Rattle.types.specs.declared.entry.PathMtu.TheVariants.{Unknown, Known}
+use Rattle.std.specs.Prelude.{ℕ, Option, None, Some}
 use Rattle.rules.specs.Records.{Entry}
 use Rattle.rules.specs.Entries.{set_mtu}
 
-abbrev pub mtu_of : PathMtu → Option ℕ
-mtu_of Unknown = none
-mtu_of (Known m) = some m
-
-abbrev pub given_mtu : PathMtu → Entry → Entry
-given_mtu Unknown e = e
-given_mtu (Known m) e = set_mtu m e
+abbrev pub given_mtu : Option ℕ → Entry → Entry
+given_mtu None e = e
+given_mtu (Some m) e = set_mtu m e

@@ -1,9 +1,7 @@
 -- A row that was searched for.
-use Rattle.std.specs.Prelude.{ℕ, ◌<◌}
-use Rattle.search.specs.declared.outcome.Search.{Search}
-use Rattle.search.specs.declared.outcome.Search.TheVariants.{At, Absent}
+use Rattle.std.specs.Prelude.{ℕ, ◌<◌, Result, Ok, Err}
 
 -- a row that was found is one of n
-abbrev pub Within : ℕ → Search → Type 0
-Within n (At i) = i < n
-Within n (Absent i) = Unit {0}
+abbrev pub Within : ℕ → Result ℕ ℕ → Type 0
+Within n (Ok i) = i < n
+Within n (Err i) = Unit {0}

@@ -11,11 +11,10 @@ use crate::insert::file_verified;
 use crate::no_place::no_place_for;
 use types::answers::VerifiedAnswer;
 use types::coord::Path;
-use types::entry::PathMtu;
 use types::node_addr::NodeAddr;
 
 // Both forms: refused by 2, 3 or 4, or done.
-fn verify(state: &mut [u8], key: NodeAddr, path: Path, time: u64, mtu: PathMtu) -> VerifiedAnswer
+fn verify(state: &mut [u8], key: NodeAddr, path: Path, time: u64, mtu: Option<u16>) -> VerifiedAnswer
     requires { sound (capacity state.old) (view state.old) ≡ true }
     ensures { (verified_said result ≡ (call state.old (verified_call key path time mtu)).answer) × (state.new ≡ (call state.old (verified_call key path time mtu)).memory) }
 {
@@ -39,7 +38,7 @@ pub fn insert_verified_unchecked(
     requires { sound (capacity state.old) (view state.old) ≡ true }
     ensures { (verified_said result ≡ (call state.old (InsertVerified key path time)).answer) × (state.new ≡ (call state.old (InsertVerified key path time)).memory) }
 {
-    verify(state, key, path, time, PathMtu::Unknown)
+    verify(state, key, path, time, None)
 }
 
 pub fn insert_verified(state: &mut [u8], key: NodeAddr, path: Path, time: u64) -> VerifiedAnswer
@@ -61,7 +60,7 @@ pub fn insert_verified_with_path_mtu_unchecked(
     requires { sound (capacity state.old) (view state.old) ≡ true }
     ensures { (verified_said result ≡ (call state.old (InsertVerifiedWithPathMtu key path time mtu)).answer) × (state.new ≡ (call state.old (InsertVerifiedWithPathMtu key path time mtu)).memory) }
 {
-    verify(state, key, path, time, PathMtu::Known(mtu))
+    verify(state, key, path, time, Some(mtu))
 }
 
 pub fn insert_verified_with_path_mtu(

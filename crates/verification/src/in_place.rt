@@ -1,5 +1,5 @@
 // A verified insert of a key whose row is in main, with room there once the row is out: the row is written again where it stands.
-ghost use Rattle.std.specs.Prelude.{◌≡◌, true, ◌&&◌, ◌+◌, ◌*◌, ◌-◌, ◌≤◌, ◌<◌, min, ltb, length};
+ghost use Rattle.std.specs.Prelude.{◌≡◌, true, ◌&&◌, ◌+◌, ◌*◌, ◌-◌, ◌≤◌, ◌<◌, min, ltb, length, Ok};
 ghost use Rattle.types.specs.declared.node_addr.NodeAddr.{NodeAddr as Address};
 ghost use Rattle.types.specs.Paths.{path_places};
 ghost use Rattle.types.specs.Values.{largest_number};
@@ -12,9 +12,8 @@ ghost use Rattle.rules.specs.Room.{has_room, take_out, file_new};
 ghost use Rattle.rules.specs.Placement.{verified_entry};
 ghost use Rattle.rules.specs.Memory.{capacity, view_rows};
 ghost use Rattle.rules.specs.Layout.{head_size, row_size};
-ghost use Rattle.search.specs.declared.outcome.Search.TheVariants.{At};
 ghost use Rattle.search.specs.ByKey.{searched};
-ghost use Rattle.verification.specs.Mtu.{mtu_of, given_mtu};
+ghost use Rattle.verification.specs.Mtu.{given_mtu};
 
 use entries::times::{VERIFIED_TTL_MS, add_times};
 use filing::refile::update_in_place;
@@ -22,7 +21,6 @@ use memory::codes::{PROBATION, SOME_MTU, VERIFIED};
 use memory::{head, row};
 use room::closed_form::{cut_to_bound, has_room, main_len};
 use types::coord::Path;
-use types::entry::PathMtu;
 
 // Row i's entry becomes Verified.
 fn mark_verified(state: &mut [u8], n: usize, i: usize, time: u64)
@@ -34,13 +32,13 @@ fn mark_verified(state: &mut [u8], n: usize, i: usize, time: u64)
 }
 
 // Row i's entry gets the MTU, if one is given.
-fn set_given_mtu(state: &mut [u8], n: usize, i: usize, mtu: PathMtu)
+fn set_given_mtu(state: &mut [u8], n: usize, i: usize, mtu: Option<u16>)
     requires { (i < n) × (head_size + n * row_size ≤ length state.old) }
     ensures { view_rows n state.new ≡ rewrite (given_mtu mtu) i (view_rows n state.old) }
 {
     match mtu {
-        PathMtu::Unknown => {}
-        PathMtu::Known(m) => row::set_mtu(state, n, i, SOME_MTU, m),
+        None => {}
+        Some(m) => row::set_mtu(state, n, i, SOME_MTU, m),
     }
 }
 
@@ -87,11 +85,11 @@ pub fn verify_in_place(
     i: usize,
     path: Path,
     time: u64,
-    mtu: PathMtu,
+    mtu: Option<u16>,
     weight: u8,
 )
     requires { (sound (capacity state.old) (view_rows n state.old) ≡ true) × (i < n) × (in_main (row_at i (view_rows n state.old).rows) ≡ true) × ((view_rows n state.old).seq < largest_number) × (path.len ≤ path_places) }
-    ensures { (k : Address) → searched k (view_rows n state.old).rows ≡ At i → view_rows n state.new ≡ file_new k (verified_entry k path time (mtu_of mtu) (view_rows n state.old)) weight by_use (take_out i (view_rows n state.old)) }
+    ensures { (k : Address) → searched k (view_rows n state.old).rows ≡ Ok i → view_rows n state.new ≡ file_new k (verified_entry k path time mtu (view_rows n state.old)) weight by_use (take_out i (view_rows n state.old)) }
 {
     let ttl = head::default_ttl(state);
     let stored = stored_without(state, n, i) + raw::numbers::wide(weight);

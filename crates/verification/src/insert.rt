@@ -1,6 +1,5 @@
 // A verified insert, done.
-ghost use Rattle.std.specs.Prelude.{◌≡◌, true, false, ◌+◌, ◌*◌, ◌≤◌, length};
-ghost use Rattle.std.proofs.Math.Option.{none};
+ghost use Rattle.std.specs.Prelude.{◌≡◌, true, false, ◌+◌, ◌*◌, ◌≤◌, length, None};
 ghost use Rattle.types.specs.declared.node_addr.NodeAddr.{NodeAddr as Address};
 ghost use Rattle.types.specs.Paths.{path_weight};
 ghost use Rattle.rules.specs.Sound.{sound};
@@ -11,7 +10,6 @@ ghost use Rattle.rules.specs.Layout.{head_size, row_size};
 ghost use Rattle.search.specs.ByKey.{searched};
 ghost use Rattle.filing.specs.Filings.{Writable};
 ghost use Rattle.entries.specs.NewEntries.{entry_from};
-ghost use Rattle.verification.specs.Mtu.{mtu_of};
 ghost use Rattle.verification.specs.Searches.{Within};
 
 use crate::in_place::{has_room_without, verify_in_place};
@@ -21,21 +19,19 @@ use memory::codes::BY_USE;
 use memory::rows::remove_row;
 use room::victims::make_room;
 use search::keys::search;
-use search::outcome::Search;
 use types::coord::Path;
-use types::entry::PathMtu;
 use types::node_addr::NodeAddr;
 use types::placed::VerifiedInsert;
 
 // Without a path MTU: the entry of the row that was found (expired too), updated, or a new one; marked Verified.
-fn plain_entry(state: &[u8], n: usize, at: Search, path: Path, time: u64) -> NewEntry
+fn plain_entry(state: &[u8], n: usize, at: Result<usize, usize>, path: Path, time: u64) -> NewEntry
     requires { (head_size + n * row_size ≤ length state.now) × Within n at }
-    ensures { ((k : Address) → at ≡ searched k (view_rows n state.now).rows → entry_from result ≡ verified_entry k path time none (view_rows n state.now)) × (result.path ≡ path) }
+    ensures { ((k : Address) → at ≡ searched k (view_rows n state.now).rows → entry_from result ≡ verified_entry k path time None (view_rows n state.now)) × (result.path ≡ path) }
 {
     let ttl = memory::head::default_ttl(state);
     match at {
-        Search::At(i) => verified_entry(updated_entry(state, n, i, path, time, ttl), time),
-        Search::Absent(_) => verified_entry(new_entry(path, time, ttl), time),
+        Ok(i) => verified_entry(updated_entry(state, n, i, path, time, ttl), time),
+        Err(_) => verified_entry(new_entry(path, time, ttl), time),
     }
 }
 
@@ -43,32 +39,32 @@ fn plain_entry(state: &[u8], n: usize, at: Search, path: Path, time: u64) -> New
 fn verified_entry_of(
     state: &[u8],
     n: usize,
-    at: Search,
+    at: Result<usize, usize>,
     path: Path,
     time: u64,
-    mtu: PathMtu,
+    mtu: Option<u16>,
 ) -> NewEntry
     requires { (head_size + n * row_size ≤ length state.now) × Within n at }
-    ensures { ((k : Address) → at ≡ searched k (view_rows n state.now).rows → entry_from result ≡ verified_entry k path time (mtu_of mtu) (view_rows n state.now)) × (result.path ≡ path) }
+    ensures { ((k : Address) → at ≡ searched k (view_rows n state.now).rows → entry_from result ≡ verified_entry k path time mtu (view_rows n state.now)) × (result.path ≡ path) }
 {
     let e = plain_entry(state, n, at, path, time);
     match mtu {
-        PathMtu::Unknown => e,
-        PathMtu::Known(m) => with_mtu(e, m),
+        None => e,
+        Some(m) => with_mtu(e, m),
     }
 }
 
 // The row that was found leaves; how many rows stay.
-fn take_out(state: &mut [u8], n: usize, at: Search) -> usize
+fn take_out(state: &mut [u8], n: usize, at: Result<usize, usize>) -> usize
     requires { (sound (capacity state.old) (view_rows n state.old) ≡ true) × Within n at }
     ensures { (k : Address) → at ≡ searched k (view_rows n state.old).rows → view_rows result state.new ≡ without_key k (view_rows n state.old) }
 {
     match at {
-        Search::At(i) => {
+        Ok(i) => {
             remove_row(state, n, i);
             n - 1
         }
-        Search::Absent(_) => n,
+        Err(_) => n,
     }
 }
 
@@ -76,14 +72,14 @@ fn take_out(state: &mut [u8], n: usize, at: Search) -> usize
 fn file_anew(
     state: &mut [u8],
     n: usize,
-    at: Search,
+    at: Result<usize, usize>,
     key: NodeAddr,
     path: Path,
     time: u64,
-    mtu: PathMtu,
+    mtu: Option<u16>,
 ) -> VerifiedInsert
     requires { (sound (capacity state.old) (view_rows n state.old) ≡ true) × Writable path × ((view_rows n state.old).seq ≤ last_seq) × (no_place_for (capacity state.old) (view_rows n state.old) (record { key = key; path = path; time = time }) ≡ false) × (at ≡ searched key (view_rows n state.old).rows) }
-    ensures { (result ≡ record { weight = path_weight path; examined = (insert_verified key path time (mtu_of mtu) (view_rows n state.old)).examined }) × (view_rows (length (insert_verified key path time (mtu_of mtu) (view_rows n state.old)).state.rows) state.new ≡ (insert_verified key path time (mtu_of mtu) (view_rows n state.old)).state) }
+    ensures { (result ≡ record { weight = path_weight path; examined = (insert_verified key path time mtu (view_rows n state.old)).examined }) × (view_rows (length (insert_verified key path time mtu (view_rows n state.old)).state.rows) state.new ≡ (insert_verified key path time mtu (view_rows n state.old)).state) }
 {
     let e = verified_entry_of(state, n, at, path, time, mtu);
     let rows = take_out(state, n, at);
@@ -114,14 +110,14 @@ pub fn file_verified(
     key: NodeAddr,
     path: Path,
     time: u64,
-    mtu: PathMtu,
+    mtu: Option<u16>,
 ) -> VerifiedInsert
     requires { (sound (capacity state.old) (view_rows n state.old) ≡ true) × Writable path × ((view_rows n state.old).seq ≤ last_seq) × (no_place_for (capacity state.old) (view_rows n state.old) (record { key = key; path = path; time = time }) ≡ false) }
-    ensures { (result ≡ record { weight = path_weight path; examined = (insert_verified key path time (mtu_of mtu) (view_rows n state.old)).examined }) × (view_rows (length (insert_verified key path time (mtu_of mtu) (view_rows n state.old)).state.rows) state.new ≡ (insert_verified key path time (mtu_of mtu) (view_rows n state.old)).state) }
+    ensures { (result ≡ record { weight = path_weight path; examined = (insert_verified key path time mtu (view_rows n state.old)).examined }) × (view_rows (length (insert_verified key path time mtu (view_rows n state.old)).state.rows) state.new ≡ (insert_verified key path time mtu (view_rows n state.old)).state) }
 {
     let at = search(state, n, key);
     match at {
-        Search::At(i) => {
+        Ok(i) => {
             let weight = path.weight();
             if has_room_without(state, n, i, weight) {
                 verify_in_place(state, n, i, path, time, mtu, weight as u8);
@@ -132,6 +128,6 @@ pub fn file_verified(
             }
             file_anew(state, n, at, key, path, time, mtu)
         }
-        Search::Absent(_) => file_anew(state, n, at, key, path, time, mtu),
+        Err(_) => file_anew(state, n, at, key, path, time, mtu),
     }
 }

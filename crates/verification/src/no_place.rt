@@ -10,7 +10,6 @@ use memory::codes::PROBATION;
 use memory::head;
 use room::closed_form::{main_len, room_can_be_made};
 use search::keys::search;
-use search::outcome::Search;
 use types::coord::Path;
 use types::node_addr::NodeAddr;
 
@@ -20,8 +19,8 @@ fn key_in_main(state: &[u8], n: usize, key: NodeAddr) -> bool
 {
     let at = search(state, n, key);
     match at {
-        Search::At(i) => memory::row::place(state, n, i) < PROBATION,
-        Search::Absent(_) => false,
+        Ok(i) => memory::row::place(state, n, i) < PROBATION,
+        Err(_) => false,
     }
 }
 

@@ -13,14 +13,14 @@ search-at-requires c = searchable _ _ c.requires c.row_count-n.ensures
 pub save_row-requires : goal.save_row-requires
 save_row-requires c =
     let searched : Searched c.args.key c.row_count-n.result c.search-at.result c.args.state.now = record { sound = c.requires; counted = c.row_count-n.ensures; result = c.search-at.ensures } in
-    row_inside searched _ c.in-At.is
+    row_inside searched _ c.in-Ok.is
 
-pub returns-in-At : goal.returns-in-At
-returns-in-At c =
+pub returns-in-Ok : goal.returns-in-Ok
+returns-in-Ok c =
     let searched : Searched c.args.key c.row_count-n.result c.search-at.result c.args.state.now = record { sound = c.requires; counted = c.row_count-n.ensures; result = c.search-at.ensures } in
-    c.save_row.ensures ∙ row_taken_lem searched _ _ c.in-At.is
+    c.save_row.ensures ∙ row_taken_lem searched _ _ c.in-Ok.is
 
-pub returns-in-Absent : goal.returns-in-Absent
-returns-in-Absent c =
+pub returns-in-Err : goal.returns-in-Err
+returns-in-Err c =
     let searched : Searched c.args.key c.row_count-n.result c.search-at.result c.args.state.now = record { sound = c.requires; counted = c.row_count-n.ensures; result = c.search-at.ensures } in
-    row_left searched _ _ c.in-Absent.is
+    row_left searched _ _ c.in-Err.is

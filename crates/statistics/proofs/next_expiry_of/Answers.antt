@@ -1,6 +1,6 @@
 -- soonest is the smallest expiry of the rows from i on, which are never none, as i starts at the last row.
 use mathlib.Core.Path.{◌≡◌, sym, ap, ◌∙◌}
-use mathlib.Core.Option.{some}
+use Rattle.std.specs.Prelude.{Some}
 use Prim.Native.Nat.{ℕ, ◌+◌, ◌-◌, min}
 use native.Mathlib.Omega.{arith}
 use Rattle.rules.specs.Calls.{ExpiryGiven}
@@ -17,13 +17,13 @@ returns-then-n-eq0 c =
     rw e (ap ExpiryGiven (sym (expiry_none c.args.state.now)))
 
 pub loop-i-init : goal.loop-i-init
-loop-i-init c = (omega arith, expiry_last (c.args.n - 1) (view_rows c.args.n c.args.state.now).rows (omega (arith, view_length c.args.n c.args.state.now)) ∙ ap some (sym c.expires_at-soonest.ensures))
+loop-i-init c = (omega arith, expiry_last (c.args.n - 1) (view_rows c.args.n c.args.state.now).rows (omega (arith, view_length c.args.n c.args.state.now)) ∙ ap Some (sym c.expires_at-soonest.ensures))
 
 pub loop-i-preserved : goal.loop-i-preserved
 loop-i-preserved c =
     let l = c.loop-i in
     let e : l.i - 1 + 1 ≡ l.i = omega arith in
-    let z = ap (λ (x : ℕ). some (min x l.soonest)) (sym c.expires_at.ensures) ∙ ap some (sym c.lesser-soonest.ensures) in
+    let z = ap (λ (x : ℕ). Some (min x l.soonest)) (sym c.expires_at.ensures) ∙ ap Some (sym c.lesser-soonest.ensures) in
     (omega arith, expiry_turn (l.i - 1) l.soonest (view_rows c.args.n c.args.state.now).rows (omega (arith, view_length c.args.n c.args.state.now)) (rw e l.invariant.1) ∙ z)
 
 pub returns : goal.returns

@@ -21,19 +21,19 @@ search-at-requires c = searchable _ _ c.requires c.row_count-n.ensures
 pub demote_at-requires : goal.demote_at-requires
 demote_at-requires c =
     let key_searched : Searched c.args.key c.row_count-n.result c.search-at.result c.args.state.now = record { sound = c.requires; counted = c.row_count-n.ensures; outcome = c.search-at.ensures } in
-    demote_asked c.seq.ensures c.if-seq-gt-LAST_SEQ.false (held key_searched c.in-At.is)
+    demote_asked c.seq.ensures c.if-seq-gt-LAST_SEQ.false (held key_searched c.in-Ok.is)
 
-pub returns-in-At : goal.returns-in-At
+pub returns-in-Ok : goal.returns-in-Ok
 unfolding demote_said
-returns-in-At c =
+returns-in-Ok c =
     let key_searched : Searched c.args.key c.row_count-n.result c.search-at.result c.args.state.now = record { sound = c.requires; counted = c.row_count-n.ensures; outcome = c.search-at.ensures } in
-    let bytes = all_bytes c.demote_at.new.state (λ i. (c.slice_known-in-At-1.given i).fits) in
+    let bytes = all_bytes c.demote_at.new.state (λ i. (c.slice_known-in-Ok-1.given i).fits) in
     demoted_at_lem c.seq.ensures c.if-seq-gt-LAST_SEQ.false
-    (held key_searched c.in-At.is) _ bytes c.demote_at.auto.state c.demote_at.ensures
+    (held key_searched c.in-Ok.is) _ bytes c.demote_at.auto.state c.demote_at.ensures
 
-pub returns-in-Absent : goal.returns-in-Absent
+pub returns-in-Err : goal.returns-in-Err
 unfolding demote_said
-returns-in-Absent c =
+returns-in-Err c =
     let key_searched : Searched c.args.key c.row_count-n.result c.search-at.result c.args.state.now = record { sound = c.requires; counted = c.row_count-n.ensures; outcome = c.search-at.ensures } in
     let bytes = all_bytes c.args.state.now (λ i. (c.slice_known-1.given i).fits) in
-    demoted_absent c.seq.ensures c.if-seq-gt-LAST_SEQ.false (absent key_searched c.in-Absent.is) bytes
+    demoted_absent c.seq.ensures c.if-seq-gt-LAST_SEQ.false (absent key_searched c.in-Err.is) bytes

@@ -16,30 +16,30 @@ search-at-requires c = searchable _ _ c.requires c.row_count-n.ensures
 pub is_expired-requires : goal.is_expired-requires
 is_expired-requires c =
     let key_searched : Searched c.args.key c.row_count-n.result c.search-at.result c.args.state.now = record { sound = c.requires; counted = c.row_count-n.ensures; outcome = c.search-at.ensures } in
-    row_asked (held key_searched c.in-At.is)
+    row_asked (held key_searched c.in-Ok.is)
 
 pub returns-then-is_expired : goal.returns-then-is_expired
 returns-then-is_expired c =
     let key_searched : Searched c.args.key c.row_count-n.result c.search-at.result c.args.state.now = record { sound = c.requires; counted = c.row_count-n.ensures; outcome = c.search-at.ensures } in
     let bytes : Bytes c.args.state.now = all_bytes c.args.state.now (λ i. (c.shared_slice_known-1.given i).fits) in
-    let f = held key_searched c.in-At.is in
+    let f = held key_searched c.in-Ok.is in
     (expired_stands _ _ f (sym c.is_expired.ensures ∙ c.if-is_expired.true) c.no_path.ensures, get_left f _ bytes)
 
 pub path_place-requires : goal.path_place-requires
 path_place-requires c =
     let key_searched : Searched c.args.key c.row_count-n.result c.search-at.result c.args.state.now = record { sound = c.requires; counted = c.row_count-n.ensures; outcome = c.search-at.ensures } in
-    row_asked (held key_searched c.in-At.is)
+    row_asked (held key_searched c.in-Ok.is)
 
 pub returns-else-is_expired : goal.returns-else-is_expired
 returns-else-is_expired c =
     let key_searched : Searched c.args.key c.row_count-n.result c.search-at.result c.args.state.now = record { sound = c.requires; counted = c.row_count-n.ensures; outcome = c.search-at.ensures } in
     let bytes : Bytes c.args.state.now = all_bytes c.args.state.now (λ i. (c.shared_slice_known-1.given i).fits) in
-    let f = held key_searched c.in-At.is in
+    let f = held key_searched c.in-Ok.is in
     (path_stands _ _ f (sym c.is_expired.ensures ∙ c.if-is_expired.false) c.path_place.ensures, get_left f _ bytes)
 
-pub returns-in-Absent : goal.returns-in-Absent
-returns-in-Absent c =
+pub returns-in-Err : goal.returns-in-Err
+returns-in-Err c =
     let key_searched : Searched c.args.key c.row_count-n.result c.search-at.result c.args.state.now = record { sound = c.requires; counted = c.row_count-n.ensures; outcome = c.search-at.ensures } in
     let bytes : Bytes c.args.state.now = all_bytes c.args.state.now (λ i. (c.shared_slice_known-1.given i).fits) in
-    let f = absent key_searched c.in-Absent.is in
-    (absent_stands _ _ f c.no_path-in-Absent.ensures, get_left f _ bytes)
+    let f = absent key_searched c.in-Err.is in
+    (absent_stands _ _ f c.no_path-in-Err.ensures, get_left f _ bytes)

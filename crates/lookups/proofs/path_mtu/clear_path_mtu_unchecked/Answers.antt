@@ -14,16 +14,16 @@ search-at-requires c = searchable _ _ c.requires c.row_count-n.ensures
 pub drop_mtu-requires : goal.drop_mtu-requires
 drop_mtu-requires c =
     let key_searched : Searched c.args.key c.row_count-n.result c.search-at.result c.args.state.now = record { sound = c.requires; counted = c.row_count-n.ensures; outcome = c.search-at.ensures } in
-    row_asked (held key_searched c.in-At.is)
+    row_asked (held key_searched c.in-Ok.is)
 
-pub returns-in-At : goal.returns-in-At
-returns-in-At c =
+pub returns-in-Ok : goal.returns-in-Ok
+returns-in-Ok c =
     let key_searched : Searched c.args.key c.row_count-n.result c.search-at.result c.args.state.now = record { sound = c.requires; counted = c.row_count-n.ensures; outcome = c.search-at.ensures } in
-    let bytes = all_bytes c.drop_mtu.new.state (λ i. (c.slice_known-in-At-1.given i).fits) in
-    clear_at (held key_searched c.in-At.is) _ bytes c.drop_mtu.auto.state c.drop_mtu.ensures
+    let bytes = all_bytes c.drop_mtu.new.state (λ i. (c.slice_known-in-Ok-1.given i).fits) in
+    clear_at (held key_searched c.in-Ok.is) _ bytes c.drop_mtu.auto.state c.drop_mtu.ensures
 
-pub returns-in-Absent : goal.returns-in-Absent
-returns-in-Absent c =
+pub returns-in-Err : goal.returns-in-Err
+returns-in-Err c =
     let key_searched : Searched c.args.key c.row_count-n.result c.search-at.result c.args.state.now = record { sound = c.requires; counted = c.row_count-n.ensures; outcome = c.search-at.ensures } in
     let bytes = all_bytes c.args.state.now (λ i. (c.slice_known-1.given i).fits) in
-    clear_absent (absent key_searched c.in-Absent.is) bytes
+    clear_absent (absent key_searched c.in-Err.is) bytes

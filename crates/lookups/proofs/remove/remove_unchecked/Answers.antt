@@ -14,21 +14,21 @@ search-at-requires c = searchable _ _ c.requires c.row_count-n.ensures
 pub load_entry-entry-requires : goal.load_entry-entry-requires
 load_entry-entry-requires c =
     let key_searched : Searched c.args.key c.row_count-n.result c.search-at.result c.args.state.now = record { sound = c.requires; counted = c.row_count-n.ensures; outcome = c.search-at.ensures } in
-    row_asked (held key_searched c.in-At.is)
+    row_asked (held key_searched c.in-Ok.is)
 
 pub remove_row-requires : goal.remove_row-requires
 remove_row-requires c =
     let key_searched : Searched c.args.key c.row_count-n.result c.search-at.result c.args.state.now = record { sound = c.requires; counted = c.row_count-n.ensures; outcome = c.search-at.ensures } in
-    removal_asked (held key_searched c.in-At.is)
+    removal_asked (held key_searched c.in-Ok.is)
 
-pub returns-in-At : goal.returns-in-At
-returns-in-At c =
+pub returns-in-Ok : goal.returns-in-Ok
+returns-in-Ok c =
     let key_searched : Searched c.args.key c.row_count-n.result c.search-at.result c.args.state.now = record { sound = c.requires; counted = c.row_count-n.ensures; outcome = c.search-at.ensures } in
-    let bytes = all_bytes c.remove_row.new.state (λ i. (c.slice_known-in-At-1.given i).fits) in
-    removed_at (held key_searched c.in-At.is) _ _ bytes c.remove_row.auto.state c.load_entry-entry.ensures c.remove_row.ensures
+    let bytes = all_bytes c.remove_row.new.state (λ i. (c.slice_known-in-Ok-1.given i).fits) in
+    removed_at (held key_searched c.in-Ok.is) _ _ bytes c.remove_row.auto.state c.load_entry-entry.ensures c.remove_row.ensures
 
-pub returns-in-Absent : goal.returns-in-Absent
-returns-in-Absent c =
+pub returns-in-Err : goal.returns-in-Err
+returns-in-Err c =
     let key_searched : Searched c.args.key c.row_count-n.result c.search-at.result c.args.state.now = record { sound = c.requires; counted = c.row_count-n.ensures; outcome = c.search-at.ensures } in
     let bytes = all_bytes c.args.state.now (λ i. (c.slice_known-1.given i).fits) in
-    removed_absent (absent key_searched c.in-Absent.is) _ bytes c.blank_entry.ensures
+    removed_absent (absent key_searched c.in-Err.is) _ bytes c.blank_entry.ensures

@@ -14,16 +14,16 @@ search-at-requires c = searchable _ _ c.requires c.row_count-n.ensures
 pub touch_at-requires : goal.touch_at-requires
 touch_at-requires c =
     let key_searched : Searched c.args.key c.row_count-n.result c.search-at.result c.args.state.now = record { sound = c.requires; counted = c.row_count-n.ensures; outcome = c.search-at.ensures } in
-    removal_asked (held key_searched c.in-At.is)
+    removal_asked (held key_searched c.in-Ok.is)
 
-pub returns-in-At : goal.returns-in-At
-returns-in-At c =
+pub returns-in-Ok : goal.returns-in-Ok
+returns-in-Ok c =
     let key_searched : Searched c.args.key c.row_count-n.result c.search-at.result c.args.state.now = record { sound = c.requires; counted = c.row_count-n.ensures; outcome = c.search-at.ensures } in
-    let bytes = all_bytes c.touch_at.new.state (λ i. (c.slice_known-in-At-1.given i).fits) in
-    touched_at_lem _ (held key_searched c.in-At.is) _ _ bytes c.touch_at.auto.state c.touch_at.ensures
+    let bytes = all_bytes c.touch_at.new.state (λ i. (c.slice_known-in-Ok-1.given i).fits) in
+    touched_at_lem _ (held key_searched c.in-Ok.is) _ _ bytes c.touch_at.auto.state c.touch_at.ensures
 
-pub returns-in-Absent : goal.returns-in-Absent
-returns-in-Absent c =
+pub returns-in-Err : goal.returns-in-Err
+returns-in-Err c =
     let key_searched : Searched c.args.key c.row_count-n.result c.search-at.result c.args.state.now = record { sound = c.requires; counted = c.row_count-n.ensures; outcome = c.search-at.ensures } in
     let bytes = all_bytes c.args.state.now (λ i. (c.slice_known-1.given i).fits) in
-    touched_absent _ (absent key_searched c.in-Absent.is) bytes
+    touched_absent _ (absent key_searched c.in-Err.is) bytes

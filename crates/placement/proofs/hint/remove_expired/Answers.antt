@@ -10,32 +10,32 @@ search-at-requires c = search search_asks
 pub is_expired-requires : goal.is_expired-requires
 is_expired-requires c =
     let looked : Searched c.args.key c.args.n c.search-at.result c.args.state.now = record { sound = c.requires; found = c.search-at.ensures } in
-    row_there (holds_found looked c.in-At.is)
+    row_there (holds_found looked c.in-Ok.is)
 
 pub remove_row-requires : goal.remove_row-requires
 remove_row-requires c =
     let looked : Searched c.args.key c.args.n c.search-at.result c.args.state.now = record { sound = c.requires; found = c.search-at.ensures } in
-    out_asks (holds_found looked c.in-At.is)
+    out_asks (holds_found looked c.in-Ok.is)
 
 pub overflow_sub-result : goal.overflow_sub-result
 overflow_sub-result c =
     let looked : Searched c.args.key c.args.n c.search-at.result c.args.state.now = record { sound = c.requires; found = c.search-at.ensures } in
-    omega (arith, row_there (holds_found looked c.in-At.is))
+    omega (arith, row_there (holds_found looked c.in-Ok.is))
 
 pub returns-then-is_expired : goal.returns-then-is_expired
 returns-then-is_expired c =
     let looked : Searched c.args.key c.args.n c.search-at.result c.args.state.now = record { sound = c.requires; found = c.search-at.ensures } in
     let s = looked in
-    let at = c.in-At.is in
+    let at = c.in-Ok.is in
     new_expired s at c.is_expired.ensures c.if-is_expired.true
     (record { holds = holds_found s at; size = c.remove_row.auto.state; state = c.remove_row.ensures })
 
 pub returns-else-is_expired : goal.returns-else-is_expired
 returns-else-is_expired c =
     let looked : Searched c.args.key c.args.n c.search-at.result c.args.state.now = record { sound = c.requires; found = c.search-at.ensures } in
-    held_here looked c.in-At.is c.is_expired.ensures c.if-is_expired.false
+    held_here looked c.in-Ok.is c.is_expired.ensures c.if-is_expired.false
 
-pub returns-in-Absent : goal.returns-in-Absent
-returns-in-Absent c =
+pub returns-in-Err : goal.returns-in-Err
+returns-in-Err c =
     let looked : Searched c.args.key c.args.n c.search-at.result c.args.state.now = record { sound = c.requires; found = c.search-at.ensures } in
-    new_missing looked _ c.in-Absent.is
+    new_missing looked _ c.in-Err.is

@@ -2,14 +2,14 @@
 use mathlib.Core.Path.{refl, ◌∙◌}
 use Rattle.rules.specs.Refusals.{bad_path}
 use Rattle.refusals.proofs.SoundCalls.{shown_seq}
-use Rattle.refusals.proofs.WriteRefusals.{bad_two, spent_three, none_zero}
+use Rattle.refusals.proofs.WriteRefusals.{bad_length, stamps_spent, stamps_left}
 use Rattle.refusals.proofs.write.write_refusal.Goals as goal
 
 pub returns-then-len : goal.returns-then-len
-returns-then-len c = unfold bad_path in bad_two _ _ refl c.if-len.true
+returns-then-len c = unfold bad_path in bad_length _ _ refl c.if-len.true
 
 pub returns-then-seq-gt-LAST_SEQ : goal.returns-then-seq-gt-LAST_SEQ
-returns-then-seq-gt-LAST_SEQ c = unfold bad_path in spent_three _ _ refl c.if-len.false (c.seq.ensures ∙ shown_seq _) c.if-seq-gt-LAST_SEQ.true
+returns-then-seq-gt-LAST_SEQ c = unfold bad_path in stamps_spent _ _ refl c.if-len.false (c.seq.ensures ∙ shown_seq _) c.if-seq-gt-LAST_SEQ.true
 
 pub returns : goal.returns
-returns c = unfold bad_path in none_zero _ _ refl c.if-len.false (c.seq.ensures ∙ shown_seq _) c.if-seq-gt-LAST_SEQ.false
+returns c = unfold bad_path in stamps_left _ _ refl c.if-len.false (c.seq.ensures ∙ shown_seq _) c.if-seq-gt-LAST_SEQ.false

@@ -12,44 +12,44 @@ loop-victim-init c =
     let o = c.lowest_stamp-lowest.ensures in
     (evict_start _ _ c.max_entries.ensures c.probation_bound-bound.ensures o p.0 p.1 p.2 c.stored_weight-stored.ensures c.if-count-bound.false, o.row)
 
-pub returns-in-Nothing : goal.returns-in-Nothing
-returns-in-Nothing c =
-    let v = c.loop-victim.invariant in evict_ends v.0 v.1 c.in-Nothing.is
+pub returns-in-None : goal.returns-in-None
+returns-in-None c =
+    let v = c.loop-victim.invariant in evict_ends v.0 v.1 c.in-None.is
 
 pub overflow_add-examined : goal.overflow_add-examined
 overflow_add-examined c =
-    let up : Taken c.args.n c.loop-victim.examined c.stored_weight-stored.result c.in-At.i c.args.state.now c.loop-victim.state = let v = c.loop-victim.invariant in taken v.0 v.1 c.in-At.is in
+    let up : Taken c.args.n c.loop-victim.examined c.stored_weight-stored.result c.in-Some.i c.args.state.now c.loop-victim.state = let v = c.loop-victim.invariant in taken v.0 v.1 c.in-Some.is in
     omega (arith, key_fits up)
 
 pub is_stale-requires : goal.is_stale-requires
 is_stale-requires c =
-    let up : Taken c.args.n c.loop-victim.examined c.stored_weight-stored.result c.in-At.i c.args.state.now c.loop-victim.state = let v = c.loop-victim.invariant in taken v.0 v.1 c.in-At.is in
+    let up : Taken c.args.n c.loop-victim.examined c.stored_weight-stored.result c.in-Some.i c.args.state.now c.loop-victim.state = let v = c.loop-victim.invariant in taken v.0 v.1 c.in-Some.is in
     let u = up in (u.inside, u.going.size)
 
 pub restamp-requires : goal.restamp-requires
 restamp-requires c =
-    let up : Taken c.args.n c.loop-victim.examined c.stored_weight-stored.result c.in-At.i c.args.state.now c.loop-victim.state = let v = c.loop-victim.invariant in taken v.0 v.1 c.in-At.is in
+    let up : Taken c.args.n c.loop-victim.examined c.stored_weight-stored.result c.in-Some.i c.args.state.now c.loop-victim.state = let v = c.loop-victim.invariant in taken v.0 v.1 c.in-Some.is in
     restamp_asks up
 
 pub lowest_stamp-again-requires : goal.lowest_stamp-again-requires
 lowest_stamp-again-requires c =
-    let up : Taken c.args.n c.loop-victim.examined c.stored_weight-stored.result c.in-At.i c.args.state.now c.loop-victim.state = let v = c.loop-victim.invariant in taken v.0 v.1 c.in-At.is in
+    let up : Taken c.args.n c.loop-victim.examined c.stored_weight-stored.result c.in-Some.i c.args.state.now c.loop-victim.state = let v = c.loop-victim.invariant in taken v.0 v.1 c.in-Some.is in
     let restamped : Turned c.args.n c.loop-victim.examined c.stored_weight-stored.result c.args.state.now c.loop-victim.state c.restamp.new.state = stale_turn up c.is_stale.ensures c.if-is_stale.true c.restamp.auto.state c.restamp.ensures in
     restamped.going.size
 
 pub loop-victim-smaller : goal.loop-victim-smaller
 loop-victim-smaller c =
-    let up : Taken c.args.n c.loop-victim.examined c.stored_weight-stored.result c.in-At.i c.args.state.now c.loop-victim.state = let v = c.loop-victim.invariant in taken v.0 v.1 c.in-At.is in
+    let up : Taken c.args.n c.loop-victim.examined c.stored_weight-stored.result c.in-Some.i c.args.state.now c.loop-victim.state = let v = c.loop-victim.invariant in taken v.0 v.1 c.in-Some.is in
     let restamped : Turned c.args.n c.loop-victim.examined c.stored_weight-stored.result c.args.state.now c.loop-victim.state c.restamp.new.state = stale_turn up c.is_stale.ensures c.if-is_stale.true c.restamp.auto.state c.restamp.ensures in
     restamped.less
 
 pub loop-victim-preserved : goal.loop-victim-preserved
 loop-victim-preserved c =
-    let up : Taken c.args.n c.loop-victim.examined c.stored_weight-stored.result c.in-At.i c.args.state.now c.loop-victim.state = let v = c.loop-victim.invariant in taken v.0 v.1 c.in-At.is in
+    let up : Taken c.args.n c.loop-victim.examined c.stored_weight-stored.result c.in-Some.i c.args.state.now c.loop-victim.state = let v = c.loop-victim.invariant in taken v.0 v.1 c.in-Some.is in
     let restamped : Turned c.args.n c.loop-victim.examined c.stored_weight-stored.result c.args.state.now c.loop-victim.state c.restamp.new.state = stale_turn up c.is_stale.ensures c.if-is_stale.true c.restamp.auto.state c.restamp.ensures in
     (restamped.going, c.lowest_stamp-again.ensures.row)
 
 pub returns-else-is_stale : goal.returns-else-is_stale
 returns-else-is_stale c =
-    let up : Taken c.args.n c.loop-victim.examined c.stored_weight-stored.result c.in-At.i c.args.state.now c.loop-victim.state = let v = c.loop-victim.invariant in taken v.0 v.1 c.in-At.is in
+    let up : Taken c.args.n c.loop-victim.examined c.stored_weight-stored.result c.in-Some.i c.args.state.now c.loop-victim.state = let v = c.loop-victim.invariant in taken v.0 v.1 c.in-Some.is in
     fresh_yields up c.is_stale.ensures c.if-is_stale.false

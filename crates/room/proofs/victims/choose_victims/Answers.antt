@@ -22,48 +22,48 @@ overflow_add-examined c =
     let step : Came call c.loop-i.left c.loop-i.stored c.loop-i.examined c.next_victim-sought.new.state c.next_victim-sought.result = let v = c.loop-i.invariant in came v.0 v.2 c.next_victim-sought.auto.state c.next_victim-sought.ensures in
     omega (arith, step.keys)
 
-pub returns-in-Nothing : goal.returns-in-Nothing
+pub returns-in-None : goal.returns-in-None
 unfolding chosen_of
-returns-in-Nothing c =
+returns-in-None c =
     let call : Call = record { now = c.args.time; w = c.args.w; n = c.args.n; memory = c.args.state.now; max = c.max_entries-max.result; mains = c.args.lowest.count } in
     let step : Came call c.loop-i.left c.loop-i.stored c.loop-i.examined c.next_victim-sought.new.state c.next_victim-sought.result = let v = c.loop-i.invariant in came v.0 v.2 c.next_victim-sought.auto.state c.next_victim-sought.ensures in
-    (step.none_left c.in-Nothing.is, λ e. contradiction e refl)
+    (step.none_left c.in-None.is, λ e. contradiction e refl)
 
 pub overflow_sub-left : goal.overflow_sub-left
 overflow_sub-left c =
     let call : Call = record { now = c.args.time; w = c.args.w; n = c.args.n; memory = c.args.state.now; max = c.max_entries-max.result; mains = c.args.lowest.count } in
     let step : Came call c.loop-i.left c.loop-i.stored c.loop-i.examined c.next_victim-sought.new.state c.next_victim-sought.result = let v = c.loop-i.invariant in came v.0 v.2 c.next_victim-sought.auto.state c.next_victim-sought.ensures in
-    let victim : Victim call c.loop-i.left c.loop-i.stored (c.loop-i.examined + c.next_victim-sought.result.examined) c.in-At.i c.next_victim-sought.new.state = step.victim c.in-At.is in
+    let victim : Victim call c.loop-i.left c.loop-i.stored (c.loop-i.examined + c.next_victim-sought.result.examined) c.in-Some.i c.next_victim-sought.new.state = step.victim c.in-Some.is in
     victim.some_left
 
 pub weight-requires : goal.weight-requires
 weight-requires c =
     let call : Call = record { now = c.args.time; w = c.args.w; n = c.args.n; memory = c.args.state.now; max = c.max_entries-max.result; mains = c.args.lowest.count } in
     let step : Came call c.loop-i.left c.loop-i.stored c.loop-i.examined c.next_victim-sought.new.state c.next_victim-sought.result = let v = c.loop-i.invariant in came v.0 v.2 c.next_victim-sought.auto.state c.next_victim-sought.ensures in
-    let victim : Victim call c.loop-i.left c.loop-i.stored (c.loop-i.examined + c.next_victim-sought.result.examined) c.in-At.i c.next_victim-sought.new.state = step.victim c.in-At.is in
+    let victim : Victim call c.loop-i.left c.loop-i.stored (c.loop-i.examined + c.next_victim-sought.result.examined) c.in-Some.i c.next_victim-sought.new.state = step.victim c.in-Some.is in
     let v = victim in (v.inside, v.size)
 
 pub overflow_sub-stored : goal.overflow_sub-stored
 overflow_sub-stored c =
     let call : Call = record { now = c.args.time; w = c.args.w; n = c.args.n; memory = c.args.state.now; max = c.max_entries-max.result; mains = c.args.lowest.count } in
     let step : Came call c.loop-i.left c.loop-i.stored c.loop-i.examined c.next_victim-sought.new.state c.next_victim-sought.result = let v = c.loop-i.invariant in came v.0 v.2 c.next_victim-sought.auto.state c.next_victim-sought.ensures in
-    let victim : Victim call c.loop-i.left c.loop-i.stored (c.loop-i.examined + c.next_victim-sought.result.examined) c.in-At.i c.next_victim-sought.new.state = step.victim c.in-At.is in
+    let victim : Victim call c.loop-i.left c.loop-i.stored (c.loop-i.examined + c.next_victim-sought.result.examined) c.in-Some.i c.next_victim-sought.new.state = step.victim c.in-Some.is in
     omega (arith, victim.enough, c.wide-stored.ensures.0 ∙ c.weight.ensures)
 
 pub set_place-requires : goal.set_place-requires
 set_place-requires c =
     let call : Call = record { now = c.args.time; w = c.args.w; n = c.args.n; memory = c.args.state.now; max = c.max_entries-max.result; mains = c.args.lowest.count } in
     let step : Came call c.loop-i.left c.loop-i.stored c.loop-i.examined c.next_victim-sought.new.state c.next_victim-sought.result = let v = c.loop-i.invariant in came v.0 v.2 c.next_victim-sought.auto.state c.next_victim-sought.ensures in
-    let victim : Victim call c.loop-i.left c.loop-i.stored (c.loop-i.examined + c.next_victim-sought.result.examined) c.in-At.i c.next_victim-sought.new.state = step.victim c.in-At.is in
+    let victim : Victim call c.loop-i.left c.loop-i.stored (c.loop-i.examined + c.next_victim-sought.result.examined) c.in-Some.i c.next_victim-sought.new.state = step.victim c.in-Some.is in
     let v = victim in (v.inside, v.size)
 
 pub has_room-requires : goal.has_room-requires
 has_room-requires c =
     let call : Call = record { now = c.args.time; w = c.args.w; n = c.args.n; memory = c.args.state.now; max = c.max_entries-max.result; mains = c.args.lowest.count } in
     let step : Came call c.loop-i.left c.loop-i.stored c.loop-i.examined c.next_victim-sought.new.state c.next_victim-sought.result = let v = c.loop-i.invariant in came v.0 v.2 c.next_victim-sought.auto.state c.next_victim-sought.ensures in
-    let victim : Victim call c.loop-i.left c.loop-i.stored (c.loop-i.examined + c.next_victim-sought.result.examined) c.in-At.i c.next_victim-sought.new.state = step.victim c.in-At.is in
+    let victim : Victim call c.loop-i.left c.loop-i.stored (c.loop-i.examined + c.next_victim-sought.result.examined) c.in-Some.i c.next_victim-sought.new.state = step.victim c.in-Some.is in
     let gone : let stored = c.loop-i.stored - c.wide-stored.result in
-    Choice call (c.loop-i.left - 1) stored c.in-At.i (c.loop-i.examined + c.next_victim-sought.result.examined) c.set_place.new.state = victim.goes (c.wide-stored.ensures.0 ∙ c.weight.ensures) c.set_place.auto.state c.set_place.ensures in
+    Choice call (c.loop-i.left - 1) stored c.in-Some.i (c.loop-i.examined + c.next_victim-sought.result.examined) c.set_place.new.state = victim.goes (c.wide-stored.ensures.0 ∙ c.weight.ensures) c.set_place.auto.state c.set_place.ensures in
     choice_asks gone
 
 pub returns-then-has_room : goal.returns-then-has_room
@@ -71,25 +71,25 @@ unfolding chosen_of
 returns-then-has_room c =
     let call : Call = record { now = c.args.time; w = c.args.w; n = c.args.n; memory = c.args.state.now; max = c.max_entries-max.result; mains = c.args.lowest.count } in
     let step : Came call c.loop-i.left c.loop-i.stored c.loop-i.examined c.next_victim-sought.new.state c.next_victim-sought.result = let v = c.loop-i.invariant in came v.0 v.2 c.next_victim-sought.auto.state c.next_victim-sought.ensures in
-    let victim : Victim call c.loop-i.left c.loop-i.stored (c.loop-i.examined + c.next_victim-sought.result.examined) c.in-At.i c.next_victim-sought.new.state = step.victim c.in-At.is in
+    let victim : Victim call c.loop-i.left c.loop-i.stored (c.loop-i.examined + c.next_victim-sought.result.examined) c.in-Some.i c.next_victim-sought.new.state = step.victim c.in-Some.is in
     let gone : let stored = c.loop-i.stored - c.wide-stored.result in
-    Choice call (c.loop-i.left - 1) stored c.in-At.i (c.loop-i.examined + c.next_victim-sought.result.examined) c.set_place.new.state = victim.goes (c.wide-stored.ensures.0 ∙ c.weight.ensures) c.set_place.auto.state c.set_place.ensures in
+    Choice call (c.loop-i.left - 1) stored c.in-Some.i (c.loop-i.examined + c.next_victim-sought.result.examined) c.set_place.new.state = victim.goes (c.wide-stored.ensures.0 ∙ c.weight.ensures) c.set_place.auto.state c.set_place.ensures in
     let k = gone in (chosen_enough k c.has_room.ensures c.if-has_room.true, λ _. set_aside_lem k)
 
 pub lowest_of_main-main-requires : goal.lowest_of_main-main-requires
 lowest_of_main-main-requires c =
     let call : Call = record { now = c.args.time; w = c.args.w; n = c.args.n; memory = c.args.state.now; max = c.max_entries-max.result; mains = c.args.lowest.count } in
     let step : Came call c.loop-i.left c.loop-i.stored c.loop-i.examined c.next_victim-sought.new.state c.next_victim-sought.result = let v = c.loop-i.invariant in came v.0 v.2 c.next_victim-sought.auto.state c.next_victim-sought.ensures in
-    let victim : Victim call c.loop-i.left c.loop-i.stored (c.loop-i.examined + c.next_victim-sought.result.examined) c.in-At.i c.next_victim-sought.new.state = step.victim c.in-At.is in
+    let victim : Victim call c.loop-i.left c.loop-i.stored (c.loop-i.examined + c.next_victim-sought.result.examined) c.in-Some.i c.next_victim-sought.new.state = step.victim c.in-Some.is in
     let gone : let stored = c.loop-i.stored - c.wide-stored.result in
-    Choice call (c.loop-i.left - 1) stored c.in-At.i (c.loop-i.examined + c.next_victim-sought.result.examined) c.set_place.new.state = victim.goes (c.wide-stored.ensures.0 ∙ c.weight.ensures) c.set_place.auto.state c.set_place.ensures in
+    Choice call (c.loop-i.left - 1) stored c.in-Some.i (c.loop-i.examined + c.next_victim-sought.result.examined) c.set_place.new.state = victim.goes (c.wide-stored.ensures.0 ∙ c.weight.ensures) c.set_place.auto.state c.set_place.ensures in
     gone.size
 
 pub loop-i-smaller : goal.loop-i-smaller
 loop-i-smaller c =
     let call : Call = record { now = c.args.time; w = c.args.w; n = c.args.n; memory = c.args.state.now; max = c.max_entries-max.result; mains = c.args.lowest.count } in
     let step : Came call c.loop-i.left c.loop-i.stored c.loop-i.examined c.next_victim-sought.new.state c.next_victim-sought.result = let v = c.loop-i.invariant in came v.0 v.2 c.next_victim-sought.auto.state c.next_victim-sought.ensures in
-    let victim : Victim call c.loop-i.left c.loop-i.stored (c.loop-i.examined + c.next_victim-sought.result.examined) c.in-At.i c.next_victim-sought.new.state = step.victim c.in-At.is in
+    let victim : Victim call c.loop-i.left c.loop-i.stored (c.loop-i.examined + c.next_victim-sought.result.examined) c.in-Some.i c.next_victim-sought.new.state = step.victim c.in-Some.is in
     let h = victim.some_left in
     omega arith
 
@@ -97,7 +97,7 @@ pub loop-i-preserved : goal.loop-i-preserved
 loop-i-preserved c =
     let call : Call = record { now = c.args.time; w = c.args.w; n = c.args.n; memory = c.args.state.now; max = c.max_entries-max.result; mains = c.args.lowest.count } in
     let step : Came call c.loop-i.left c.loop-i.stored c.loop-i.examined c.next_victim-sought.new.state c.next_victim-sought.result = let v = c.loop-i.invariant in came v.0 v.2 c.next_victim-sought.auto.state c.next_victim-sought.ensures in
-    let victim : Victim call c.loop-i.left c.loop-i.stored (c.loop-i.examined + c.next_victim-sought.result.examined) c.in-At.i c.next_victim-sought.new.state = step.victim c.in-At.is in
+    let victim : Victim call c.loop-i.left c.loop-i.stored (c.loop-i.examined + c.next_victim-sought.result.examined) c.in-Some.i c.next_victim-sought.new.state = step.victim c.in-Some.is in
     let gone : let stored = c.loop-i.stored - c.wide-stored.result in
-    Choice call (c.loop-i.left - 1) stored c.in-At.i (c.loop-i.examined + c.next_victim-sought.result.examined) c.set_place.new.state = victim.goes (c.wide-stored.ensures.0 ∙ c.weight.ensures) c.set_place.auto.state c.set_place.ensures in
+    Choice call (c.loop-i.left - 1) stored c.in-Some.i (c.loop-i.examined + c.next_victim-sought.result.examined) c.set_place.new.state = victim.goes (c.wide-stored.ensures.0 ∙ c.weight.ensures) c.set_place.auto.state c.set_place.ensures in
     (gone, c.lowest_of_main-main.ensures, sym c.has_room.ensures ∙ c.if-has_room.false)

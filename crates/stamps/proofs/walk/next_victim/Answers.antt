@@ -1,10 +1,11 @@
 -- A row restamped or parked leaves one visit fewer and the same victim to find; the visits left bound seq and examined.
+use mathlib.Core.Path.{sym, ◌∙◌}
 use Prim.Native.Nat.{ℕ}
 use native.Mathlib.Omega.{arith}
 use mathlib.Core.List.{List}
 use Rattle.rules.specs.Records.{by_use}
 use Rattle.rules.proofs.Loops.{seeking}
-use Rattle.stamps.proofs.WalkLaws.{Found, Turned, found_row, found_none, seek_start, some_left, stale_turn, park_turn, none_yielded, yielded}
+use Rattle.stamps.proofs.WalkLaws.{Found, Turned, found_row, seek_start, some_left, stale_turn, park_turn, none_yielded, yielded}
 use Rattle.stamps.proofs.walk.next_victim.Goals as goal
 
 pub loop-next-init : goal.loop-next-init
@@ -15,25 +16,25 @@ loop-next-init c =
 pub overflow_add-examined : goal.overflow_add-examined
 overflow_add-examined c =
     let found : let l = c.loop-next in
-    Found seeking by_use c.args.time c.args.n c.return_lapsed-returned.result.rows l.examined c.in-At.i c.return_lapsed-returned.new.state l.state = let l = c.loop-next in found_row l.invariant.0 l.invariant.1 c.in-At.is in
+    Found seeking by_use c.args.time c.args.n c.return_lapsed-returned.result.rows l.examined c.in-Some.i c.return_lapsed-returned.new.state l.state = let l = c.loop-next in found_row l.invariant.0 l.invariant.1 c.in-Some.is in
     let f = found in omega (arith, some_left f, f.going.keys)
 
 pub is_stale-requires : goal.is_stale-requires
 is_stale-requires c =
     let found : let l = c.loop-next in
-    Found seeking by_use c.args.time c.args.n c.return_lapsed-returned.result.rows l.examined c.in-At.i c.return_lapsed-returned.new.state l.state = let l = c.loop-next in found_row l.invariant.0 l.invariant.1 c.in-At.is in
+    Found seeking by_use c.args.time c.args.n c.return_lapsed-returned.result.rows l.examined c.in-Some.i c.return_lapsed-returned.new.state l.state = let l = c.loop-next in found_row l.invariant.0 l.invariant.1 c.in-Some.is in
     let f = found in (f.inside, f.going.size)
 
 pub restamp-requires : goal.restamp-requires
 restamp-requires c =
     let found : let l = c.loop-next in
-    Found seeking by_use c.args.time c.args.n c.return_lapsed-returned.result.rows l.examined c.in-At.i c.return_lapsed-returned.new.state l.state = let l = c.loop-next in found_row l.invariant.0 l.invariant.1 c.in-At.is in
+    Found seeking by_use c.args.time c.args.n c.return_lapsed-returned.result.rows l.examined c.in-Some.i c.return_lapsed-returned.new.state l.state = let l = c.loop-next in found_row l.invariant.0 l.invariant.1 c.in-Some.is in
     let f = found in (f.inside, f.going.size, omega (arith, some_left f, f.going.stamps))
 
 pub lowest_stamp-again-requires : goal.lowest_stamp-again-requires
 lowest_stamp-again-requires c =
     let found : let l = c.loop-next in
-    Found seeking by_use c.args.time c.args.n c.return_lapsed-returned.result.rows l.examined c.in-At.i c.return_lapsed-returned.new.state l.state = let l = c.loop-next in found_row l.invariant.0 l.invariant.1 c.in-At.is in
+    Found seeking by_use c.args.time c.args.n c.return_lapsed-returned.result.rows l.examined c.in-Some.i c.return_lapsed-returned.new.state l.state = let l = c.loop-next in found_row l.invariant.0 l.invariant.1 c.in-Some.is in
     let Goes : List ℕ → Type 0 = λ x. let l = c.loop-next in
     Turned seeking c.args.time c.args.n c.return_lapsed-returned.result.rows l.examined c.return_lapsed-returned.new.state l.state x in
     let restamped : Goes c.restamp.new.state = stale_turn found c.is_stale.ensures c.if-is_stale.true c.restamp.auto.state c.restamp.ensures in
@@ -42,7 +43,7 @@ lowest_stamp-again-requires c =
 pub loop-next-smaller-then-is_stale : goal.loop-next-smaller-then-is_stale
 loop-next-smaller-then-is_stale c =
     let found : let l = c.loop-next in
-    Found seeking by_use c.args.time c.args.n c.return_lapsed-returned.result.rows l.examined c.in-At.i c.return_lapsed-returned.new.state l.state = let l = c.loop-next in found_row l.invariant.0 l.invariant.1 c.in-At.is in
+    Found seeking by_use c.args.time c.args.n c.return_lapsed-returned.result.rows l.examined c.in-Some.i c.return_lapsed-returned.new.state l.state = let l = c.loop-next in found_row l.invariant.0 l.invariant.1 c.in-Some.is in
     let Goes : List ℕ → Type 0 = λ x. let l = c.loop-next in
     Turned seeking c.args.time c.args.n c.return_lapsed-returned.result.rows l.examined c.return_lapsed-returned.new.state l.state x in
     let restamped : Goes c.restamp.new.state = stale_turn found c.is_stale.ensures c.if-is_stale.true c.restamp.auto.state c.restamp.ensures in
@@ -51,7 +52,7 @@ loop-next-smaller-then-is_stale c =
 pub loop-next-preserved-then-is_stale : goal.loop-next-preserved-then-is_stale
 loop-next-preserved-then-is_stale c =
     let found : let l = c.loop-next in
-    Found seeking by_use c.args.time c.args.n c.return_lapsed-returned.result.rows l.examined c.in-At.i c.return_lapsed-returned.new.state l.state = let l = c.loop-next in found_row l.invariant.0 l.invariant.1 c.in-At.is in
+    Found seeking by_use c.args.time c.args.n c.return_lapsed-returned.result.rows l.examined c.in-Some.i c.return_lapsed-returned.new.state l.state = let l = c.loop-next in found_row l.invariant.0 l.invariant.1 c.in-Some.is in
     let Goes : List ℕ → Type 0 = λ x. let l = c.loop-next in
     Turned seeking c.args.time c.args.n c.return_lapsed-returned.result.rows l.examined c.return_lapsed-returned.new.state l.state x in
     let restamped : Goes c.restamp.new.state = stale_turn found c.is_stale.ensures c.if-is_stale.true c.restamp.auto.state c.restamp.ensures in
@@ -60,19 +61,19 @@ loop-next-preserved-then-is_stale c =
 pub is_verified-requires : goal.is_verified-requires
 is_verified-requires c =
     let found : let l = c.loop-next in
-    Found seeking by_use c.args.time c.args.n c.return_lapsed-returned.result.rows l.examined c.in-At.i c.return_lapsed-returned.new.state l.state = let l = c.loop-next in found_row l.invariant.0 l.invariant.1 c.in-At.is in
+    Found seeking by_use c.args.time c.args.n c.return_lapsed-returned.result.rows l.examined c.in-Some.i c.return_lapsed-returned.new.state l.state = let l = c.loop-next in found_row l.invariant.0 l.invariant.1 c.in-Some.is in
     let f = found in (f.inside, f.going.size)
 
 pub park-requires : goal.park-requires
 park-requires c =
     let found : let l = c.loop-next in
-    Found seeking by_use c.args.time c.args.n c.return_lapsed-returned.result.rows l.examined c.in-At.i c.return_lapsed-returned.new.state l.state = let l = c.loop-next in found_row l.invariant.0 l.invariant.1 c.in-At.is in
+    Found seeking by_use c.args.time c.args.n c.return_lapsed-returned.result.rows l.examined c.in-Some.i c.return_lapsed-returned.new.state l.state = let l = c.loop-next in found_row l.invariant.0 l.invariant.1 c.in-Some.is in
     let f = found in (f.inside, f.going.size, omega (arith, some_left f, f.going.stamps))
 
 pub lowest_stamp-again-requires-then-is_verified : goal.lowest_stamp-again-requires-then-is_verified
 lowest_stamp-again-requires-then-is_verified c =
     let found : let l = c.loop-next in
-    Found seeking by_use c.args.time c.args.n c.return_lapsed-returned.result.rows l.examined c.in-At.i c.return_lapsed-returned.new.state l.state = let l = c.loop-next in found_row l.invariant.0 l.invariant.1 c.in-At.is in
+    Found seeking by_use c.args.time c.args.n c.return_lapsed-returned.result.rows l.examined c.in-Some.i c.return_lapsed-returned.new.state l.state = let l = c.loop-next in found_row l.invariant.0 l.invariant.1 c.in-Some.is in
     let Goes : List ℕ → Type 0 = λ x. let l = c.loop-next in
     Turned seeking c.args.time c.args.n c.return_lapsed-returned.result.rows l.examined c.return_lapsed-returned.new.state l.state x in
     let parked : Goes c.park.new.state = park_turn found c.is_stale.ensures c.if-is_stale.false c.is_verified.ensures c.if-is_verified.true c.park.auto.state c.park.ensures in
@@ -81,7 +82,7 @@ lowest_stamp-again-requires-then-is_verified c =
 pub loop-next-smaller : goal.loop-next-smaller
 loop-next-smaller c =
     let found : let l = c.loop-next in
-    Found seeking by_use c.args.time c.args.n c.return_lapsed-returned.result.rows l.examined c.in-At.i c.return_lapsed-returned.new.state l.state = let l = c.loop-next in found_row l.invariant.0 l.invariant.1 c.in-At.is in
+    Found seeking by_use c.args.time c.args.n c.return_lapsed-returned.result.rows l.examined c.in-Some.i c.return_lapsed-returned.new.state l.state = let l = c.loop-next in found_row l.invariant.0 l.invariant.1 c.in-Some.is in
     let Goes : List ℕ → Type 0 = λ x. let l = c.loop-next in
     Turned seeking c.args.time c.args.n c.return_lapsed-returned.result.rows l.examined c.return_lapsed-returned.new.state l.state x in
     let parked : Goes c.park.new.state = park_turn found c.is_stale.ensures c.if-is_stale.false c.is_verified.ensures c.if-is_verified.true c.park.auto.state c.park.ensures in
@@ -90,18 +91,18 @@ loop-next-smaller c =
 pub loop-next-preserved : goal.loop-next-preserved
 loop-next-preserved c =
     let found : let l = c.loop-next in
-    Found seeking by_use c.args.time c.args.n c.return_lapsed-returned.result.rows l.examined c.in-At.i c.return_lapsed-returned.new.state l.state = let l = c.loop-next in found_row l.invariant.0 l.invariant.1 c.in-At.is in
+    Found seeking by_use c.args.time c.args.n c.return_lapsed-returned.result.rows l.examined c.in-Some.i c.return_lapsed-returned.new.state l.state = let l = c.loop-next in found_row l.invariant.0 l.invariant.1 c.in-Some.is in
     let Goes : List ℕ → Type 0 = λ x. let l = c.loop-next in
     Turned seeking c.args.time c.args.n c.return_lapsed-returned.result.rows l.examined c.return_lapsed-returned.new.state l.state x in
     let parked : Goes c.park.new.state = park_turn found c.is_stale.ensures c.if-is_stale.false c.is_verified.ensures c.if-is_verified.true c.park.auto.state c.park.ensures in
     (parked.going, c.lowest_stamp-again-then-is_verified.ensures.row)
 
-pub returns-in-Nothing : goal.returns-in-Nothing
-returns-in-Nothing c = none_yielded _ c.loop-next.invariant.0 (found_none _ _ c.loop-next.invariant.1 c.in-Nothing.is) c.return_lapsed-returned.ensures.0
+pub returns-in-None : goal.returns-in-None
+returns-in-None c = none_yielded _ c.loop-next.invariant.0 (sym c.loop-next.invariant.1 ∙ c.in-None.is) c.return_lapsed-returned.ensures.0
 
 pub returns-else-is_verified : goal.returns-else-is_verified
 returns-else-is_verified c =
     let found : let l = c.loop-next in
-    Found seeking by_use c.args.time c.args.n c.return_lapsed-returned.result.rows l.examined c.in-At.i c.return_lapsed-returned.new.state l.state = let l = c.loop-next in found_row l.invariant.0 l.invariant.1 c.in-At.is in
+    Found seeking by_use c.args.time c.args.n c.return_lapsed-returned.result.rows l.examined c.in-Some.i c.return_lapsed-returned.new.state l.state = let l = c.loop-next in found_row l.invariant.0 l.invariant.1 c.in-Some.is in
     let r = c.return_lapsed-returned.ensures in
     yielded found c.is_stale.ensures c.if-is_stale.false c.is_verified.ensures _ c.if-is_verified.false r.0

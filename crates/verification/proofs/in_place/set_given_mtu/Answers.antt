@@ -3,8 +3,8 @@ use mathlib.Core.Path.{◌∙◌}
 use Rattle.verification.proofs.Marks.{no_mtu_lem, some_mtu_lem}
 use Rattle.verification.proofs.in_place.set_given_mtu.Goals as goal
 
-pub returns-in-Unknown : goal.returns-in-Unknown
-returns-in-Unknown c = no_mtu_lem _ c.args.mtu _ c.in-Unknown.is
+pub returns-in-None : goal.returns-in-None
+returns-in-None c = no_mtu_lem _ c.args.mtu _ c.in-None.is
 
-pub returns-in-Known : goal.returns-in-Known
-returns-in-Known c = c.set_mtu.ensures ∙ some_mtu_lem _ _ _ _ c.in-Known.is
+pub returns-in-Some : goal.returns-in-Some
+returns-in-Some c = c.set_mtu.ensures ∙ some_mtu_lem _ _ _ _ c.in-Some.is

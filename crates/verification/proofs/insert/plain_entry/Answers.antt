@@ -5,14 +5,14 @@ use Rattle.verification.proofs.VerifiedRows.{within, entry_held, entry_new}
 use Rattle.verification.proofs.insert.plain_entry.Goals as goal
 
 pub updated_entry-requires : goal.updated_entry-requires
-updated_entry-requires c = (within c.in-At.is c.requires.1, c.requires.0)
+updated_entry-requires c = (within c.in-Ok.is c.requires.1, c.requires.0)
 
-pub returns-in-At : goal.returns-in-At
-returns-in-At c =
+pub returns-in-Ok : goal.returns-in-Ok
+returns-in-Ok c =
     let ttl = c.default_ttl-ttl.ensures ∙ (same_head 0 c.args.n c.args.state.now).default_ttl in
-    (λ k e. entry_held k _ _ _ e ttl c.in-At.is c.updated_entry.ensures.0 c.verified_entry.ensures.0, c.verified_entry.ensures.1 ∙ c.updated_entry.ensures.1)
+    (λ k e. entry_held k _ _ _ e ttl c.in-Ok.is c.updated_entry.ensures.0 c.verified_entry.ensures.0, c.verified_entry.ensures.1 ∙ c.updated_entry.ensures.1)
 
-pub returns-in-Absent : goal.returns-in-Absent
-returns-in-Absent c =
+pub returns-in-Err : goal.returns-in-Err
+returns-in-Err c =
     let ttl = c.default_ttl-ttl.ensures ∙ (same_head 0 c.args.n c.args.state.now).default_ttl in
-    (λ k e. entry_new k _ _ _ e ttl c.in-Absent.is c.new_entry.ensures.0 c.verified_entry-in-Absent.ensures.0, c.verified_entry-in-Absent.ensures.1 ∙ c.new_entry.ensures.1)
+    (λ k e. entry_new k _ _ _ e ttl c.in-Err.is c.new_entry.ensures.0 c.verified_entry-in-Err.ensures.0, c.verified_entry-in-Err.ensures.1 ∙ c.new_entry.ensures.1)

@@ -5,13 +5,13 @@ use Rattle.verification.proofs.VerifiedRows.{within, out_held, out_absent}
 use Rattle.verification.proofs.insert.take_out.Goals as goal
 
 pub remove_row-requires : goal.remove_row-requires
-remove_row-requires c = (within c.in-At.is c.requires.1, laid_out _ _ c.requires.0, (shown _ _ c.requires.0).stored_weight)
+remove_row-requires c = (within c.in-Ok.is c.requires.1, laid_out _ _ c.requires.0, (shown _ _ c.requires.0).stored_weight)
 
 pub overflow_sub-result : goal.overflow_sub-result
-overflow_sub-result c = omega (arith, within c.in-At.is c.requires.1)
+overflow_sub-result c = omega (arith, within c.in-Ok.is c.requires.1)
 
-pub returns-in-At : goal.returns-in-At
-returns-in-At c = λ k e. out_held k _ e c.in-At.is c.remove_row.ensures
+pub returns-in-Ok : goal.returns-in-Ok
+returns-in-Ok c = λ k e. out_held k _ e c.in-Ok.is c.remove_row.ensures
 
-pub returns-in-Absent : goal.returns-in-Absent
-returns-in-Absent c = λ k e. out_absent k _ e c.in-Absent.is
+pub returns-in-Err : goal.returns-in-Err
+returns-in-Err c = λ k e. out_absent k _ e c.in-Err.is

@@ -6,10 +6,10 @@ pub search-at-requires : goal.search-at-requires
 search-at-requires c = rows_searchable _ _ c.requires
 
 pub place-requires : goal.place-requires
-place-requires c = (row_inside _ _ _ c.search-at.ensures c.in-At.is, (rows_searchable _ _ c.requires).1)
+place-requires c = (row_inside _ _ _ c.search-at.ensures c.in-Ok.is, (rows_searchable _ _ c.requires).1)
 
-pub returns-in-At : goal.returns-in-At
-returns-in-At c = held_in_main _ _ c.search-at.ensures c.in-At.is c.place.ensures
+pub returns-in-Ok : goal.returns-in-Ok
+returns-in-Ok c = held_in_main _ _ c.search-at.ensures c.in-Ok.is c.place.ensures
 
-pub returns-in-Absent : goal.returns-in-Absent
-returns-in-Absent c = absent_in_main _ _ c.search-at.ensures c.in-Absent.is
+pub returns-in-Err : goal.returns-in-Err
+returns-in-Err c = absent_in_main _ _ c.search-at.ensures c.in-Err.is

@@ -1,13 +1,14 @@
--- With a count of 0 there is no first element; otherwise the first element is the one in place 0, by `first_element`.
+-- The first element, where there is one, is the one in place 0; its address is compared byte by byte.
 use mathlib.Core.Path.{sym, ◌∙◌}
+use Rattle.types.specs.Addresses.{same_addr}
 use Rattle.types.specs.Paths.{elements, starts_at}
-use Rattle.types.proofs.PathLaws.{no_first, first_element}
+use Rattle.types.proofs.PathLaws.{equal_bytes, no_first, first_element}
 use Rattle.types.proofs.coord.Path.starts_at.Goals as goal
 
-pub returns-then-count-eq0 : goal.returns-then-count-eq0
-unfolding starts_at
-returns-then-count-eq0 c = sym (no_first _ (elements c.args.self) (sym c.count.ensures.value ∙ c.if-count-eq0.true))
+pub returns-then-count-ne0 : goal.returns-then-count-ne0
+unfolding starts_at same_addr
+returns-then-count-ne0 c = c.eq.ensures ∙ equal_bytes _ _ ∙ sym (first_element _ c.args.self (λ e. c.if-count-ne0.true (c.count.ensures.value ∙ e)))
 
-pub returns : goal.returns
+pub returns-else-count-ne0 : goal.returns-else-count-ne0
 unfolding starts_at
-returns c = c.same_as.ensures ∙ sym (first_element _ c.args.self (λ e. c.if-count-eq0.false (c.count.ensures.value ∙ e)))
+returns-else-count-ne0 c = rw c.if-count-ne0.false (sym (no_first _ (elements c.args.self) (sym c.count.ensures.value ∙ c.if-count-ne0.false)))
