@@ -2,15 +2,15 @@
 use mathlib.Core.Path.{◌≡◌, refl, sym, ap, ◌∙◌}
 use Prim.Native.Nat.{ℕ}
 use mathlib.Core.List.{List}
-use Rattle.std.specs.Prelude.{Some, Result, Ok, Err}
+use Rattle.std.specs.Prelude.{Some, Result, Ok, Err, IsErrAnd}
 use mathlib.Core.Bool.{Bool, true, false, cond}
 use Rattle.types.specs.declared.refusal.Refusal.{Refusal}
 use Rattle.types.specs.declared.refusal.Refusal.TheVariants.{UnsoundState}
 use Rattle.types.specs.Values.{refusal_code}
 use Rattle.rules.specs.Sound.{sound}
-use Rattle.rules.specs.Calls.{Call, Refused}
+use Rattle.rules.specs.Calls.{Answer, Call, Refused}
 use Rattle.rules.specs.Refusals.{Asked, refusal}
-use Rattle.rules.specs.Answers.{refusal_of}
+use Rattle.rules.specs.Answers.{refusal_of, said as said_as}
 use Rattle.rules.specs.Memory.{capacity, view}
 use Rattle.rules.specs.Lent.{call}
 use Rattle.rules.proofs.Refused.{refused_one}
@@ -39,6 +39,11 @@ module _ (l : List ℕ) {a : Result (Unit {0}) Refusal} (e : a ≡ cond (sound (
 
   pub one_said : (q : Call) {r : Refusal} → a ≡ Err r → (Refused (refusal_code r) ≡ (call l q).answer) × (l ≡ (call l q).memory)
   one_said q {r} h = let u = unsound h in rw u.1 (said l q 1 (refused_one (capacity l) (view l) q u.0))
+
+  -- as `?` hands the refusal on
+  pub one_told : {A : Type 0} (f : A → Answer) (q : Call) {x : Refusal} (r : Result A Refusal) → a ≡ Err x → IsErrAnd r (λ y. y ≡ x) → (said_as f r ≡ (call l q).answer) × (l ≡ (call l q).memory)
+  one_told f q (Ok v) h w = absurd w
+  one_told f q (Err y) h w = rw w (one_said q h)
 
 -- the same of a call that asks is_sound itself: b is what it answers
 module _ (l : List ℕ) {b : Bool} (e : b ≡ sound (capacity l) (view l)) where

@@ -1,19 +1,20 @@
 // stats, and the next expiry.
 #![tactic(auto)]
 
-ghost use Rattle.std.specs.Prelude.{◌≡◌, true, ◌+◌, ◌*◌, ◌-◌, ◌≤◌, ◌<◌, min, length};
+ghost use Rattle.std.specs.Prelude.{◌≡◌, true, ◌+◌, ◌*◌, ◌-◌, ◌≤◌, ◌<◌, length};
 ghost use Rattle.rules.specs.Rows.{row_at, count_rows};
 ghost use Rattle.rules.specs.Entries.{expired};
 ghost use Rattle.rules.specs.Statistics.{total_age, mean, stats, next_expiry};
 ghost use Rattle.rules.specs.Sound.{sound};
 ghost use Rattle.rules.specs.Memory.{capacity, view_rows, view};
 ghost use Rattle.rules.specs.Lent.{call};
-ghost use Rattle.rules.specs.Calls.{Stats, NextExpiry, ExpiryGiven};
-ghost use Rattle.rules.specs.Answers.{stats_said, expiry_said};
+ghost use Rattle.rules.specs.Calls.{Stats, NextExpiry, StatsGiven, ExpiryGiven};
+ghost use Rattle.rules.specs.Answers.{said};
 ghost use Rattle.rules.specs.Layout.{head_size, row_size};
 ghost use Rattle.rules.specs.Records.{max_rows};
 
-use types::answers::{ExpiryAnswer, StatsAnswer};
+use state::check::check_sound;
+use types::refusal::Refusal;
 use types::stats::CacheStats;
 
 fn count_expired(state: &[u8], n: usize, time: u64) -> u64
@@ -79,59 +80,49 @@ fn stats_of(state: &[u8], n: usize, time: u64) -> CacheStats
     }
 }
 
-fn lesser(a: u64, b: u64) -> u64
-    ensures { result ≡ min a b }
-{
-    if a < b { a } else { b }
-}
-
 // The smallest expires_at of n rows, from the last row to the first.
-fn next_expiry_of(state: &[u8], n: usize) -> ExpiryAnswer
+fn next_expiry_of(state: &[u8], n: usize) -> Option<u64>
     requires { head_size + n * row_size ≤ length state.now }
-    ensures { expiry_said result ≡ ExpiryGiven (next_expiry (view_rows n state.now).rows) }
+    ensures { result ≡ next_expiry (view_rows n state.now).rows }
 {
     if n == 0 {
-        return ExpiryAnswer::Never;
+        return None;
     }
     let mut i = n - 1;
     let mut soonest = memory::row::expires_at(state, n, i);
     while 0 < i {
         i -= 1;
-        soonest = lesser(memory::row::expires_at(state, n, i), soonest);
+        soonest = memory::row::expires_at(state, n, i).min(soonest);
     }
-    ExpiryAnswer::At(soonest)
+    Some(soonest)
 }
 
-pub fn stats_unchecked(state: &[u8], time: u64) -> StatsAnswer
+pub fn stats_unchecked(state: &[u8], time: u64) -> CacheStats
     requires { sound (capacity state.now) (view state.now) ≡ true }
-    ensures { (stats_said result ≡ (call state.now (Stats time)).answer) × (state.now ≡ (call state.now (Stats time)).memory) }
+    ensures { (StatsGiven result ≡ (call state.now (Stats time)).answer) × (state.now ≡ (call state.now (Stats time)).memory) }
 {
     let n = memory::head::row_count(state) as usize;
-    StatsAnswer::Stats(stats_of(state, n, time))
+    stats_of(state, n, time)
 }
 
-pub fn next_expiry_unchecked(state: &[u8]) -> ExpiryAnswer
+pub fn next_expiry_unchecked(state: &[u8]) -> Option<u64>
     requires { sound (capacity state.now) (view state.now) ≡ true }
-    ensures { (expiry_said result ≡ (call state.now NextExpiry).answer) × (state.now ≡ (call state.now NextExpiry).memory) }
+    ensures { (ExpiryGiven result ≡ (call state.now NextExpiry).answer) × (state.now ≡ (call state.now NextExpiry).memory) }
 {
     let n = memory::head::row_count(state) as usize;
     next_expiry_of(state, n)
 }
 
-pub fn stats(state: &[u8], time: u64) -> StatsAnswer
-    ensures { (stats_said result ≡ (call state.now (Stats time)).answer) × (state.now ≡ (call state.now (Stats time)).memory) }
+pub fn stats(state: &[u8], time: u64) -> Result<CacheStats, Refusal>
+    ensures { (said StatsGiven result ≡ (call state.now (Stats time)).answer) × (state.now ≡ (call state.now (Stats time)).memory) }
 {
-    if !state::check::is_sound(state) {
-        return StatsAnswer::Refused(1);
-    }
-    stats_unchecked(state, time)
+    check_sound(state)?;
+    Ok(stats_unchecked(state, time))
 }
 
-pub fn next_expiry(state: &[u8]) -> ExpiryAnswer
-    ensures { (expiry_said result ≡ (call state.now NextExpiry).answer) × (state.now ≡ (call state.now NextExpiry).memory) }
+pub fn next_expiry(state: &[u8]) -> Result<Option<u64>, Refusal>
+    ensures { (said ExpiryGiven result ≡ (call state.now NextExpiry).answer) × (state.now ≡ (call state.now NextExpiry).memory) }
 {
-    if !state::check::is_sound(state) {
-        return ExpiryAnswer::Refused(1);
-    }
-    next_expiry_unchecked(state)
+    check_sound(state)?;
+    Ok(next_expiry_unchecked(state))
 }

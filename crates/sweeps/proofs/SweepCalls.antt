@@ -11,15 +11,13 @@ use Rattle.types.specs.Paths.{contains, root_of}
 use Rattle.rules.specs.Entries.{expired}
 use Rattle.rules.specs.Rows.{keep_rows, main_weight}
 use Rattle.types.specs.declared.node_addr.NodeAddr.{NodeAddr}
-use Rattle.types.specs.declared.answers.SweepAnswer.{SweepAnswer}
 use Rattle.rules.specs.Cases.{Every}
 use Rattle.rules.specs.Records.{Entry, Row, State, max_rows}
 use Rattle.rules.specs.Rows.{total, in_main, weigh_rows, with_only_rows}
 use Rattle.rules.specs.Sound.{sound}
 use Rattle.rules.specs.Lookups.{sweep, matching}
-use Rattle.rules.specs.Calls.{Call, Clear, PurgeExpired, InvalidateViaNode, InvalidateOtherRoots, RowsRemoved, path_given, verified_write, draws_stamps}
+use Rattle.rules.specs.Calls.{Call, Clear, PurgeExpired, InvalidateViaNode, InvalidateOtherRoots, Done, RowsRemoved, path_given, verified_write, draws_stamps}
 use Rattle.rules.specs.Refusals.{refusal, Asked, Step, perform, gives, sweeps}
-use Rattle.rules.specs.Answers.{refusal_of, sweep_said}
 use Rattle.rules.specs.Memory.{capacity, rows_of, view_rows, view}
 use Rattle.rules.specs.Lent.{Bytes, call}
 use Rattle.rules.proofs.SoundTest.{RowOk}
@@ -66,8 +64,8 @@ roots_sweeps time a = record { does = λ s. refl; keeps = λ rs. refl; allowed =
 pub sweep_done : {q : Call} {p : Entry → Bool} {kind time : ℕ} {a : NodeAddr} → Sweeps q p kind time a → (l : List ℕ) (n j : ℕ) (m : List ℕ)
     → sound (capacity l) (view l) ≡ true → n ≡ (view_rows 0 l).row_count → Bytes m → length m ≡ length l
     → (j ≤ n) × (j ≡ length (kept_rows kind time a (view_rows n l).rows)) × (view_rows j m ≡ with_only_rows (kept_rows kind time a (view_rows n l).rows) (view_rows n l))
-    → (sweep_said (SweepAnswer.Removed (n - j)) ≡ (call l q).answer) × (m ≡ (call l q).memory)
-unfolding sweep_said matching sweep sweeps gives
+    → (RowsRemoved (n - j) ≡ (call l q).answer) × (m ≡ (call l q).memory)
+unfolding matching sweep sweeps gives
 sweep_done {q} {p} u l n j m h e b z w =
     let s = view_rows n l in
     let k = u.keeps s.rows in
@@ -87,9 +85,9 @@ unfolding total
 nothing_weighs = refl
 
 pub cleared : (l : List ℕ) (n : ℕ) (m : List ℕ) → sound (capacity l) (view l) ≡ true → n ≡ (view_rows 0 l).row_count → Bytes m → length m ≡ length l
-    → view_rows 0 m ≡ shrunk n 0 0 l → (0 ≡ refusal_of (call l Clear).answer) × (m ≡ (call l Clear).memory)
-unfolding perform gives refusal_of path_given verified_write draws_stamps
+    → view_rows 0 m ≡ shrunk n 0 0 l → (Done ≡ (call l Clear).answer) × (m ≡ (call l Clear).memory)
+unfolding perform gives path_given verified_write draws_stamps
 cleared l n m h e b z v =
     let t = v ∙ ap (λ (x : ℕ). shrunk n 0 x l) (sym nothing_weighs) ∙ only_shrunk n 0 [] l l (omega arith) refl (none_left n l) in
     let d = done_rows (sound_memory l n h e) Clear m 0 (not_refused l Clear h refl refl refl) b z t in
-    (ap refusal_of d.answer, d.memory)
+    (d.answer, d.memory)

@@ -3,83 +3,76 @@
 
 ghost use Rattle.std.specs.Prelude.{◌≡◌, true, ◌-◌};
 ghost use Rattle.rules.specs.Sound.{sound};
-ghost use Rattle.rules.specs.Calls.{Clear, PurgeExpired, InvalidateViaNode, InvalidateOtherRoots};
-ghost use Rattle.rules.specs.Answers.{refusal_of, sweep_said};
+ghost use Rattle.rules.specs.Calls.{Clear, PurgeExpired, InvalidateViaNode, InvalidateOtherRoots, RowsRemoved, Done};
+ghost use Rattle.rules.specs.Answers.{said, done};
 ghost use Rattle.rules.specs.Memory.{capacity, view};
 ghost use Rattle.rules.specs.Lent.{call};
 
-use types::answers::SweepAnswer;
+use state::check::check_sound;
 use types::node_addr::{ADDRESS_BYTES, NodeAddr};
+use types::refusal::Refusal;
 
-pub fn clear_unchecked(state: &mut [u8]) -> u8
+pub fn clear_unchecked(state: &mut [u8])
     requires { sound (capacity state.old) (view state.old) ≡ true }
-    ensures { (result ≡ refusal_of (call state.old Clear).answer) × (state.new ≡ (call state.old Clear).memory) }
+    ensures { (Done ≡ (call state.old Clear).answer) × (state.new ≡ (call state.old Clear).memory) }
 {
     let n = memory::head::row_count(state) as usize;
     memory::rows::shrink(state, n, 0, 0);
-    0
 }
 
-pub fn purge_expired_unchecked(state: &mut [u8], time: u64) -> SweepAnswer
+pub fn purge_expired_unchecked(state: &mut [u8], time: u64) -> u64
     requires { sound (capacity state.old) (view state.old) ≡ true }
-    ensures { (sweep_said result ≡ (call state.old (PurgeExpired time)).answer) × (state.new ≡ (call state.old (PurgeExpired time)).memory) }
+    ensures { (RowsRemoved result ≡ (call state.old (PurgeExpired time)).answer) × (state.new ≡ (call state.old (PurgeExpired time)).memory) }
 {
     let n = memory::head::row_count(state) as usize;
     let none = NodeAddr([0u8; ADDRESS_BYTES]);
     let kept = retention::rows::retain_entries(state, n, retention::rows::EXPIRED, time, none);
-    SweepAnswer::Removed((n - kept) as u64)
+    (n - kept) as u64
 }
 
-pub fn invalidate_via_node_unchecked(state: &mut [u8], addr: NodeAddr) -> SweepAnswer
+pub fn invalidate_via_node_unchecked(state: &mut [u8], addr: NodeAddr) -> u64
     requires { sound (capacity state.old) (view state.old) ≡ true }
-    ensures { (sweep_said result ≡ (call state.old (InvalidateViaNode addr)).answer) × (state.new ≡ (call state.old (InvalidateViaNode addr)).memory) }
+    ensures { (RowsRemoved result ≡ (call state.old (InvalidateViaNode addr)).answer) × (state.new ≡ (call state.old (InvalidateViaNode addr)).memory) }
 {
     let n = memory::head::row_count(state) as usize;
     let kept = retention::rows::retain_entries(state, n, retention::rows::VIA_NODE, 0, addr);
-    SweepAnswer::Removed((n - kept) as u64)
+    (n - kept) as u64
 }
 
-pub fn invalidate_other_roots_unchecked(state: &mut [u8], addr: NodeAddr) -> SweepAnswer
+pub fn invalidate_other_roots_unchecked(state: &mut [u8], addr: NodeAddr) -> u64
     requires { sound (capacity state.old) (view state.old) ≡ true }
-    ensures { (sweep_said result ≡ (call state.old (InvalidateOtherRoots addr)).answer) × (state.new ≡ (call state.old (InvalidateOtherRoots addr)).memory) }
+    ensures { (RowsRemoved result ≡ (call state.old (InvalidateOtherRoots addr)).answer) × (state.new ≡ (call state.old (InvalidateOtherRoots addr)).memory) }
 {
     let n = memory::head::row_count(state) as usize;
     let kept = retention::rows::retain_entries(state, n, retention::rows::OTHER_ROOT, 0, addr);
-    SweepAnswer::Removed((n - kept) as u64)
+    (n - kept) as u64
 }
 
-pub fn clear(state: &mut [u8]) -> u8
-    ensures { (result ≡ refusal_of (call state.old Clear).answer) × (state.new ≡ (call state.old Clear).memory) }
+pub fn clear(state: &mut [u8]) -> Result<(), Refusal>
+    ensures { (said done result ≡ (call state.old Clear).answer) × (state.new ≡ (call state.old Clear).memory) }
 {
-    if !state::check::is_sound(state) {
-        return 1;
-    }
-    clear_unchecked(state)
+    check_sound(state)?;
+    clear_unchecked(state);
+    Ok(())
 }
 
-pub fn purge_expired(state: &mut [u8], time: u64) -> SweepAnswer
-    ensures { (sweep_said result ≡ (call state.old (PurgeExpired time)).answer) × (state.new ≡ (call state.old (PurgeExpired time)).memory) }
+pub fn purge_expired(state: &mut [u8], time: u64) -> Result<u64, Refusal>
+    ensures { (said RowsRemoved result ≡ (call state.old (PurgeExpired time)).answer) × (state.new ≡ (call state.old (PurgeExpired time)).memory) }
 {
-    if !state::check::is_sound(state) {
-        return SweepAnswer::Refused(1);
-    }
-    purge_expired_unchecked(state, time)
+    check_sound(state)?;
+    Ok(purge_expired_unchecked(state, time))
 }
 
-pub fn invalidate_via_node(state: &mut [u8], addr: NodeAddr) -> SweepAnswer
-    ensures { (sweep_said result ≡ (call state.old (InvalidateViaNode addr)).answer) × (state.new ≡ (call state.old (InvalidateViaNode addr)).memory) }
+pub fn invalidate_via_node(state: &mut [u8], addr: NodeAddr) -> Result<u64, Refusal>
+    ensures { (said RowsRemoved result ≡ (call state.old (InvalidateViaNode addr)).answer) × (state.new ≡ (call state.old (InvalidateViaNode addr)).memory) }
 {
-    if !state::check::is_sound(state) {
-        return SweepAnswer::Refused(1);
-    }
-    invalidate_via_node_unchecked(state, addr)
+    check_sound(state)?;
+    Ok(invalidate_via_node_unchecked(state, addr))
 }
 
-pub fn invalidate_other_roots(state: &mut [u8], addr: NodeAddr) -> SweepAnswer
-    ensures { (sweep_said result ≡ (call state.old (InvalidateOtherRoots addr)).answer) × (state.new ≡ (call state.old (InvalidateOtherRoots addr)).memory) }
+pub fn invalidate_other_roots(state: &mut [u8], addr: NodeAddr) -> Result<u64, Refusal>
+    ensures { (said RowsRemoved result ≡ (call state.old (InvalidateOtherRoots addr)).answer) × (state.new ≡ (call state.old (InvalidateOtherRoots addr)).memory) }
 {
-    if !state::check::is_sound(state) {
-        return SweepAnswer::Refused(1);
-    }
-    invalidate_other_roots_unchecked(state, addr)
+    check_sound(state)?;
+    Ok(invalidate_other_roots_unchecked(state, addr))
 }

@@ -1,10 +1,7 @@
--- Where is_sound is false the answer is Refused(1); where it is true it is what next_expiry_unchecked requires.
-use Rattle.rules.specs.Answers.{expiry_said}
-use Rattle.refusals.proofs.RefusalsSaid.{checked, one_said}
+-- An unsound state is refused by 1.
+use Rattle.rules.specs.Calls.{ExpiryGiven}
+use Rattle.refusals.proofs.RefusalsSaid.{one_told}
 use Rattle.statistics.proofs.next_expiry.Goals as goal
 
-pub returns-then-not-is_sound : goal.returns-then-not-is_sound
-returns-then-not-is_sound c = unfold expiry_said in one_said _ c.is_sound.ensures _ c.if-not-is_sound.true
-
-pub next_expiry_unchecked-requires : goal.next_expiry_unchecked-requires
-next_expiry_unchecked-requires c = checked _ c.is_sound.ensures c.if-not-is_sound.false
+pub returns-in_err-check_sound : goal.returns-in_err-check_sound
+returns-in_err-check_sound c = one_told _ c.check_sound.ensures ExpiryGiven _ _ (c.in_err-check_sound.was {u = tt}) c.from_residual.ensures.1
