@@ -4,7 +4,7 @@ use Prim.Native.Nat.{ℕ, ◌+◌, ◌*◌, ◌-◌, ◌≤◌}
 use native.Mathlib.Omega.{arith}
 use mathlib.Core.List.{List, []}
 use Rattle.std.specs.Prelude.{Option, None, Some}
-use mathlib.Core.Bool.{Bool, true, false}
+use mathlib.Core.Bool.{true, false}
 use Rattle.types.specs.declared.node_addr.NodeAddr.{NodeAddr}
 use Rattle.rules.specs.Cases.{maybe}
 use Rattle.rules.specs.Records.{State}
@@ -15,7 +15,6 @@ use Rattle.rules.specs.Lookups.{unexpired_row}
 use Rattle.rules.specs.Calls.{Get, GetAndTouch, path_given, verified_write, draws_stamps}
 use Rattle.rules.specs.Refusals.{refusal, Asked, perform_request, perform, gives, serve}
 use Rattle.rules.specs.Answers.{refusal_of}
-use Rattle.types.specs.declared.answers.TouchAnswer.{TouchAnswer}
 use Rattle.rules.specs.Memory.{capacity, cut, view_rows, view}
 use Rattle.entries.specs.declared.path.PathPlace.{PathPlace}
 use Rattle.rules.specs.Lent.{Bytes, Typed, lent, call, path_part, found_part, got_part}
@@ -85,10 +84,6 @@ part_from at bytes l p e = ap (λ (j : ℕ). cut at j l) (let z : at + bytes - a
 
 -- ---- get_and_touch
 
-unfoldable pub finds : TouchAnswer → Bool
-finds (TouchAnswer.Refused n) = false
-finds (TouchAnswer.Found n) = true
-finds TouchAnswer.Absent = false
 
 -- the memory that a touch leaves is sound
 pub touch_sound : (l : List ℕ) (k : NodeAddr) (time : ℕ) (m : List ℕ) → Bytes l → Typed (GetAndTouch k time) → sound (capacity l) (view l) ≡ true

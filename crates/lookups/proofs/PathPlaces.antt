@@ -3,12 +3,11 @@ use mathlib.Core.Path.{◌≡◌, refl, sym, ap, ◌∙◌, subst}
 use Prim.Native.Nat.{ℕ, ◌+◌, ◌*◌, ◌≤◌}
 use native.Mathlib.Omega.{arith}
 use mathlib.Core.List.{List}
-use Rattle.std.specs.Prelude.{None, Some}
+use Rattle.std.specs.Prelude.{Option, None, Some, is_some}
 use mathlib.Core.Bool.{Bool, true, false, cond}
 use lib.ListN.{length}
 use Rattle.types.specs.declared.node_addr.NodeAddr.{NodeAddr}
 use Rattle.types.specs.declared.coord.Path.{Path}
-use Rattle.types.specs.declared.answers.TouchAnswer.{TouchAnswer}
 use Rattle.rules.specs.Records.{Entry, State}
 use Rattle.rules.specs.Rows.{row_at, find, with_rows, with_only_rows}
 use Rattle.rules.specs.Sound.{sound}
@@ -29,7 +28,7 @@ use Rattle.rules.proofs.Foreign.{view_length}
 use Rattle.entries.specs.declared.path.PathPlace.{PathPlace}
 use Rattle.refusals.proofs.SearchedKeys.{Found, inside}
 use Rattle.lookups.specs.Steps.{touched_at, touch_says, touched_place, StandsAt}
-use Rattle.lookups.proofs.FoundRows.{finds, absent_stands, path_stands, touch_sound}
+use Rattle.lookups.proofs.FoundRows.{absent_stands, path_stands, touch_sound}
 use Rattle.lookups.proofs.TouchedRows.{touched_at_lem, touched_absent}
 
 -- ---- row i
@@ -41,22 +40,22 @@ standing i s = record { at = head_size + i * row_size + places_in_row; bytes = (
 abbrev nowhere : PathPlace
 nowhere = record { at = 0; bytes = 0 }
 
-module _ (i time : ℕ) (s : State) (a : TouchAnswer) (p : PathPlace) (e : a ≡ touch_says i time s) where
-  pub placed : finds a ≡ true → p ≡ standing i s → p ≡ touched_place i time s
-  unfolding touch_says touched_place finds
+module _ (i time : ℕ) (s : State) (a : Option ℕ) (p : PathPlace) (e : a ≡ touch_says i time s) where
+  pub placed : is_some a ≡ true → p ≡ standing i s → p ≡ touched_place i time s
+  unfolding touch_says touched_place
   placed f g = go (expired time (row_at i s.rows).entry) e
     where
-      go : (b : Bool) → a ≡ cond b TouchAnswer.Absent (TouchAnswer.Found (row_at i s.rows).entry.path.len) → p ≡ cond b nowhere (standing i s)
-      go true h = contradiction f (ap finds h)
+      go : (b : Bool) → a ≡ cond b None (Some (row_at i s.rows).entry.path.len) → p ≡ cond b nowhere (standing i s)
+      go true h = contradiction f (ap is_some h)
       go false h = g
 
-  pub unplaced : finds a ≡ false → p ≡ nowhere → p ≡ touched_place i time s
-  unfolding touch_says touched_place finds
+  pub unplaced : is_some a ≡ false → p ≡ nowhere → p ≡ touched_place i time s
+  unfolding touch_says touched_place
   unplaced f g = go (expired time (row_at i s.rows).entry) e
     where
-      go : (b : Bool) → a ≡ cond b TouchAnswer.Absent (TouchAnswer.Found (row_at i s.rows).entry.path.len) → p ≡ cond b nowhere (standing i s)
+      go : (b : Bool) → a ≡ cond b None (Some (row_at i s.rows).entry.path.len) → p ≡ cond b nowhere (standing i s)
       go true h = g
-      go false h = contradiction (ap finds h) f
+      go false h = contradiction (ap is_some h) f
 
 -- ---- the call
 

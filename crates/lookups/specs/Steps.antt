@@ -1,7 +1,6 @@
 -- Parts of the calls' rules, by row.
-use Rattle.std.specs.Prelude.{ℕ, ◌+◌, ◌*◌, ◌≤◌, ◌≡◌, List, cond, length}
+use Rattle.std.specs.Prelude.{ℕ, Option, None, Some, ◌+◌, ◌*◌, ◌≤◌, ◌≡◌, List, cond, length}
 use Rattle.types.specs.declared.node_addr.NodeAddr.{NodeAddr}
-use Rattle.types.specs.declared.answers.TouchAnswer.{TouchAnswer}
 use Rattle.rules.specs.Cases.{maybe}
 use Rattle.rules.specs.Records.{State}
 use Rattle.rules.specs.Rows.{row_at}
@@ -17,8 +16,8 @@ use Rattle.rules.specs.Layout.{coord_entry_size, entry_offset, head_size, places
 unfoldable pub touched_at : ℕ → ℕ → State → State
 touched_at i now s = cond (expired now (row_at i s.rows).entry) (take_out i s) (rewrite (refresh now s.default_ttl) i s)
 
-unfoldable pub touch_says : ℕ → ℕ → State → TouchAnswer
-touch_says i now s = cond (expired now (row_at i s.rows).entry) TouchAnswer.Absent (TouchAnswer.Found (row_at i s.rows).entry.path.len)
+unfoldable pub touch_says : ℕ → ℕ → State → Option ℕ
+touch_says i now s = cond (expired now (row_at i s.rows).entry) None (Some (row_at i s.rows).entry.path.len)
 
 -- the first byte of the path in row i
 abbrev pub path_start : ℕ → ℕ

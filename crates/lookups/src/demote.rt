@@ -1,16 +1,17 @@
 // demote.
 ghost use Rattle.std.specs.Prelude.{◌≡◌, true, ◌+◌, ◌*◌, ◌-◌, ◌≤◌, ◌<◌, length};
 ghost use Rattle.rules.specs.Sound.{sound};
-ghost use Rattle.rules.specs.Calls.{Demote};
-ghost use Rattle.rules.specs.Answers.{demote_said};
+ghost use Rattle.rules.specs.Calls.{Demote, KeyHeld};
+ghost use Rattle.rules.specs.Answers.{said};
 ghost use Rattle.rules.specs.Memory.{capacity, view_rows, view};
 ghost use Rattle.rules.specs.Lent.{call};
 ghost use Rattle.rules.specs.Layout.{head_size, row_size};
 ghost use Rattle.lookups.specs.KeyedSteps.{demoted_at};
 ghost use Rattle.types.specs.Values.{largest_number};
 
-use types::answers::DemoteAnswer;
+use state::check::check_sound;
 use types::node_addr::NodeAddr;
+use types::refusal::Refusal;
 
 // Row i's entry becomes a hint; a parked row is refiled.
 fn demote_at(state: &mut [u8], n: usize, i: usize)
@@ -24,29 +25,27 @@ fn demote_at(state: &mut [u8], n: usize, i: usize)
     }
 }
 
-pub fn demote_unchecked(state: &mut [u8], key: NodeAddr) -> DemoteAnswer
+pub fn demote_unchecked(state: &mut [u8], key: NodeAddr) -> Result<bool, Refusal>
     requires { sound (capacity state.old) (view state.old) ≡ true }
-    ensures { (demote_said result ≡ (call state.old (Demote key)).answer) × (state.new ≡ (call state.old (Demote key)).memory) }
+    ensures { (said KeyHeld result ≡ (call state.old (Demote key)).answer) × (state.new ≡ (call state.old (Demote key)).memory) }
 {
     if refusals::write::LAST_SEQ < memory::head::seq(state) {
-        return DemoteAnswer::Refused(3);
+        return Err(Refusal::StampsSpent);
     }
     let n = memory::head::row_count(state) as usize;
     let at = search::keys::search(state, n, key);
     match at {
         Ok(i) => {
             demote_at(state, n, i);
-            DemoteAnswer::Held(true)
+            Ok(true)
         }
-        Err(_) => DemoteAnswer::Held(false),
+        Err(_) => Ok(false),
     }
 }
 
-pub fn demote(state: &mut [u8], key: NodeAddr) -> DemoteAnswer
-    ensures { (demote_said result ≡ (call state.old (Demote key)).answer) × (state.new ≡ (call state.old (Demote key)).memory) }
+pub fn demote(state: &mut [u8], key: NodeAddr) -> Result<bool, Refusal>
+    ensures { (said KeyHeld result ≡ (call state.old (Demote key)).answer) × (state.new ≡ (call state.old (Demote key)).memory) }
 {
-    if !state::check::is_sound(state) {
-        return DemoteAnswer::Refused(1);
-    }
+    check_sound(state)?;
     demote_unchecked(state, key)
 }

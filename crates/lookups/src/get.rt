@@ -8,6 +8,7 @@ ghost use Rattle.rules.specs.Lent.{call, got_part};
 ghost use Rattle.lookups.specs.Steps.{StandsAt};
 
 use entries::path::PathPlace;
+use state::check::check_sound;
 use types::node_addr::NodeAddr;
 
 // Nothing is found.
@@ -52,10 +53,14 @@ pub fn get<'a>(state: &'a [u8], key: NodeAddr, time: u64, refused: &mut u8) -> &
     ensures why { refused.new ≡ refusal_of (call state.now (Get key time)).answer }
     ensures left { state.now ≡ (call state.now (Get key time)).memory }
 {
-    if !state::check::is_sound(state) {
-        *refused = 1;
-        return &state[0..0];
+    match check_sound(state) {
+        Ok(()) => {
+            *refused = 0;
+            get_unchecked(state, key, time)
+        }
+        Err(refusal) => {
+            *refused = u8::from(refusal);
+            &state[0..0]
+        }
     }
-    *refused = 0;
-    get_unchecked(state, key, time)
 }

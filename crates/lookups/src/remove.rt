@@ -1,34 +1,19 @@
 // remove.
 ghost use Rattle.std.specs.Prelude.{◌≡◌, true, ◌-◌};
 ghost use Rattle.rules.specs.Sound.{sound};
-ghost use Rattle.rules.specs.Calls.{Remove};
-ghost use Rattle.rules.specs.Answers.{blank_entry, removal_said, entry_given};
+ghost use Rattle.rules.specs.Calls.{Remove, EntryRemoved};
+ghost use Rattle.rules.specs.Answers.{said};
 ghost use Rattle.rules.specs.Memory.{capacity, view};
 ghost use Rattle.rules.specs.Lent.{call};
 
-use types::answers::{Removal, RemoveAnswer};
-use types::coord::Path;
-use types::entry::{CacheEntry, CoordSource, PathMtu};
+use state::check::check_sound;
+use types::entry::CacheEntry;
 use types::node_addr::NodeAddr;
+use types::refusal::Refusal;
 
-// The entry beside a removal that removed nothing.
-fn blank_entry() -> CacheEntry
-    ensures { result ≡ blank_entry }
-{
-    CacheEntry {
-        path: Path::empty(),
-        created_at: 0,
-        last_used: 0,
-        expires_at: 0,
-        path_mtu: PathMtu::Unknown,
-        source: CoordSource::Hint,
-        verified_until: 0,
-    }
-}
-
-pub fn remove_unchecked(state: &mut [u8], key: NodeAddr) -> RemoveAnswer
+pub fn remove_unchecked(state: &mut [u8], key: NodeAddr) -> Option<CacheEntry>
     requires { sound (capacity state.old) (view state.old) ≡ true }
-    ensures { (removal_said result.removal result.entry ≡ (call state.old (Remove key)).answer) × (result.entry ≡ entry_given (call state.old (Remove key)).answer) × (state.new ≡ (call state.old (Remove key)).memory) }
+    ensures { (EntryRemoved result ≡ (call state.old (Remove key)).answer) × (state.new ≡ (call state.old (Remove key)).memory) }
 {
     let n = memory::head::row_count(state) as usize;
     let at = search::keys::search(state, n, key);
@@ -36,26 +21,15 @@ pub fn remove_unchecked(state: &mut [u8], key: NodeAddr) -> RemoveAnswer
         Ok(i) => {
             let entry = entries::entry::load_entry(state, n, i);
             memory::rows::remove_row(state, n, i);
-            RemoveAnswer {
-                removal: Removal::Removed,
-                entry: entry,
-            }
+            Some(entry)
         }
-        Err(_) => RemoveAnswer {
-            removal: Removal::Absent,
-            entry: blank_entry(),
-        },
+        Err(_) => None,
     }
 }
 
-pub fn remove(state: &mut [u8], key: NodeAddr) -> RemoveAnswer
-    ensures { (removal_said result.removal result.entry ≡ (call state.old (Remove key)).answer) × (result.entry ≡ entry_given (call state.old (Remove key)).answer) × (state.new ≡ (call state.old (Remove key)).memory) }
+pub fn remove(state: &mut [u8], key: NodeAddr) -> Result<Option<CacheEntry>, Refusal>
+    ensures { (said EntryRemoved result ≡ (call state.old (Remove key)).answer) × (state.new ≡ (call state.old (Remove key)).memory) }
 {
-    if !state::check::is_sound(state) {
-        return RemoveAnswer {
-            removal: Removal::Refused(1),
-            entry: blank_entry(),
-        };
-    }
-    remove_unchecked(state, key)
+    check_sound(state)?;
+    Ok(remove_unchecked(state, key))
 }

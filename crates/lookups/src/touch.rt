@@ -1,11 +1,11 @@
 // get_and_touch; touch, which is the same without the part; and where the part stands.
-ghost use Rattle.std.specs.Prelude.{◌≡◌, true, ◌+◌, ◌*◌, ◌-◌, ◌≤◌, ◌<◌, length};
+ghost use Rattle.std.specs.Prelude.{◌≡◌, Ok, true, ◌+◌, ◌*◌, ◌-◌, ◌≤◌, ◌<◌, length};
 ghost use Rattle.rules.specs.Rows.{main_weight};
 ghost use Rattle.rules.specs.Sound.{sound};
 ghost use Rattle.rules.specs.Entries.{refresh};
 ghost use Rattle.rules.specs.Lookups.{rewrite};
 ghost use Rattle.rules.specs.Calls.{GetAndTouch};
-ghost use Rattle.rules.specs.Answers.{refusal_of, touch_answer, touch_reply};
+ghost use Rattle.rules.specs.Answers.{numbered, refusal_of, touch_answer, touch_reply};
 ghost use Rattle.rules.specs.Memory.{capacity, view_rows, view};
 ghost use Rattle.rules.specs.Commands.{reply};
 ghost use Rattle.rules.specs.Lent.{call, got_part};
@@ -14,8 +14,9 @@ ghost use Rattle.lookups.specs.Steps.{touched_at, touch_says, touched_place, Sta
 
 use crate::get::no_path;
 use entries::path::PathPlace;
-use types::answers::TouchAnswer;
+use state::check::check_sound;
 use types::node_addr::NodeAddr;
+use types::refusal::Refusal;
 
 // Row i is refreshed: last_used and expires_at are set.
 fn refresh_at(state: &mut [u8], n: usize, i: usize, time: u64)
@@ -27,39 +28,37 @@ fn refresh_at(state: &mut [u8], n: usize, i: usize, time: u64)
 }
 
 // Row i leaves if it is expired, and is refreshed otherwise.
-fn touch_at(state: &mut [u8], n: usize, i: usize, time: u64) -> TouchAnswer
+fn touch_at(state: &mut [u8], n: usize, i: usize, time: u64) -> Option<u64>
     requires { (i < n) × (head_size + n * row_size ≤ length state.old) × ((view_rows n state.old).stored_weight ≡ main_weight (view_rows n state.old)) }
     ensures { (result ≡ touch_says i time (view_rows n state.old)) × (view_rows (length (touched_at i time (view_rows n state.old)).rows) state.new ≡ touched_at i time (view_rows n state.old)) }
 {
     if entries::times::is_expired(state, n, i, time) {
         memory::rows::remove_row(state, n, i);
-        return TouchAnswer::Absent;
+        return None;
     }
     let len = raw::numbers::wide(memory::row::path_len(state, n, i));
     refresh_at(state, n, i, time);
-    TouchAnswer::Found(len)
+    Some(len)
 }
 
-// get_and_touch without the part: reply and memory.
-pub fn touch_unchecked(state: &mut [u8], key: NodeAddr, time: u64) -> TouchAnswer
+// get_and_touch without the part: the length of the path found, and the memory.
+pub fn touch_unchecked(state: &mut [u8], key: NodeAddr, time: u64) -> Option<u64>
     requires { sound (capacity state.old) (view state.old) ≡ true }
-    ensures { (touch_reply result ≡ reply (call state.old (GetAndTouch key time)).answer) × (result ≡ touch_answer (call state.old (GetAndTouch key time)).answer) × (state.new ≡ (call state.old (GetAndTouch key time)).memory) }
+    ensures { (touch_reply (Ok result) ≡ reply (call state.old (GetAndTouch key time)).answer) × (Ok result ≡ touch_answer (call state.old (GetAndTouch key time)).answer) × (state.new ≡ (call state.old (GetAndTouch key time)).memory) }
 {
     let n = memory::head::row_count(state) as usize;
     let at = search::keys::search(state, n, key);
     match at {
         Ok(i) => touch_at(state, n, i, time),
-        Err(_) => TouchAnswer::Absent,
+        Err(_) => None,
     }
 }
 
-pub fn touch(state: &mut [u8], key: NodeAddr, time: u64) -> TouchAnswer
-    ensures { (touch_reply result ≡ reply (call state.old (GetAndTouch key time)).answer) × (result ≡ touch_answer (call state.old (GetAndTouch key time)).answer) × (state.new ≡ (call state.old (GetAndTouch key time)).memory) }
+pub fn touch(state: &mut [u8], key: NodeAddr, time: u64) -> Result<Option<u64>, Refusal>
+    ensures { (touch_reply result ≡ reply (call state.old (GetAndTouch key time)).answer) × (numbered result ≡ touch_answer (call state.old (GetAndTouch key time)).answer) × (state.new ≡ (call state.old (GetAndTouch key time)).memory) }
 {
-    if !state::check::is_sound(state) {
-        return TouchAnswer::Refused(1);
-    }
-    touch_unchecked(state, key, time)
+    check_sound(state)?;
+    Ok(touch_unchecked(state, key, time))
 }
 
 // Row i is touched; where its path then stands.
@@ -68,11 +67,9 @@ fn touch_row(state: &mut [u8], n: usize, i: usize, time: u64) -> PathPlace
     ensures { (result ≡ touched_place i time (view_rows n state.old)) × (view_rows (length (touched_at i time (view_rows n state.old)).rows) state.new ≡ touched_at i time (view_rows n state.old)) }
 {
     let place = entries::path::path_place(state, n, i);
-    let answer = touch_at(state, n, i, time);
-    match answer {
-        TouchAnswer::Found(_) => place,
-        TouchAnswer::Absent => no_path(),
-        TouchAnswer::Refused(_) => no_path(),
+    match touch_at(state, n, i, time) {
+        Some(_) => place,
+        None => no_path(),
     }
 }
 
@@ -111,11 +108,15 @@ pub fn get_and_touch<'a>(
     ensures part { result.now ≡ got_part key time (call state.old (GetAndTouch key time)).memory }
     ensures why { refused.new ≡ refusal_of (call state.old (GetAndTouch key time)).answer }
 {
-    if !state::check::is_sound(state) {
-        *refused = 1;
-        let after = &state[..];
-        return &after[0..0];
+    match check_sound(state) {
+        Ok(()) => {
+            *refused = 0;
+            get_and_touch_unchecked(state, key, time)
+        }
+        Err(refusal) => {
+            *refused = u8::from(refusal);
+            let after = &state[..];
+            &after[0..0]
+        }
     }
-    *refused = 0;
-    get_and_touch_unchecked(state, key, time)
 }

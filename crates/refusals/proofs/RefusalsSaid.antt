@@ -45,8 +45,7 @@ module _ (l : List ℕ) {a : Result (Unit {0}) Refusal} (e : a ≡ cond (sound (
   one_told f q (Ok v) h w = absurd w
   one_told f q (Err y) h w = rw w (one_said q h)
 
--- the same of a call that asks is_sound itself: b is what it answers
-module _ (l : List ℕ) {b : Bool} (e : b ≡ sound (capacity l) (view l)) where
-  pub one_numbered : (q : Call) → b ≡ false → (1 ≡ refusal_of (call l q).answer) × (l ≡ (call l q).memory)
+  -- as a call says it that lends a number beside the state
+  pub one_numbered : (q : Call) {r : Refusal} {n : ℕ} → a ≡ Err r → n ≡ refusal_code r → (n ≡ refusal_of (call l q).answer) × (l ≡ (call l q).memory)
   unfolding refusal_of
-  one_numbered q h = let u = said l q 1 (refused_one (capacity l) (view l) q (sym e ∙ h)) in (ap refusal_of u.0, u.1)
+  one_numbered q h e = let u = one_said q h in (e ∙ ap refusal_of u.0, u.1)

@@ -1,5 +1,4 @@
 -- A seq over LAST_SEQ is refusal 3; up to it the call is not refused, and its state is demoted_at i where find gives i, else the same state.
-use Rattle.rules.specs.Answers.{demote_said}
 use Rattle.rules.proofs.MemoryLaws.{all_bytes}
 use Rattle.refusals.proofs.SoundCalls.{head_there, searchable}
 use Rattle.refusals.proofs.SearchedKeys.{Searched, held, absent}
@@ -10,7 +9,7 @@ pub seq-requires : goal.seq-requires
 seq-requires c = head_there _ c.requires
 
 pub returns-then-seq-gt-LAST_SEQ : goal.returns-then-seq-gt-LAST_SEQ
-returns-then-seq-gt-LAST_SEQ c = unfold demote_said in demote_refused _ _ c.requires c.seq.ensures c.if-seq-gt-LAST_SEQ.true
+returns-then-seq-gt-LAST_SEQ c = demote_refused _ _ c.requires c.seq.ensures c.if-seq-gt-LAST_SEQ.true
 
 pub row_count-n-requires : goal.row_count-n-requires
 row_count-n-requires c = head_there _ c.requires
@@ -24,7 +23,6 @@ demote_at-requires c =
     demote_asked c.seq.ensures c.if-seq-gt-LAST_SEQ.false (held key_searched c.in-Ok.is)
 
 pub returns-in-Ok : goal.returns-in-Ok
-unfolding demote_said
 returns-in-Ok c =
     let key_searched : Searched c.args.key c.row_count-n.result c.search-at.result c.args.state.now = record { sound = c.requires; counted = c.row_count-n.ensures; outcome = c.search-at.ensures } in
     let bytes = all_bytes c.demote_at.new.state (λ i. (c.slice_known-in-Ok-1.given i).fits) in
@@ -32,7 +30,6 @@ returns-in-Ok c =
     (held key_searched c.in-Ok.is) _ bytes c.demote_at.auto.state c.demote_at.ensures
 
 pub returns-in-Err : goal.returns-in-Err
-unfolding demote_said
 returns-in-Err c =
     let key_searched : Searched c.args.key c.row_count-n.result c.search-at.result c.args.state.now = record { sound = c.requires; counted = c.row_count-n.ensures; outcome = c.search-at.ensures } in
     let bytes = all_bytes c.args.state.now (λ i. (c.slice_known-1.given i).fits) in

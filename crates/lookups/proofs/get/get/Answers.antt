@@ -4,16 +4,13 @@ use Rattle.lookups.proofs.UnsoundLookups.{one_got}
 use Rattle.lookups.proofs.FoundRows.{get_zero}
 use Rattle.lookups.proofs.get.get.Goals as goal
 
-pub returns-then-not-is_sound : goal.returns-then-not-is_sound
-returns-then-not-is_sound c =
-    let e = c.is_sound.ensures in
-    let u = one_numbered _ e _ c.if-not-is_sound.true in
-    record { part = one_got _ _ _ (unsound _ e c.if-not-is_sound.true); why = u.0; left = u.1 }
+pub returns-in-Err : goal.returns-in-Err
+returns-in-Err c =
+    let e = c.check_sound.ensures in
+    let u = one_numbered _ e _ c.in-Err.is c.from.ensures in
+    record { part = one_got _ _ _ (unsound _ e c.in-Err.is).0; why = u.0; left = u.1 }
 
-pub get_unchecked-requires : goal.get_unchecked-requires
-get_unchecked-requires c = checked _ c.is_sound.ensures c.if-not-is_sound.false
-
-pub returns : goal.returns
-returns c =
+pub returns-in-Ok : goal.returns-in-Ok
+returns-in-Ok c =
     let r = c.get_unchecked.ensures in
-    record { part = r.part; why = get_zero _ _ _ (checked _ c.is_sound.ensures c.if-not-is_sound.false); left = r.left }
+    record { part = r.part; why = get_zero _ _ _ (checked _ c.check_sound.ensures c.in-Ok.is); left = r.left }

@@ -1,10 +1,7 @@
--- entry_given of refusal 1 is the blank entry (one_removed); a sound memory meets the precondition of remove_unchecked.
-use Rattle.refusals.proofs.RefusalsSaid.{checked, unsound}
-use Rattle.lookups.proofs.RemovedRows.{one_removed}
+-- An unsound state is refused by 1.
+use Rattle.rules.specs.Calls.{EntryRemoved}
+use Rattle.refusals.proofs.RefusalsSaid.{one_told}
 use Rattle.lookups.proofs.remove.remove.Goals as goal
 
-pub returns-then-not-is_sound : goal.returns-then-not-is_sound
-returns-then-not-is_sound c = one_removed _ _ _ (unsound _ c.is_sound.ensures c.if-not-is_sound.true) c.blank_entry.ensures
-
-pub remove_unchecked-requires : goal.remove_unchecked-requires
-remove_unchecked-requires c = checked _ c.is_sound.ensures c.if-not-is_sound.false
+pub returns-in_err-check_sound : goal.returns-in_err-check_sound
+returns-in_err-check_sound c = one_told _ c.check_sound.ensures EntryRemoved _ _ (c.in_err-check_sound.was {u = tt}) c.from_residual.ensures.1

@@ -1,4 +1,4 @@
--- The search agrees with find; Removed says answer, entry and memory, for a row taken out and for a key that has none.
+-- The search agrees with find; Removed says answer and memory, for a row taken out and for a key that has none.
 use Rattle.rules.proofs.MemoryLaws.{all_bytes}
 use Rattle.refusals.proofs.SoundCalls.{head_there, searchable}
 use Rattle.refusals.proofs.SearchedKeys.{Searched, held, absent, row_asked, removal_asked}
@@ -31,4 +31,4 @@ pub returns-in-Err : goal.returns-in-Err
 returns-in-Err c =
     let key_searched : Searched c.args.key c.row_count-n.result c.search-at.result c.args.state.now = record { sound = c.requires; counted = c.row_count-n.ensures; outcome = c.search-at.ensures } in
     let bytes = all_bytes c.args.state.now (λ i. (c.slice_known-1.given i).fits) in
-    removed_absent (absent key_searched c.in-Err.is) _ bytes c.blank_entry.ensures
+    removed_absent (absent key_searched c.in-Err.is) bytes
