@@ -12,7 +12,10 @@ use Rattle.types.specs.declared.placed.Placed.{Placed}
 use Rattle.rules.specs.Records.{State}
 use Rattle.rules.specs.Sound.{sound, ascends}
 use Rattle.rules.specs.Placement.{place_hint}
-use Rattle.rules.specs.Calls.{Call, Refused, Hinted}
+use Rattle.types.specs.declared.refusal.Refusal.{Refusal}
+use Rattle.types.specs.declared.placed.Placed.{Placed}
+use Rattle.rules.specs.Answers.{said}
+use Rattle.rules.specs.Calls.{Call, Hinted}
 use Rattle.rules.specs.Refusals.{Step, last_seq, seq_spent, perform, hinted, gives}
 use Rattle.rules.specs.Memory.{capacity, view_rows, view}
 use Rattle.rules.specs.Lent.{Bytes, call}
@@ -26,7 +29,7 @@ use Rattle.refusals.proofs.WriteRefusals.{Passed, write_refused, hint_allowed}
 use Rattle.placement.specs.declared.hint.KeyRow.{KeyRow}
 use Rattle.placement.specs.Hints.{Places, HeldAt, NewIn, Stands}
 use Rattle.room.specs.Rooms.{Without}
-use Rattle.std.specs.Prelude.{Some, Result, Ok, Err}
+use Rattle.std.specs.Prelude.{Some, Result, Ok, Err, IsErrAnd}
 use Rattle.rules.specs.Rows.{find}
 use Rattle.rules.specs.Entries.{expired}
 use Rattle.rules.proofs.SoundTest.{ascends_test}
@@ -73,10 +76,10 @@ module _ {k : NodeAddr} {n i : ℕ} {r : Result ℕ ℕ} {l : List ℕ} (s : Sea
 
 -- ---- refused by 2 or 3, or placed
 
-pub hint_refused : {n : ℕ} {k : NodeAddr} (p : Path) {time ttl : ℕ} {f : Funding} {stated : Bool} (l : List ℕ)
-    → sound (capacity l) (view l) ≡ true → n ≡ write_refusal p (view l) → (n ≡ 0 → ⊥)
-    → (q : Call) → Places q k p time ttl f stated (view l) → (Refused n ≡ (call l q).answer) × (l ≡ (call l q).memory)
-hint_refused {n} p l h e z q g = write_refused l q p n h g.path g.stamps e z
+pub hint_refused : {k : NodeAddr} (p : Path) {time ttl : ℕ} {f : Funding} {stated : Bool} (l : List ℕ) {a : Result (Unit {0}) Refusal} {x : Refusal} (r : Result Placed Refusal)
+    → sound (capacity l) (view l) ≡ true → a ≡ write_refusal p (view l) → a ≡ Err x → IsErrAnd r (λ y. y ≡ x)
+    → (q : Call) → Places q k p time ttl f stated (view l) → (said Hinted r ≡ (call l q).answer) × (l ≡ (call l q).memory)
+hint_refused p l r h e z w q g = write_refused Hinted l q p r h g.path g.stamps e z w
 
 -- which row, or that there is none
 module _ {k : NodeAddr} {time n i : ℕ} {l m : List ℕ} (r : KeyRow) (h : Stands r k time n l m) where

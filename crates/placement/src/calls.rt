@@ -2,20 +2,21 @@
 // and public.
 ghost use Rattle.std.specs.Prelude.{◌≡◌, true};
 ghost use Rattle.rules.specs.Sound.{sound};
-ghost use Rattle.rules.specs.Calls.{Insert, InsertWithTtl, InsertFunded, InsertStated};
-ghost use Rattle.rules.specs.Answers.{hint_said};
+ghost use Rattle.rules.specs.Calls.{Hinted, Insert, InsertWithTtl, InsertFunded, InsertStated};
+ghost use Rattle.rules.specs.Answers.{said};
 ghost use Rattle.rules.specs.Memory.{capacity, view};
 ghost use Rattle.rules.specs.Lent.{call};
 
 use crate::hint::place_hint;
-use types::answers::HintAnswer;
+use state::check::check_sound;
 use types::coord::Path;
 use types::node_addr::NodeAddr;
-use types::placed::Funding;
+use types::placed::{Funding, Placed};
+use types::refusal::Refusal;
 
-pub fn insert_unchecked(state: &mut [u8], key: NodeAddr, path: Path, time: u64) -> HintAnswer
+pub fn insert_unchecked(state: &mut [u8], key: NodeAddr, path: Path, time: u64) -> Result<Placed, Refusal>
     requires { sound (capacity state.old) (view state.old) ≡ true }
-    ensures { (hint_said result ≡ (call state.old (Insert key path time)).answer) × (state.new ≡ (call state.old (Insert key path time)).memory) }
+    ensures { (said Hinted result ≡ (call state.old (Insert key path time)).answer) × (state.new ≡ (call state.old (Insert key path time)).memory) }
 {
     let default_ttl = memory::head::default_ttl(state);
     place_hint(
@@ -29,12 +30,10 @@ pub fn insert_unchecked(state: &mut [u8], key: NodeAddr, path: Path, time: u64) 
     )
 }
 
-pub fn insert(state: &mut [u8], key: NodeAddr, path: Path, time: u64) -> HintAnswer
-    ensures { (hint_said result ≡ (call state.old (Insert key path time)).answer) × (state.new ≡ (call state.old (Insert key path time)).memory) }
+pub fn insert(state: &mut [u8], key: NodeAddr, path: Path, time: u64) -> Result<Placed, Refusal>
+    ensures { (said Hinted result ≡ (call state.old (Insert key path time)).answer) × (state.new ≡ (call state.old (Insert key path time)).memory) }
 {
-    if !state::check::is_sound(state) {
-        return HintAnswer::Refused(1);
-    }
+    check_sound(state)?;
     insert_unchecked(state, key, path, time)
 }
 
@@ -44,9 +43,9 @@ pub fn insert_with_ttl_unchecked(
     path: Path,
     time: u64,
     ttl: u64,
-) -> HintAnswer
+) -> Result<Placed, Refusal>
     requires { sound (capacity state.old) (view state.old) ≡ true }
-    ensures { (hint_said result ≡ (call state.old (InsertWithTtl key path time ttl)).answer) × (state.new ≡ (call state.old (InsertWithTtl key path time ttl)).memory) }
+    ensures { (said Hinted result ≡ (call state.old (InsertWithTtl key path time ttl)).answer) × (state.new ≡ (call state.old (InsertWithTtl key path time ttl)).memory) }
 {
     place_hint(state, key, path, time, ttl, Funding::Uncharged, false)
 }
@@ -57,12 +56,10 @@ pub fn insert_with_ttl(
     path: Path,
     time: u64,
     ttl: u64,
-) -> HintAnswer
-    ensures { (hint_said result ≡ (call state.old (InsertWithTtl key path time ttl)).answer) × (state.new ≡ (call state.old (InsertWithTtl key path time ttl)).memory) }
+) -> Result<Placed, Refusal>
+    ensures { (said Hinted result ≡ (call state.old (InsertWithTtl key path time ttl)).answer) × (state.new ≡ (call state.old (InsertWithTtl key path time ttl)).memory) }
 {
-    if !state::check::is_sound(state) {
-        return HintAnswer::Refused(1);
-    }
+    check_sound(state)?;
     insert_with_ttl_unchecked(state, key, path, time, ttl)
 }
 
@@ -72,9 +69,9 @@ pub fn insert_funded_unchecked(
     path: Path,
     time: u64,
     funding: Funding,
-) -> HintAnswer
+) -> Result<Placed, Refusal>
     requires { sound (capacity state.old) (view state.old) ≡ true }
-    ensures { (hint_said result ≡ (call state.old (InsertFunded key path time funding)).answer) × (state.new ≡ (call state.old (InsertFunded key path time funding)).memory) }
+    ensures { (said Hinted result ≡ (call state.old (InsertFunded key path time funding)).answer) × (state.new ≡ (call state.old (InsertFunded key path time funding)).memory) }
 {
     let default_ttl = memory::head::default_ttl(state);
     place_hint(state, key, path, time, default_ttl, funding, false)
@@ -86,12 +83,10 @@ pub fn insert_funded(
     path: Path,
     time: u64,
     funding: Funding,
-) -> HintAnswer
-    ensures { (hint_said result ≡ (call state.old (InsertFunded key path time funding)).answer) × (state.new ≡ (call state.old (InsertFunded key path time funding)).memory) }
+) -> Result<Placed, Refusal>
+    ensures { (said Hinted result ≡ (call state.old (InsertFunded key path time funding)).answer) × (state.new ≡ (call state.old (InsertFunded key path time funding)).memory) }
 {
-    if !state::check::is_sound(state) {
-        return HintAnswer::Refused(1);
-    }
+    check_sound(state)?;
     insert_funded_unchecked(state, key, path, time, funding)
 }
 
@@ -102,9 +97,9 @@ pub fn insert_stated_unchecked(
     path: Path,
     time: u64,
     funding: Funding,
-) -> HintAnswer
+) -> Result<Placed, Refusal>
     requires { sound (capacity state.old) (view state.old) ≡ true }
-    ensures { (hint_said result ≡ (call state.old (InsertStated key path time funding)).answer) × (state.new ≡ (call state.old (InsertStated key path time funding)).memory) }
+    ensures { (said Hinted result ≡ (call state.old (InsertStated key path time funding)).answer) × (state.new ≡ (call state.old (InsertStated key path time funding)).memory) }
 {
     let default_ttl = memory::head::default_ttl(state);
     let stated = path.starts_at(key);
@@ -117,11 +112,9 @@ pub fn insert_stated(
     path: Path,
     time: u64,
     funding: Funding,
-) -> HintAnswer
-    ensures { (hint_said result ≡ (call state.old (InsertStated key path time funding)).answer) × (state.new ≡ (call state.old (InsertStated key path time funding)).memory) }
+) -> Result<Placed, Refusal>
+    ensures { (said Hinted result ≡ (call state.old (InsertStated key path time funding)).answer) × (state.new ≡ (call state.old (InsertStated key path time funding)).memory) }
 {
-    if !state::check::is_sound(state) {
-        return HintAnswer::Refused(1);
-    }
+    check_sound(state)?;
     insert_stated_unchecked(state, key, path, time, funding)
 }

@@ -1,8 +1,8 @@
 // A hint, placed by 01's steps, or refused by 2 or 3.
 ghost use Rattle.std.specs.Prelude.{◌≡◌, true};
 ghost use Rattle.rules.specs.Sound.{sound};
-ghost use Rattle.rules.specs.Calls.{Call};
-ghost use Rattle.rules.specs.Answers.{hint_said};
+ghost use Rattle.rules.specs.Calls.{Call, Hinted};
+ghost use Rattle.rules.specs.Answers.{said};
 ghost use Rattle.rules.specs.Memory.{capacity, view_rows, view};
 ghost use Rattle.rules.specs.Lent.{call};
 ghost use Rattle.placement.specs.Hints.{Places, Stands};
@@ -10,10 +10,11 @@ ghost use Rattle.placement.specs.Hints.{Places, Stands};
 use crate::held_key::place_held;
 use crate::new_key::place_new;
 use memory::rows::remove_row;
-use types::answers::HintAnswer;
+use refusals::write::write_refusal;
 use types::coord::Path;
 use types::node_addr::NodeAddr;
-use types::placed::Funding;
+use types::placed::{Funding, Placed};
+use types::refusal::Refusal;
 
 // The key's row or, where it has none, how many rows there are.
 #[derive(Clone, Copy)]
@@ -50,22 +51,15 @@ pub fn place_hint(
     ttl: u64,
     funding: Funding,
     stated: bool,
-) -> HintAnswer
+) -> Result<Placed, Refusal>
     requires { sound (capacity state.old) (view state.old) ≡ true }
-    ensures { (q : Call) → Places q key path time ttl funding stated (view state.old) → (hint_said result ≡ (call state.old q).answer) × (state.new ≡ (call state.old q).memory) }
+    ensures { (q : Call) → Places q key path time ttl funding stated (view state.old) → (said Hinted result ≡ (call state.old q).answer) × (state.new ≡ (call state.old q).memory) }
 {
-    let number = refusals::write::write_refusal(state, path);
-    if number != 0 {
-        return HintAnswer::Refused(number);
-    }
+    write_refusal(state, path)?;
     let n = memory::head::row_count(state) as usize;
     let at = remove_expired(state, n, key, time);
-    match at {
-        KeyRow::At(i) => {
-            HintAnswer::Placed(place_held(state, n, i, key, path, time, ttl, funding, stated))
-        }
-        KeyRow::New(rows) => {
-            HintAnswer::Placed(place_new(state, rows, key, path, time, ttl, funding))
-        }
-    }
+    Ok(match at {
+        KeyRow::At(i) => place_held(state, n, i, key, path, time, ttl, funding, stated),
+        KeyRow::New(rows) => place_new(state, rows, key, path, time, ttl, funding),
+    })
 }

@@ -1,8 +1,8 @@
 -- Numbers 2 and 3 of a call that takes a path and draws stamps.
-use mathlib.Core.Path.{◌≡◌, refl, sym, ◌∙◌}
+use mathlib.Core.Path.{◌≡◌, refl, sym, ap, ◌∙◌}
 use Prim.Native.Nat.{ℕ, ◌≤◌, ◌<◌}
 use mathlib.Core.List.{List}
-use Rattle.std.specs.Prelude.{None, Some, Result, Ok, Err}
+use Rattle.std.specs.Prelude.{None, Some, Result, Ok, Err, IsErrAnd}
 use mathlib.Core.Bool.{Bool, true, false, cond}
 use borrow.Author.Tests.{lt-ltb, le-ltb}
 use Rattle.types.specs.declared.coord.Path.{Path}
@@ -12,7 +12,8 @@ use Rattle.types.specs.Values.{refusal_code}
 use Rattle.rules.specs.Cases.{maybe}
 use Rattle.rules.specs.Records.{State}
 use Rattle.rules.specs.Sound.{sound}
-use Rattle.rules.specs.Calls.{Call, Refused, path_given, draws_stamps, verified_write}
+use Rattle.rules.specs.Answers.{said as said_as}
+use Rattle.rules.specs.Calls.{Answer, Call, path_given, draws_stamps, verified_write}
 use Rattle.rules.specs.Refusals.{Asked, refusal, bad_path, seq_spent, last_seq}
 use Rattle.rules.specs.Memory.{capacity, view}
 use Rattle.rules.specs.Lent.{call}
@@ -65,9 +66,12 @@ write_number R s q p h g d e z = go (bad_path p) refl (seq_spent s) refl (sym z 
     go {r} false x true y m = let n : r ≡ StampsSpent = cc in rw n (refused_three R s q h (given false x) d y)
     go false x false y m = absurd (cc)
 
-pub write_refused : (l : List ℕ) (q : Call) (p : Path) {a : Result (Unit {0}) Refusal} {r : Refusal} → sound (capacity l) (view l) ≡ true → path_given q ≡ Some p → draws_stamps q ≡ true
-    → a ≡ write_refusal p (view l) → a ≡ Err r → (Refused (refusal_code r) ≡ (call l q).answer) × (l ≡ (call l q).memory)
-write_refused l q p {r = r} h g d e z = said l q (refusal_code r) (write_number (capacity l) (view l) q p h g d e z)
+-- as `?` hands the refusal on
+pub write_refused : {A : Type 0} (f : A → Answer) (l : List ℕ) (q : Call) (p : Path) {a : Result (Unit {0}) Refusal} {x : Refusal} (r : Result A Refusal)
+    → sound (capacity l) (view l) ≡ true → path_given q ≡ Some p → draws_stamps q ≡ true → a ≡ write_refusal p (view l) → a ≡ Err x → IsErrAnd r (λ y. y ≡ x)
+    → (said_as f r ≡ (call l q).answer) × (l ≡ (call l q).memory)
+write_refused f l q p (Ok v) h g d e z w = absurd w
+write_refused f l q p (Err y) h g d e z w = said l q (refusal_code y) (write_number (capacity l) (view l) q p h g d e (z ∙ ap (λ (v : Refusal). Err v) (sym w)))
 
 -- a hint that goes on is not refused
 pub hint_allowed : (l : List ℕ) (q : Call) (p : Path) → sound (capacity l) (view l) ≡ true → path_given q ≡ Some p → verified_write q ≡ None

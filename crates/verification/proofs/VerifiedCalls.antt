@@ -2,7 +2,7 @@
 use mathlib.Core.Path.{◌≡◌, refl, sym, ap, ◌∙◌}
 use Prim.Native.Nat.{ℕ, ◌≤◌}
 use mathlib.Core.List.{List}
-use Rattle.std.specs.Prelude.{Option, Some, None}
+use Rattle.std.specs.Prelude.{Option, Some, None, Result, Err, IsErrAnd}
 use mathlib.Core.Bool.{Bool, true, false}
 use lib.ListN.{length}
 use borrow.Author.Tests.{ltb-false}
@@ -14,6 +14,8 @@ use Rattle.rules.specs.Cases.{maybe}
 use Rattle.rules.specs.Records.{State}
 use Rattle.rules.specs.Sound.{sound}
 use Rattle.rules.specs.Placement.{insert_verified}
+use Rattle.types.specs.declared.refusal.Refusal.{Refusal}
+use Rattle.rules.specs.Answers.{said as said_as}
 use Rattle.rules.specs.Calls.{Call, Refused, VerifiedDone, path_given, draws_stamps, verified_write}
 use Rattle.rules.specs.Refusals.{Step, seq_spent, no_place_for, perform, verifies, gives, last_seq}
 use Rattle.rules.specs.Memory.{capacity, view_rows, view}
@@ -48,9 +50,10 @@ form k p t (Some m) = record { path = refl; stamps = refl; write = refl; does = 
 
 -- ---- refused by 2 or 3
 
-pub refused_early : (k : NodeAddr) (p : Path) (t : ℕ) (mtu : Option ℕ) (l : List ℕ) {n : ℕ} → sound (capacity l) (view l) ≡ true → n ≡ write_refusal p (view l) → (n ≡ 0 → ⊥)
-    → (Refused n ≡ (call l (verified_call k p t mtu)).answer) × (l ≡ (call l (verified_call k p t mtu)).memory)
-refused_early k p t mtu l {n} h e z = let f = form k p t mtu in write_refused l (verified_call k p t mtu) p n h f.path f.stamps e z
+pub refused_early : (k : NodeAddr) (p : Path) (t : ℕ) (mtu : Option ℕ) (l : List ℕ) {a : Result (Unit {0}) Refusal} {x : Refusal} (r : Result VerifiedInsert Refusal)
+    → sound (capacity l) (view l) ≡ true → a ≡ write_refusal p (view l) → a ≡ Err x → IsErrAnd r (λ y. y ≡ x)
+    → (said_as VerifiedDone r ≡ (call l (verified_call k p t mtu)).answer) × (l ≡ (call l (verified_call k p t mtu)).memory)
+refused_early k p t mtu l r h e z w = let f = form k p t mtu in write_refused VerifiedDone l (verified_call k p t mtu) p r h f.path f.stamps e z w
 
 -- ---- not refused by 2 or 3: b says whether main has no place
 

@@ -1,17 +1,15 @@
 -- 2 and 3 are write_refusal's and 4 is no_place_for's; where none is given the call is done, and file_verified leaves its state.
-use Rattle.rules.specs.Answers.{verified_said}
 use Rattle.rules.proofs.MemoryLaws.{all_bytes}
 use Rattle.refusals.proofs.SoundCalls.{head_there}
 use Rattle.refusals.proofs.WriteRefusals.{passed}
 use Rattle.verification.proofs.VerifiedCalls.{Underway, rows_sound_lem, refused_early, refused_by_four, insert_asked, insert_done}
 use Rattle.verification.proofs.calls.verify.Goals as goal
 
-pub write_refusal-number-requires : goal.write_refusal-number-requires
-write_refusal-number-requires c = head_there _ c.requires
+pub write_refusal-requires : goal.write_refusal-requires
+write_refusal-requires c = head_there _ c.requires
 
-pub returns-then-number-ne0 : goal.returns-then-number-ne0
-unfolding verified_said
-returns-then-number-ne0 c = refused_early c.args.key _ c.args.time c.args.mtu _ c.requires c.write_refusal-number.ensures c.if-number-ne0.true
+pub returns-in_err-write_refusal : goal.returns-in_err-write_refusal
+returns-in_err-write_refusal c = refused_early c.args.key _ c.args.time c.args.mtu _ _ c.requires c.write_refusal.ensures (c.in_err-write_refusal.was {u = tt}) c.from_residual.ensures.1
 
 pub row_count-n-requires : goal.row_count-n-requires
 row_count-n-requires c = head_there _ c.requires
@@ -23,28 +21,27 @@ pub returns-then-no_place_for : goal.returns-then-no_place_for
 returns-then-no_place_for c =
     let underway : (Underway c.args.key c.args.path c.args.time c.row_count-n.result c.no_place_for.result c.args.state.now) = record {
       sound = c.requires;
-      passed = passed _ _ _ c.write_refusal-number.ensures c.if-number-ne0.false;
+      passed = passed _ _ c.write_refusal.ensures (c.in_ok-write_refusal.was);
       counted = c.row_count-n.ensures;
       full = c.no_place_for.ensures;
     } in
-    unfold verified_said in refused_by_four underway c.args.mtu c.if-no_place_for.true
+    refused_by_four underway c.args.mtu c.if-no_place_for.true
 
 pub file_verified-requires : goal.file_verified-requires
 file_verified-requires c =
     let underway : (Underway c.args.key c.args.path c.args.time c.row_count-n.result c.no_place_for.result c.args.state.now) = record {
       sound = c.requires;
-      passed = passed _ _ _ c.write_refusal-number.ensures c.if-number-ne0.false;
+      passed = passed _ _ c.write_refusal.ensures (c.in_ok-write_refusal.was);
       counted = c.row_count-n.ensures;
       full = c.no_place_for.ensures;
     } in
     insert_asked underway c.if-no_place_for.false
 
 pub returns : goal.returns
-unfolding verified_said
 returns c =
     let underway : (Underway c.args.key c.args.path c.args.time c.row_count-n.result c.no_place_for.result c.args.state.now) = record {
       sound = c.requires;
-      passed = passed _ _ _ c.write_refusal-number.ensures c.if-number-ne0.false;
+      passed = passed _ _ c.write_refusal.ensures (c.in_ok-write_refusal.was);
       counted = c.row_count-n.ensures;
       full = c.no_place_for.ensures;
     } in
