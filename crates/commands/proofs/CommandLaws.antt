@@ -3,7 +3,7 @@ use mathlib.Core.Path.{◌≡◌, refl, sym, ◌∙◌, ap}
 use Prim.Native.Nat.{ℕ, ◌+◌, ◌-◌, ◌≤◌, ◌<◌}
 use native.Mathlib.Omega.{arith}
 use mathlib.Core.List.{List}
-use Rattle.std.specs.Prelude.{None, Some}
+use Rattle.std.specs.Prelude.{None, Some, Result, Ok, Err, is_ok}
 use mathlib.Core.Bool.{Bool, true, false, ◌||◌}
 use lib.Dec.{eqb}
 use lib.ListN.{length, get_or, drop, length-drop}
@@ -13,14 +13,15 @@ use denote.Laws.{Is}
 use Rattle.types.specs.contracts.sender.Sender as Whole
 use Rattle.types.specs.declared.sender.Sender.{Sender}
 use Rattle.types.specs.declared.coord.CoordEntry.{CoordEntry}
-use Rattle.types.specs.declared.coord.Appended.{Appended}
+use Rattle.types.specs.declared.coord.Path.{Path}
+use Rattle.types.specs.declared.refusal.Refusal.{Refusal}
+use Rattle.types.specs.declared.refusal.Refusal.TheVariants.{UnsoundState, PathLength, StampsSpent, NoPlace, BadLimits, BadCommand}
 use Rattle.types.specs.Paths.{appended}
-use Rattle.types.specs.Senders.{with_pending, emptied}
-use Rattle.types.specs.Values.{refuses}
+use Rattle.types.specs.Senders.{with_element, emptied}
 use Rattle.rules.specs.Sound.{sound}
 use Rattle.rules.specs.Calls.{Call}
 use Rattle.rules.specs.Refusals.{Fresh, Asked, perform_request, gives}
-use Rattle.rules.specs.Answers.{refusal_of}
+use Rattle.rules.specs.Answers.{refusal_of, said, done as done_as}
 use Rattle.rules.specs.Memory.{cut, le_number, coord_entry_of, capacity, view}
 use Rattle.rules.specs.Lent.{Bytes, Typed, lent, call}
 use Rattle.rules.specs.Commands.{Code, Command, Element, WithPath, Plain, code, codes, code_of, decode, reads, read_as, after_six, element_reply, fresh_max_size, fresh_ttl_at, fresh_size, reply}
@@ -28,7 +29,7 @@ use Rattle.rules.specs.Layout.{number_size, coord_entry_size}
 use Rattle.rules.proofs.MemoryLaws.{all_bytes, bytes_drop}
 use Rattle.rules.proofs.Public.{unsound_one}
 use Rattle.rules.proofs.CommandRuns.{Reads}
-use Rattle.rules.proofs.LentSound.{call_same, fresh_sound, number_reply}
+use Rattle.rules.proofs.LentSound.{call_same, fresh_sound}
 use Rattle.memory.proofs.OwnedValues.{owned_path}
 use Rattle.commands.specs.OnMemory.{Session, session, answered, pended, obey, refused_six, obey_byte}
 use Rattle.commands.specs.declared.command.AfterCommand.{AfterCommand}
@@ -151,11 +152,22 @@ module _ {b : ℕ} {l : List ℕ} {f : Bool} {k : Sender} {bs : List ℕ} {q : C
 
 -- ---- 00
 
-pub fresh_answers : {l : List ℕ} {f : Bool} {k : Sender} {i : List ℕ} {at : ℕ} → Given 0x00 l f k i at → {max ttl n : ℕ} {r : AfterCommand} {m : List ℕ} → fresh_size ≤ length i - at
-    → max ≡ le_number (cut at fresh_max_size i) → ttl ≡ le_number (cut (at + fresh_ttl_at) number_size i) → n ≡ refusal_of (lent l (Fresh max ttl)).answer → m ≡ (lent l (Fresh max ttl)).memory
-    → r.reply ≡ refuses n → r.sender ≡ k → r.sound ≡ f || eqb n 0 → Answers (obey_byte (session l k) 0x00 (drop at i)) r m
+-- it is done where its number is 0
+done_code : (a : Result (Unit {0}) Refusal) → is_ok a ≡ eqb (refusal_of (said done_as a)) 0
+unfolding refusal_of
+done_code (Ok u) = refl
+done_code (Err UnsoundState) = refl
+done_code (Err PathLength) = refl
+done_code (Err StampsSpent) = refl
+done_code (Err NoPlace) = refl
+done_code (Err BadLimits) = refl
+done_code (Err BadCommand) = refl
+
+pub fresh_answers : {l : List ℕ} {f : Bool} {k : Sender} {i : List ℕ} {at : ℕ} → Given 0x00 l f k i at → {max ttl : ℕ} (a : Result (Unit {0}) Refusal) {r : AfterCommand} {m : List ℕ} → fresh_size ≤ length i - at
+    → max ≡ le_number (cut at fresh_max_size i) → ttl ≡ le_number (cut (at + fresh_ttl_at) number_size i) → said done_as a ≡ (lent l (Fresh max ttl)).answer → m ≡ (lent l (Fresh max ttl)).memory
+    → r.reply ≡ reply (said done_as a) → r.sender ≡ k → r.sound ≡ f || is_ok a → Answers (obey_byte (session l k) 0x00 (drop at i)) r m
 unfolding code_of codes code read_as obey answered perform_request gives
-fresh_answers {l = l} {f = f} {k = k} {i = i} {at = at} g {max = max} {ttl = ttl} {n = n} {m = m} w em et en ml er ep es =
+fresh_answers {l = l} {f = f} {k = k} {i = i} {at = at} g {max = max} {ttl = ttl} d {m = m} w em et en ml er ep es =
     let o = cut at fresh_size i in
     let x = Fresh (le_number (cut 0 fresh_max_size o)) (le_number (cut fresh_ttl_at number_size o)) in
     let a : Fresh max ttl ≡ x = cc (first_at at fresh_size fresh_max_size i (omega arith) em, number_at at fresh_size fresh_ttl_at number_size i (omega arith) et) in
@@ -163,16 +175,16 @@ fresh_answers {l = l} {f = f} {k = k} {i = i} {at = at} g {max = max} {ttl = ttl
     let t = command_fits k y (bytes_drop at i g.input) g.sender in
     let z : m ≡ (lent l x).memory = ml ∙ ap (λ v. (lent l v).memory) a in
     rw (obeyed_is (session l k) y) (record {
-      says = er ∙ ap refuses en ∙ sym (number_reply l (Fresh max ttl) refl) ∙ ap (λ v. reply (lent l v).answer) a;
+      says = er ∙ ap reply en ∙ ap (λ v. reply (lent l v).answer) a;
       sends = ep;
       leaves = z;
-      sounds = es ∙ fresh_sound l _ _ g.memory t.0 t.1 f g.sounds n (rw (sym a) en) ∙ ap (λ (u : List ℕ). sound (capacity u) (view u)) (sym z);
+      sounds = es ∙ ap (λ (b : Bool). f || b) (done_code d) ∙ fresh_sound l _ _ g.memory t.0 t.1 f g.sounds (refusal_of (said done_as d)) (rw (sym a) (ap refusal_of en)) ∙ ap (λ (u : List ℕ). sound (capacity u) (view u)) (sym z);
     })
 
 -- ---- 01
 
-pub element_answers : {l : List ℕ} {f : Bool} {k : Sender} {i : List ℕ} {at : ℕ} → Given 0x01 l f k i at → {e : CoordEntry} {a : Appended} {r : AfterCommand} → coord_entry_size ≤ length i - at
-    → e ≡ coord_entry_of (cut at coord_entry_size i) → a ≡ appended k.pending e → r.reply ≡ element_reply a → r.sender ≡ with_pending a.path k → r.sound ≡ f
+pub element_answers : {l : List ℕ} {f : Bool} {k : Sender} {i : List ℕ} {at : ℕ} → Given 0x01 l f k i at → {e : CoordEntry} {a : Result Path Refusal} {r : AfterCommand} → coord_entry_size ≤ length i - at
+    → e ≡ coord_entry_of (cut at coord_entry_size i) → a ≡ appended k.pending e → r.reply ≡ element_reply a → r.sender ≡ with_element a k → r.sound ≡ f
     → Answers (obey_byte (session l k) 0x01 (drop at i)) r l
 unfolding code_of codes code read_as obey pended
 element_answers {l = l} {k = k} {i = i} {at = at} g {a = a} {r = r} w ee ea er ep ef =

@@ -3,7 +3,7 @@ use mathlib.Core.Path.{◌≡◌, ◌∙◌, subst}
 use Prim.Native.Nat.{ℕ, zero, suc, ◌+◌}
 use native.Mathlib.Omega.{arith}
 use mathlib.Core.List.{List, [], ◌∷◌}
-use Rattle.std.specs.Prelude.{Option}
+use Rattle.std.specs.Prelude.{Option, Result}
 use mathlib.Core.Bool.{true}
 use lib.Dec.{eqb, leb, ltb}
 use lib.ListN.{length, take, drop, set, length-set, length-replicate}
@@ -11,10 +11,10 @@ use lib.Seq.{length-take-le}
 use borrow.Author.Tests.{leb-true}
 use Rattle.types.specs.declared.coord.CoordEntry.{CoordEntry}
 use Rattle.types.specs.declared.coord.Path.{Path}
-use Rattle.types.specs.declared.coord.Appended.{Appended}
+use Rattle.types.specs.declared.refusal.Refusal.{Refusal}
 use Rattle.types.specs.declared.sender.Sender.{Sender}
 use Rattle.types.specs.Paths.{zero_entry, empty_path, appended, path_places}
-use Rattle.types.specs.Senders.{new_sender, with_pending, emptied}
+use Rattle.types.specs.Senders.{with_element, new_sender, with_pending, emptied}
 use Rattle.types.specs.declared.placed.Funding.{Funding}
 use Rattle.types.specs.declared.placed.Funding.TheVariants.{Upto, Uncharged}
 use Rattle.rules.specs.Cases.{maybe, Every}
@@ -71,9 +71,12 @@ every_set (x ∷ xs) zero e h g = (h, g.1)
 every_set (x ∷ xs) (suc i) e h g = (g.0, every_set xs i e h g.1)
 
 -- an element more, or none
-pub appended_fits : (p : Path) (e : CoordEntry) → PathFits p → CoordEntryFits e → PathFits (appended p e).path
+pub element_fits : (k : Sender) (e : CoordEntry) → SenderFits k → CoordEntryFits e → SenderFits (with_element (appended k.pending e) k)
 unfolding appended
-appended_fits p e f h = by_cond (λ (a : Appended). PathFits a.path) (ltb p.len path_places) (λ t. record { places = length-set p.entries p.len e ∙ f.places; each = every_set p.entries p.len e h f.each }) (λ t. f)
+element_fits k e f h =
+    let p = k.pending in
+    let longer : PathFits (record { entries = set p.entries p.len e; len = p.len + 1 }) = record { places = length-set p.entries p.len e ∙ f.pending.places; each = every_set p.entries p.len e h f.pending.each } in
+    by_cond (λ (a : Result Path Refusal). SenderFits (with_element a k)) (ltb p.len path_places) (λ t. record { pending = longer }) (λ t. f)
 
 -- ---- every command is typed
 

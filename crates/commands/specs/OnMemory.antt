@@ -1,9 +1,10 @@
 -- One command on the lent memory: what Commands says of a state, said of its bytes (stream, OnStates.on_states).
-use Rattle.std.specs.Prelude.{ℕ, List, cond, eqb}
+use Rattle.std.specs.Prelude.{ℕ, List, Result, cond, eqb}
 use Rattle.types.specs.declared.sender.Sender.{Sender}
-use Rattle.types.specs.declared.coord.Appended.{Appended}
+use Rattle.types.specs.declared.coord.Path.{Path}
+use Rattle.types.specs.declared.refusal.Refusal.{Refusal}
 use Rattle.types.specs.Paths.{appended}
-use Rattle.types.specs.Senders.{with_pending, emptied}
+use Rattle.types.specs.Senders.{with_element, emptied}
 use Rattle.types.specs.declared.placed.Funding.{Funding}
 use Rattle.types.specs.declared.placed.Funding.TheVariants.{Upto, Uncharged}
 use Rattle.types.specs.declared.reply.Reply.{Reply}
@@ -29,8 +30,8 @@ unfoldable pub answered : Lent → Sender → Obeyed
 answered t k = record { reply = reply t.answer; session = session t.memory k }
 
 -- 01: pending; a 33rd element is refused by 2 and dropped
-unfoldable pub pended : Session → Appended → Obeyed
-pended s a = record { reply = element_reply a; session = session s.memory (with_pending a.path s.sender) }
+unfoldable pub pended : Session → Result Path Refusal → Obeyed
+pended s a = record { reply = element_reply a; session = session s.memory (with_element a s.sender) }
 
 -- codes 10 to 15 empty the pending path, refused or not; every other command keeps it
 unfoldable pub obey : Session → Command → Obeyed

@@ -2,8 +2,6 @@
 use Rattle.std.specs.Prelude.{ℕ, List, Option, None, Some}
 use Rattle.rules.specs.Cases.{maybe}
 use Rattle.rules.specs.Commands.{Code, codes, code_of}
-use Rattle.commands.specs.declared.command.Width.{Width}
-use Rattle.commands.specs.declared.command.Width.TheVariants.{Bytes, Unknown}
 
 -- by a table of codes; none for an unknown code
 unfoldable pub width_in : List Code → ℕ → Option ℕ
@@ -11,7 +9,3 @@ width_in cs b = maybe (code_of b cs) None (λ c. Some c.width)
 
 abbrev pub width_of : ℕ → Option ℕ
 width_of b = width_in codes b
-
-unfoldable pub width_is : Width → Option ℕ
-width_is (Bytes n) = Some n
-width_is Unknown = None

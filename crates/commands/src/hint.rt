@@ -8,12 +8,13 @@ ghost use Rattle.rules.specs.Commands.{kind_at, with_funding_size};
 ghost use Rattle.commands.specs.OnMemory.{obey_byte, session, funding_in};
 ghost use Rattle.commands.specs.After.{Answers};
 
-use crate::command::{AfterCommand, refused_one, refused_six};
+use crate::command::{AfterCommand, refused};
 use crate::width::{AMOUNT, KEY_TIME, KIND, TIME, TTL, WITH_FUNDING, WITH_TTL};
 use entries::addr::load_addr;
 use raw::numbers::{read_u8, read_u64};
-use replies::answer::hint_reply;
+use replies::answer::reply;
 use types::placed::Funding;
+use types::refusal::Refusal;
 use types::sender::Sender;
 
 // 10: key, time.
@@ -28,16 +29,16 @@ pub fn insert(
     ensures { Answers (obey_byte (session state.old sender) 0x10 (drop at input.now)) result state.new }
 {
     if input.len() - at < KEY_TIME {
-        return refused_six(is_sound, sender.emptied());
+        return refused(Refusal::BadCommand, is_sound, sender.emptied());
     }
     if !is_sound {
-        return refused_one(is_sound, sender.emptied());
+        return refused(Refusal::UnsoundState, is_sound, sender.emptied());
     }
     let key = load_addr(input, at);
     let time = read_u64(input, at + TIME);
     let pending = sender.pending;
     AfterCommand {
-        reply: hint_reply(placement::calls::insert_unchecked(state, key, pending, time)),
+        reply: reply(placement::calls::insert_unchecked(state, key, pending, time)),
         sender: sender.emptied(),
         sound: is_sound,
     }
@@ -55,10 +56,10 @@ pub fn insert_with_ttl(
     ensures { Answers (obey_byte (session state.old sender) 0x11 (drop at input.now)) result state.new }
 {
     if input.len() - at < WITH_TTL {
-        return refused_six(is_sound, sender.emptied());
+        return refused(Refusal::BadCommand, is_sound, sender.emptied());
     }
     if !is_sound {
-        return refused_one(is_sound, sender.emptied());
+        return refused(Refusal::UnsoundState, is_sound, sender.emptied());
     }
     let key = load_addr(input, at);
     let time = read_u64(input, at + TIME);
@@ -66,7 +67,7 @@ pub fn insert_with_ttl(
     let pending = sender.pending;
     let answer = placement::calls::insert_with_ttl_unchecked(state, key, pending, time, ttl);
     AfterCommand {
-        reply: hint_reply(answer),
+        reply: reply(answer),
         sender: sender.emptied(),
         sound: is_sound,
     }
@@ -95,14 +96,14 @@ pub fn insert_funded(
     ensures { Answers (obey_byte (session state.old sender) 0x12 (drop at input.now)) result state.new }
 {
     if input.len() - at < WITH_FUNDING {
-        return refused_six(is_sound, sender.emptied());
+        return refused(Refusal::BadCommand, is_sound, sender.emptied());
     }
     let kind = read_u8(input, at + KIND);
     if 1 < kind {
-        return refused_six(is_sound, sender.emptied());
+        return refused(Refusal::BadCommand, is_sound, sender.emptied());
     }
     if !is_sound {
-        return refused_one(is_sound, sender.emptied());
+        return refused(Refusal::UnsoundState, is_sound, sender.emptied());
     }
     let key = load_addr(input, at);
     let time = read_u64(input, at + TIME);
@@ -110,7 +111,7 @@ pub fn insert_funded(
     let pending = sender.pending;
     let answer = placement::calls::insert_funded_unchecked(state, key, pending, time, f);
     AfterCommand {
-        reply: hint_reply(answer),
+        reply: reply(answer),
         sender: sender.emptied(),
         sound: is_sound,
     }
@@ -128,14 +129,14 @@ pub fn insert_stated(
     ensures { Answers (obey_byte (session state.old sender) 0x13 (drop at input.now)) result state.new }
 {
     if input.len() - at < WITH_FUNDING {
-        return refused_six(is_sound, sender.emptied());
+        return refused(Refusal::BadCommand, is_sound, sender.emptied());
     }
     let kind = read_u8(input, at + KIND);
     if 1 < kind {
-        return refused_six(is_sound, sender.emptied());
+        return refused(Refusal::BadCommand, is_sound, sender.emptied());
     }
     if !is_sound {
-        return refused_one(is_sound, sender.emptied());
+        return refused(Refusal::UnsoundState, is_sound, sender.emptied());
     }
     let key = load_addr(input, at);
     let time = read_u64(input, at + TIME);
@@ -143,7 +144,7 @@ pub fn insert_stated(
     let pending = sender.pending;
     let answer = placement::calls::insert_stated_unchecked(state, key, pending, time, f);
     AfterCommand {
-        reply: hint_reply(answer),
+        reply: reply(answer),
         sender: sender.emptied(),
         sound: is_sound,
     }

@@ -5,12 +5,13 @@ ghost use Rattle.rules.specs.Memory.{capacity, view};
 ghost use Rattle.commands.specs.OnMemory.{obey_byte, session};
 ghost use Rattle.commands.specs.After.{Answers};
 
-use crate::command::{AfterCommand, refused_one, refused_six};
+use crate::command::{AfterCommand, refused};
 use crate::width::{KEY_TIME, TIME};
 use entries::addr::load_addr;
 use raw::layout::ADDRESS;
 use raw::numbers::read_u64;
-use types::reply::refused;
+use replies::answer::Told;
+use types::refusal::Refusal;
 use types::sender::Sender;
 
 // 20: key, time.
@@ -19,10 +20,10 @@ pub fn get(state: &[u8], is_sound: bool, sender: Sender, input: &[u8], at: usize
     ensures { Answers (obey_byte (session state.now sender) 0x20 (drop at input.now)) result state.now }
 {
     if input.len() - at < KEY_TIME {
-        return refused_six(is_sound, sender);
+        return refused(Refusal::BadCommand, is_sound, sender);
     }
     if !is_sound {
-        return refused_one(is_sound, sender);
+        return refused(Refusal::UnsoundState, is_sound, sender);
     }
     let key = load_addr(input, at);
     let time = read_u64(input, at + TIME);
@@ -46,16 +47,16 @@ pub fn touch(
     ensures { Answers (obey_byte (session state.old sender) 0x21 (drop at input.now)) result state.new }
 {
     if input.len() - at < KEY_TIME {
-        return refused_six(is_sound, sender);
+        return refused(Refusal::BadCommand, is_sound, sender);
     }
     if !is_sound {
-        return refused_one(is_sound, sender);
+        return refused(Refusal::UnsoundState, is_sound, sender);
     }
     let key = load_addr(input, at);
     let time = read_u64(input, at + TIME);
     let answer = lookups::touch::touch_unchecked(state, key, time);
     AfterCommand {
-        reply: replies::answer::touch_reply(answer),
+        reply: replies::answer::touch_reply(Ok(answer)),
         sender: sender,
         sound: is_sound,
     }
@@ -73,16 +74,15 @@ pub fn remove(
     ensures { Answers (obey_byte (session state.old sender) 0x22 (drop at input.now)) result state.new }
 {
     if input.len() - at < ADDRESS {
-        return refused_six(is_sound, sender);
+        return refused(Refusal::BadCommand, is_sound, sender);
     }
     if !is_sound {
-        return refused_one(is_sound, sender);
+        return refused(Refusal::UnsoundState, is_sound, sender);
     }
     let key = load_addr(input, at);
     let answer = lookups::remove::remove_unchecked(state, key);
-    let removal = answer.removal;
     AfterCommand {
-        reply: replies::answer::remove_reply(removal),
+        reply: answer.reply(),
         sender: sender,
         sound: is_sound,
     }
@@ -100,14 +100,14 @@ pub fn demote(
     ensures { Answers (obey_byte (session state.old sender) 0x23 (drop at input.now)) result state.new }
 {
     if input.len() - at < ADDRESS {
-        return refused_six(is_sound, sender);
+        return refused(Refusal::BadCommand, is_sound, sender);
     }
     if !is_sound {
-        return refused_one(is_sound, sender);
+        return refused(Refusal::UnsoundState, is_sound, sender);
     }
     let key = load_addr(input, at);
     AfterCommand {
-        reply: replies::answer::demote_reply(lookups::demote::demote_unchecked(state, key)),
+        reply: replies::answer::reply(lookups::demote::demote_unchecked(state, key)),
         sender: sender,
         sound: is_sound,
     }
@@ -125,14 +125,15 @@ pub fn clear_path_mtu(
     ensures { Answers (obey_byte (session state.old sender) 0x24 (drop at input.now)) result state.new }
 {
     if input.len() - at < ADDRESS {
-        return refused_six(is_sound, sender);
+        return refused(Refusal::BadCommand, is_sound, sender);
     }
     if !is_sound {
-        return refused_one(is_sound, sender);
+        return refused(Refusal::UnsoundState, is_sound, sender);
     }
     let key = load_addr(input, at);
+    lookups::path_mtu::clear_path_mtu_unchecked(state, key);
     AfterCommand {
-        reply: refused(lookups::path_mtu::clear_path_mtu_unchecked(state, key)),
+        reply: ().reply(),
         sender: sender,
         sound: is_sound,
     }

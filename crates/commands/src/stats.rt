@@ -5,9 +5,11 @@ ghost use Rattle.rules.specs.Memory.{capacity, view};
 ghost use Rattle.commands.specs.OnMemory.{obey_byte, session};
 ghost use Rattle.commands.specs.After.{Answers, AnswersBare};
 
-use crate::command::{AfterCommand, refused_one, refused_six};
+use crate::command::{AfterCommand, refused};
 use raw::layout::NUMBER;
 use raw::numbers::read_u64;
+use replies::answer::Told;
+use types::refusal::Refusal;
 use types::sender::Sender;
 
 // 40: time.
@@ -16,14 +18,14 @@ pub fn stats(state: &[u8], is_sound: bool, sender: Sender, input: &[u8], at: usi
     ensures { Answers (obey_byte (session state.now sender) 0x40 (drop at input.now)) result state.now }
 {
     if input.len() - at < NUMBER {
-        return refused_six(is_sound, sender);
+        return refused(Refusal::BadCommand, is_sound, sender);
     }
     if !is_sound {
-        return refused_one(is_sound, sender);
+        return refused(Refusal::UnsoundState, is_sound, sender);
     }
     let time = read_u64(input, at);
     AfterCommand {
-        reply: replies::answer::stats_reply(statistics::stats_unchecked(state, time)),
+        reply: statistics::stats_unchecked(state, time).reply(),
         sender: sender,
         sound: is_sound,
     }
@@ -35,10 +37,10 @@ pub fn next_expiry(state: &[u8], is_sound: bool, sender: Sender) -> AfterCommand
     ensures { AnswersBare (session state.now sender) 0x41 result state.now }
 {
     if !is_sound {
-        return refused_one(is_sound, sender);
+        return refused(Refusal::UnsoundState, is_sound, sender);
     }
     AfterCommand {
-        reply: replies::answer::expiry_reply(statistics::next_expiry_unchecked(state)),
+        reply: statistics::next_expiry_unchecked(state).reply(),
         sender: sender,
         sound: is_sound,
     }

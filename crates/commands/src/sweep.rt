@@ -5,12 +5,12 @@ ghost use Rattle.rules.specs.Memory.{capacity, view};
 ghost use Rattle.commands.specs.OnMemory.{obey_byte, session};
 ghost use Rattle.commands.specs.After.{Answers, AnswersBare};
 
-use crate::command::{AfterCommand, refused_one, refused_six};
+use crate::command::{AfterCommand, refused};
 use entries::addr::load_addr;
 use raw::layout::{ADDRESS, NUMBER};
 use raw::numbers::read_u64;
-use replies::answer::sweep_reply;
-use types::reply::refused;
+use replies::answer::Told;
+use types::refusal::Refusal;
 use types::sender::Sender;
 
 // 30: time.
@@ -25,14 +25,14 @@ pub fn purge_expired(
     ensures { Answers (obey_byte (session state.old sender) 0x30 (drop at input.now)) result state.new }
 {
     if input.len() - at < NUMBER {
-        return refused_six(is_sound, sender);
+        return refused(Refusal::BadCommand, is_sound, sender);
     }
     if !is_sound {
-        return refused_one(is_sound, sender);
+        return refused(Refusal::UnsoundState, is_sound, sender);
     }
     let time = read_u64(input, at);
     AfterCommand {
-        reply: sweep_reply(sweeps::purge_expired_unchecked(state, time)),
+        reply: sweeps::purge_expired_unchecked(state, time).reply(),
         sender: sender,
         sound: is_sound,
     }
@@ -44,10 +44,11 @@ pub fn clear(state: &mut [u8], is_sound: bool, sender: Sender) -> AfterCommand
     ensures { AnswersBare (session state.old sender) 0x31 result state.new }
 {
     if !is_sound {
-        return refused_one(is_sound, sender);
+        return refused(Refusal::UnsoundState, is_sound, sender);
     }
+    sweeps::clear_unchecked(state);
     AfterCommand {
-        reply: refused(sweeps::clear_unchecked(state)),
+        reply: ().reply(),
         sender: sender,
         sound: is_sound,
     }
@@ -65,14 +66,14 @@ pub fn invalidate_via_node(
     ensures { Answers (obey_byte (session state.old sender) 0x32 (drop at input.now)) result state.new }
 {
     if input.len() - at < ADDRESS {
-        return refused_six(is_sound, sender);
+        return refused(Refusal::BadCommand, is_sound, sender);
     }
     if !is_sound {
-        return refused_one(is_sound, sender);
+        return refused(Refusal::UnsoundState, is_sound, sender);
     }
     let addr = load_addr(input, at);
     AfterCommand {
-        reply: sweep_reply(sweeps::invalidate_via_node_unchecked(state, addr)),
+        reply: sweeps::invalidate_via_node_unchecked(state, addr).reply(),
         sender: sender,
         sound: is_sound,
     }
@@ -90,14 +91,14 @@ pub fn invalidate_other_roots(
     ensures { Answers (obey_byte (session state.old sender) 0x33 (drop at input.now)) result state.new }
 {
     if input.len() - at < ADDRESS {
-        return refused_six(is_sound, sender);
+        return refused(Refusal::BadCommand, is_sound, sender);
     }
     if !is_sound {
-        return refused_one(is_sound, sender);
+        return refused(Refusal::UnsoundState, is_sound, sender);
     }
     let addr = load_addr(input, at);
     AfterCommand {
-        reply: sweep_reply(sweeps::invalidate_other_roots_unchecked(state, addr)),
+        reply: sweeps::invalidate_other_roots_unchecked(state, addr).reply(),
         sender: sender,
         sound: is_sound,
     }

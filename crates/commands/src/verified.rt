@@ -6,11 +6,12 @@ ghost use Rattle.rules.specs.Memory.{capacity, view};
 ghost use Rattle.commands.specs.OnMemory.{obey_byte, session};
 ghost use Rattle.commands.specs.After.{Answers};
 
-use crate::command::{AfterCommand, refused_one, refused_six};
+use crate::command::{AfterCommand, refused};
 use crate::width::{KEY_TIME, MTU, TIME, WITH_MTU};
 use entries::addr::load_addr;
 use raw::numbers::{read_u16, read_u64};
-use replies::answer::verified_reply;
+use replies::answer::reply;
+use types::refusal::Refusal;
 use types::sender::Sender;
 use verification::calls::{insert_verified_unchecked, insert_verified_with_path_mtu_unchecked};
 
@@ -26,16 +27,16 @@ pub fn insert_verified(
     ensures { Answers (obey_byte (session state.old sender) 0x14 (drop at input.now)) result state.new }
 {
     if input.len() - at < KEY_TIME {
-        return refused_six(is_sound, sender.emptied());
+        return refused(Refusal::BadCommand, is_sound, sender.emptied());
     }
     if !is_sound {
-        return refused_one(is_sound, sender.emptied());
+        return refused(Refusal::UnsoundState, is_sound, sender.emptied());
     }
     let key = load_addr(input, at);
     let time = read_u64(input, at + TIME);
     let pending = sender.pending;
     AfterCommand {
-        reply: verified_reply(insert_verified_unchecked(state, key, pending, time)),
+        reply: reply(insert_verified_unchecked(state, key, pending, time)),
         sender: sender.emptied(),
         sound: is_sound,
     }
@@ -53,10 +54,10 @@ pub fn insert_verified_with_path_mtu(
     ensures { Answers (obey_byte (session state.old sender) 0x15 (drop at input.now)) result state.new }
 {
     if input.len() - at < WITH_MTU {
-        return refused_six(is_sound, sender.emptied());
+        return refused(Refusal::BadCommand, is_sound, sender.emptied());
     }
     if !is_sound {
-        return refused_one(is_sound, sender.emptied());
+        return refused(Refusal::UnsoundState, is_sound, sender.emptied());
     }
     let key = load_addr(input, at);
     let time = read_u64(input, at + TIME);
@@ -64,7 +65,7 @@ pub fn insert_verified_with_path_mtu(
     let pending = sender.pending;
     let answer = insert_verified_with_path_mtu_unchecked(state, key, pending, time, mtu);
     AfterCommand {
-        reply: verified_reply(answer),
+        reply: reply(answer),
         sender: sender.emptied(),
         sound: is_sound,
     }

@@ -10,10 +10,9 @@ use Rattle.types.specs.declared.node_addr.NodeAddr.{NodeAddr}
 use Rattle.types.specs.declared.reply.Reply.{Reply}
 use Rattle.types.specs.Values.{says}
 use Rattle.types.specs.declared.entry.CacheEntry.{CacheEntry}
-use Rattle.types.specs.declared.answers.Removal.{Removal}
-use Rattle.rules.specs.Answers.{removal_said}
+use Rattle.std.specs.Prelude.{Option}
 use Rattle.rules.specs.Sound.{sound}
-use Rattle.rules.specs.Calls.{Get, GetAndTouch, Remove}
+use Rattle.rules.specs.Calls.{EntryRemoved, Get, GetAndTouch, Remove}
 use Rattle.rules.specs.Commands.{reply}
 use Rattle.rules.specs.Refusals.{Asked}
 use Rattle.rules.specs.Memory.{cut, capacity, view}
@@ -70,10 +69,9 @@ module _ (l : List ℕ) (k' : NodeAddr) {k : NodeAddr} {r : Reply} {n : ℕ} {vs
       let touched = ap (λ (x : List ℕ). reply (call x (Get k time)).answer) d ∙ ap reply (got_after_touch l k time g (y, z)) in
       told_call a b l (got ∙ touched) refl d (ap (λ (x : NodeAddr). GetAndTouch x time) f)
 
-  -- remove, whose reply does not depend on the entry that left
-  pub removed_told : (x : Removal) (y : CacheEntry) {m : List ℕ} → ((z : CacheEntry) → r ≡ reply (removal_said x z))
-      → removal_said x y ≡ (call l (Remove k)).answer → m ≡ (call l (Remove k)).memory → Told (call l (Remove k')) n vs m
-  removed_told x y e d g = told_call a b l (e y) d g (ap Remove f)
+  pub removed_told : (x : Option CacheEntry) {m : List ℕ} → r ≡ reply (EntryRemoved x)
+      → EntryRemoved x ≡ (call l (Remove k)).answer → m ≡ (call l (Remove k)).memory → Told (call l (Remove k')) n vs m
+  removed_told x e d g = told_call a b l e d g (ap Remove f)
 
 pub row_told : (l : List ℕ) (k' : NodeAddr) (row : List ℕ) {k : NodeAddr} {row' : List ℕ}
     → row' ≡ row_taken k l row → k ≡ k' → row' ≡ row_taken k' l row

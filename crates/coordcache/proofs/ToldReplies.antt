@@ -1,21 +1,16 @@
 -- The number and the five values that an exported function tells are those of the rules' reply to the call that its operands name.
-use mathlib.Core.Path.{◌≡◌, refl, sym, ap, ◌∙◌, subst}
+use mathlib.Core.Path.{◌≡◌, ap, ◌∙◌, subst}
 use Prim.Native.Nat.{ℕ}
 use mathlib.Core.List.{List}
 use Rattle.std.specs.Prelude.{Some}
 use mathlib.Core.Bool.{Bool, true, false}
 use mir.Val.{bool_byte}
-use Rattle.types.specs.declared.node_addr.NodeAddr.{NodeAddr}
 use Rattle.types.specs.declared.placed.Funding.{Funding}
 use Rattle.types.specs.declared.reply.Reply.{Reply}
-use Rattle.types.specs.Values.{bit, refuses}
-use Rattle.rules.specs.Calls.{Answer, Call, Clear, ClearPathMtu, Done}
-use Rattle.rules.specs.Refusals.{Asked, gives, perform, perform_request}
-use Rattle.rules.specs.Answers.{refusal_of}
-use Rattle.rules.specs.Memory.{capacity, view}
+use Rattle.types.specs.Values.{bit}
+use Rattle.rules.specs.Calls.{Answer, Call}
 use Rattle.rules.specs.Commands.{reply}
 use Rattle.rules.specs.Lent.{Lent, call}
-use Rattle.rules.proofs.LentSound.{number_reply}
 use Rattle.boundary.specs.Exported.{Told, funding_from, funded}
 
 -- a reply r was handed over: its number came back, and its values went out
@@ -30,27 +25,12 @@ module _ {r : Reply} {n : ℕ} {vs : List ℕ} (a : n ≡ r.refusal) (b : vs ≡
       → Told (call l q') n vs m
   told_call l {q} {m = m} e d k f = subst (λ (y : Call). Told (call l y) n vs m) f (told (call l q) (e ∙ ap reply d) k)
 
-  -- a call that returns its number j alone
-  pub told_number : (l : List ℕ) {q q' : Call} {j : ℕ} {m : List ℕ} → r ≡ refuses j → j ≡ refusal_of (call l q).answer → m ≡ (call l q).memory → q ≡ q'
-      → (perform_request (capacity l) (view l) (Asked q)).answer ≡ Done → Told (call l q') n vs m
-  told_number l {q} e d k f z = told_call l (e ∙ ap refuses d ∙ sym (number_reply l (Asked q) z)) refl k f
-
 -- the call was made with the funding that the kind names
 pub told_funded : (l : List ℕ) (kind amount : ℕ) (f : Funding → Call) {q : Call} {y : Funding} {x : Answer} {r : Reply} {n : ℕ} {vs m : List ℕ}
     → funding_from kind amount ≡ Some y → r ≡ reply x → n ≡ r.refusal → vs ≡ r.values → x ≡ (call l q).answer → m ≡ (call l q).memory → q ≡ f y
     → Told (funded l kind amount f) n vs m
 unfolding funded
 told_funded l kind amount f w e a b d k g = rw w (told_call a b l e d k g)
-
--- ---- calls whose done answer has no values
-
-pub clear_done : (l : List ℕ) → (perform_request (capacity l) (view l) (Asked Clear)).answer ≡ Done
-unfolding perform_request perform gives
-clear_done l = refl
-
-pub clear_mtu_done : (l : List ℕ) (k : NodeAddr) → (perform_request (capacity l) (view l) (Asked (ClearPathMtu k))).answer ≡ Done
-unfolding perform_request perform gives
-clear_mtu_done l k = refl
 
 -- a bool as a number
 pub sound_bit : {b s : Bool} → b ≡ s → bool_byte b ≡ bit s

@@ -23,7 +23,8 @@ use crate::unchecked::{
 };
 use boundary::tell;
 use raw::layout::{ADDRESS, ROW};
-use types::reply::refused;
+use types::refusal::Refusal;
+use types::reply::Reply;
 
 // 1 if the memory is a sound state, else 0. It is lent by `&`, so that what it is before and after is one value.
 #[unsafe(no_mangle)]
@@ -37,7 +38,10 @@ pub extern "C" fn coord_cache_is_sound(state: &[u8]) -> u8
 pub extern "C" fn coord_cache_fresh(state: &mut [u8], max: u64, ttl: u64) -> u8
     ensures { (result ≡ refusal_of (lent state.old (Fresh max ttl)).answer) × (state.new ≡ (lent state.old (Fresh max ttl)).memory) }
 {
-    state::fresh::fresh(state, max, ttl)
+    match state::fresh::fresh(state, max, ttl) {
+        Ok(()) => 0,
+        Err(refusal) => u8::from(refusal),
+    }
 }
 
 // Hints: outcome, added weight, segment, unfunded, examined.
@@ -52,7 +56,7 @@ pub extern "C" fn coord_cache_insert(
     ensures { Told (call state.old (Insert (address_from key.now) (path_from path.now) time)) result values.new state.new }
 {
     if !state::check::is_sound(state) {
-        return tell(refused(1), values);
+        return tell(Reply::from(Refusal::UnsoundState), values);
     }
     coord_cache_insert_unchecked(state, key, path, time, values)
 }
@@ -69,7 +73,7 @@ pub extern "C" fn coord_cache_insert_with_ttl(
     ensures { Told (call state.old (InsertWithTtl (address_from key.now) (path_from path.now) time ttl)) result values.new state.new }
 {
     if !state::check::is_sound(state) {
-        return tell(refused(1), values);
+        return tell(Reply::from(Refusal::UnsoundState), values);
     }
     coord_cache_insert_with_ttl_unchecked(state, key, path, time, ttl, values)
 }
@@ -87,10 +91,10 @@ pub extern "C" fn coord_cache_insert_funded(
     ensures { Told (funded state.old kind amount (InsertFunded (address_from key.now) (path_from path.now) time)) result values.new state.new }
 {
     if 1 < kind {
-        return tell(refused(6), values);
+        return tell(Reply::from(Refusal::BadCommand), values);
     }
     if !state::check::is_sound(state) {
-        return tell(refused(1), values);
+        return tell(Reply::from(Refusal::UnsoundState), values);
     }
     coord_cache_insert_funded_unchecked(state, key, path, time, kind, amount, values)
 }
@@ -108,10 +112,10 @@ pub extern "C" fn coord_cache_insert_stated(
     ensures { Told (funded state.old kind amount (InsertStated (address_from key.now) (path_from path.now) time)) result values.new state.new }
 {
     if 1 < kind {
-        return tell(refused(6), values);
+        return tell(Reply::from(Refusal::BadCommand), values);
     }
     if !state::check::is_sound(state) {
-        return tell(refused(1), values);
+        return tell(Reply::from(Refusal::UnsoundState), values);
     }
     coord_cache_insert_stated_unchecked(state, key, path, time, kind, amount, values)
 }
@@ -128,7 +132,7 @@ pub extern "C" fn coord_cache_insert_verified(
     ensures { Told (call state.old (InsertVerified (address_from key.now) (path_from path.now) time)) result values.new state.new }
 {
     if !state::check::is_sound(state) {
-        return tell(refused(1), values);
+        return tell(Reply::from(Refusal::UnsoundState), values);
     }
     coord_cache_insert_verified_unchecked(state, key, path, time, values)
 }
@@ -145,7 +149,7 @@ pub extern "C" fn coord_cache_insert_verified_with_path_mtu(
     ensures { Told (call state.old (InsertVerifiedWithPathMtu (address_from key.now) (path_from path.now) time mtu)) result values.new state.new }
 {
     if !state::check::is_sound(state) {
-        return tell(refused(1), values);
+        return tell(Reply::from(Refusal::UnsoundState), values);
     }
     coord_cache_insert_verified_with_path_mtu_unchecked(state, key, path, time, mtu, values)
 }
@@ -162,7 +166,7 @@ pub extern "C" fn coord_cache_get(
     ensures { Told (call state.now (Get (address_from key.now) time)) result values.new state.now × PartAt at.new state.now (got_part (address_from key.now) time state.now) × (at.new ≡ place_told result at.old (address_from key.now) time state.now) }
 {
     if !state::check::is_sound(state) {
-        return tell(refused(1), values);
+        return tell(Reply::from(Refusal::UnsoundState), values);
     }
     coord_cache_get_unchecked(state, key, time, values, at)
 }
@@ -178,7 +182,7 @@ pub extern "C" fn coord_cache_get_and_touch(
     ensures { Told (call state.old (GetAndTouch (address_from key.now) time)) result values.new state.new × PartAt at.new state.new (got_part (address_from key.now) time state.new) × (at.new ≡ place_told result at.old (address_from key.now) time state.new) }
 {
     if !state::check::is_sound(state) {
-        return tell(refused(1), values);
+        return tell(Reply::from(Refusal::UnsoundState), values);
     }
     coord_cache_get_and_touch_unchecked(state, key, time, values, at)
 }
@@ -194,7 +198,7 @@ pub extern "C" fn coord_cache_remove(
     ensures { Told (call state.old (Remove (address_from key.now))) result values.new state.new × (row.new ≡ row_taken (address_from key.now) state.old row.old) }
 {
     if !state::check::is_sound(state) {
-        return tell(refused(1), values);
+        return tell(Reply::from(Refusal::UnsoundState), values);
     }
     coord_cache_remove_unchecked(state, key, values, row)
 }
@@ -209,7 +213,7 @@ pub extern "C" fn coord_cache_demote(
     ensures { Told (call state.old (Demote (address_from key.now))) result values.new state.new }
 {
     if !state::check::is_sound(state) {
-        return tell(refused(1), values);
+        return tell(Reply::from(Refusal::UnsoundState), values);
     }
     coord_cache_demote_unchecked(state, key, values)
 }
@@ -223,7 +227,7 @@ pub extern "C" fn coord_cache_clear_path_mtu(
     ensures { Told (call state.old (ClearPathMtu (address_from key.now))) result values.new state.new }
 {
     if !state::check::is_sound(state) {
-        return tell(refused(1), values);
+        return tell(Reply::from(Refusal::UnsoundState), values);
     }
     coord_cache_clear_path_mtu_unchecked(state, key, values)
 }
@@ -238,7 +242,7 @@ pub extern "C" fn coord_cache_purge_expired(
     ensures { Told (call state.old (PurgeExpired time)) result values.new state.new }
 {
     if !state::check::is_sound(state) {
-        return tell(refused(1), values);
+        return tell(Reply::from(Refusal::UnsoundState), values);
     }
     coord_cache_purge_expired_unchecked(state, time, values)
 }
@@ -248,7 +252,7 @@ pub extern "C" fn coord_cache_clear(state: &mut [u8], values: &mut [u64; 5]) -> 
     ensures { Told (call state.old Clear) result values.new state.new }
 {
     if !state::check::is_sound(state) {
-        return tell(refused(1), values);
+        return tell(Reply::from(Refusal::UnsoundState), values);
     }
     coord_cache_clear_unchecked(state, values)
 }
@@ -262,7 +266,7 @@ pub extern "C" fn coord_cache_invalidate_via_node(
     ensures { Told (call state.old (InvalidateViaNode (address_from addr.now))) result values.new state.new }
 {
     if !state::check::is_sound(state) {
-        return tell(refused(1), values);
+        return tell(Reply::from(Refusal::UnsoundState), values);
     }
     coord_cache_invalidate_via_node_unchecked(state, addr, values)
 }
@@ -276,7 +280,7 @@ pub extern "C" fn coord_cache_invalidate_other_roots(
     ensures { Told (call state.old (InvalidateOtherRoots (address_from addr.now))) result values.new state.new }
 {
     if !state::check::is_sound(state) {
-        return tell(refused(1), values);
+        return tell(Reply::from(Refusal::UnsoundState), values);
     }
     coord_cache_invalidate_other_roots_unchecked(state, addr, values)
 }
@@ -287,7 +291,7 @@ pub extern "C" fn coord_cache_stats(state: &[u8], time: u64, values: &mut [u64; 
     ensures { Told (call state.now (Stats time)) result values.new state.now }
 {
     if !state::check::is_sound(state) {
-        return tell(refused(1), values);
+        return tell(Reply::from(Refusal::UnsoundState), values);
     }
     coord_cache_stats_unchecked(state, time, values)
 }
@@ -298,7 +302,7 @@ pub extern "C" fn coord_cache_next_expiry(state: &[u8], values: &mut [u64; 5]) -
     ensures { Told (call state.now NextExpiry) result values.new state.now }
 {
     if !state::check::is_sound(state) {
-        return tell(refused(1), values);
+        return tell(Reply::from(Refusal::UnsoundState), values);
     }
     coord_cache_next_expiry_unchecked(state, values)
 }

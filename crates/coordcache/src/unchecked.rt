@@ -9,7 +9,9 @@ ghost use Rattle.coordcache.specs.Places.{place_told};
 
 use boundary::{address, funding, path_from, take_row, tell};
 use raw::layout::{ADDRESS, ROW};
-use types::reply::refused;
+use replies::answer::{Told, reply};
+use types::refusal::Refusal;
+use types::reply::Reply;
 
 // Hints: outcome, added weight, segment, unfunded, examined.
 #[unsafe(no_mangle)]
@@ -26,7 +28,7 @@ pub extern "C" fn coord_cache_insert_unchecked(
     let k = address(key);
     let p = path_from(path);
     let answer = placement::calls::insert_unchecked(state, k, p, time);
-    tell(replies::answer::hint_reply(answer), values)
+    tell(reply(answer), values)
 }
 
 #[unsafe(no_mangle)]
@@ -44,7 +46,7 @@ pub extern "C" fn coord_cache_insert_with_ttl_unchecked(
     let k = address(key);
     let p = path_from(path);
     let answer = placement::calls::insert_with_ttl_unchecked(state, k, p, time, ttl);
-    tell(replies::answer::hint_reply(answer), values)
+    tell(reply(answer), values)
 }
 
 #[unsafe(no_mangle)]
@@ -61,13 +63,13 @@ pub extern "C" fn coord_cache_insert_funded_unchecked(
     ensures { Told (funded state.old kind amount (InsertFunded (address_from key.now) (path_from path.now) time)) result values.new state.new }
 {
     if 1 < kind {
-        return tell(refused(6), values);
+        return tell(Reply::from(Refusal::BadCommand), values);
     }
     let k = address(key);
     let p = path_from(path);
     let paid = funding(kind, amount);
     let answer = placement::calls::insert_funded_unchecked(state, k, p, time, paid);
-    tell(replies::answer::hint_reply(answer), values)
+    tell(reply(answer), values)
 }
 
 #[unsafe(no_mangle)]
@@ -84,13 +86,13 @@ pub extern "C" fn coord_cache_insert_stated_unchecked(
     ensures { Told (funded state.old kind amount (InsertStated (address_from key.now) (path_from path.now) time)) result values.new state.new }
 {
     if 1 < kind {
-        return tell(refused(6), values);
+        return tell(Reply::from(Refusal::BadCommand), values);
     }
     let k = address(key);
     let p = path_from(path);
     let paid = funding(kind, amount);
     let answer = placement::calls::insert_stated_unchecked(state, k, p, time, paid);
-    tell(replies::answer::hint_reply(answer), values)
+    tell(reply(answer), values)
 }
 
 // Verified inserts: 0, weight, 0, 0, examined.
@@ -108,7 +110,7 @@ pub extern "C" fn coord_cache_insert_verified_unchecked(
     let k = address(key);
     let p = path_from(path);
     let answer = verification::calls::insert_verified_unchecked(state, k, p, time);
-    tell(replies::answer::verified_reply(answer), values)
+    tell(reply(answer), values)
 }
 
 #[unsafe(no_mangle)]
@@ -128,7 +130,7 @@ pub extern "C" fn coord_cache_insert_verified_with_path_mtu_unchecked(
     let answer = verification::calls::insert_verified_with_path_mtu_unchecked(
         state, k, p, time, mtu,
     );
-    tell(replies::answer::verified_reply(answer), values)
+    tell(reply(answer), values)
 }
 
 // Lookups: found, length. The elements stand in the state from byte `at` on.
@@ -180,8 +182,7 @@ pub extern "C" fn coord_cache_remove_unchecked(
     let k = address(key);
     take_row(state, k, row);
     let answer = lookups::remove::remove_unchecked(state, k);
-    let removal = answer.removal;
-    tell(replies::answer::remove_reply(removal), values)
+    tell(answer.reply(), values)
 }
 
 // Whether the key is held.
@@ -196,7 +197,7 @@ pub extern "C" fn coord_cache_demote_unchecked(
 {
     let k = address(key);
     let answer = lookups::demote::demote_unchecked(state, k);
-    tell(replies::answer::demote_reply(answer), values)
+    tell(reply(answer), values)
 }
 
 #[unsafe(no_mangle)]
@@ -209,8 +210,8 @@ pub extern "C" fn coord_cache_clear_path_mtu_unchecked(
     ensures { Told (call state.old (ClearPathMtu (address_from key.now))) result values.new state.new }
 {
     let k = address(key);
-    let answer = lookups::path_mtu::clear_path_mtu_unchecked(state, k);
-    tell(refused(answer), values)
+    lookups::path_mtu::clear_path_mtu_unchecked(state, k);
+    tell(().reply(), values)
 }
 
 // Sweeps: how many rows were removed; clear tells none.
@@ -224,7 +225,7 @@ pub extern "C" fn coord_cache_purge_expired_unchecked(
     ensures { Told (call state.old (PurgeExpired time)) result values.new state.new }
 {
     let answer = sweeps::purge_expired_unchecked(state, time);
-    tell(replies::answer::sweep_reply(answer), values)
+    tell(answer.reply(), values)
 }
 
 #[unsafe(no_mangle)]
@@ -232,8 +233,8 @@ pub extern "C" fn coord_cache_clear_unchecked(state: &mut [u8], values: &mut [u6
     requires { sound (capacity state.old) (view state.old) ≡ true }
     ensures { Told (call state.old Clear) result values.new state.new }
 {
-    let answer = sweeps::clear_unchecked(state);
-    tell(refused(answer), values)
+    sweeps::clear_unchecked(state);
+    tell(().reply(), values)
 }
 
 #[unsafe(no_mangle)]
@@ -247,7 +248,7 @@ pub extern "C" fn coord_cache_invalidate_via_node_unchecked(
 {
     let a = address(addr);
     let answer = sweeps::invalidate_via_node_unchecked(state, a);
-    tell(replies::answer::sweep_reply(answer), values)
+    tell(answer.reply(), values)
 }
 
 #[unsafe(no_mangle)]
@@ -261,7 +262,7 @@ pub extern "C" fn coord_cache_invalidate_other_roots_unchecked(
 {
     let a = address(addr);
     let answer = sweeps::invalidate_other_roots_unchecked(state, a);
-    tell(replies::answer::sweep_reply(answer), values)
+    tell(answer.reply(), values)
 }
 
 // Entries, max, expired, mean age.
@@ -271,7 +272,7 @@ pub extern "C" fn coord_cache_stats_unchecked(state: &[u8], time: u64, values: &
     ensures { Told (call state.now (Stats time)) result values.new state.now }
 {
     let answer = statistics::stats_unchecked(state, time);
-    tell(replies::answer::stats_reply(answer), values)
+    tell(answer.reply(), values)
 }
 
 // Whether a row is held, and the smallest expires_at.
@@ -281,5 +282,5 @@ pub extern "C" fn coord_cache_next_expiry_unchecked(state: &[u8], values: &mut [
     ensures { Told (call state.now NextExpiry) result values.new state.now }
 {
     let answer = statistics::next_expiry_unchecked(state);
-    tell(replies::answer::expiry_reply(answer), values)
+    tell(answer.reply(), values)
 }

@@ -12,7 +12,7 @@ pub fn fresh(state: &mut [u8], max: u64, ttl: u64) -> Result<(), Refusal>
 {
     let rows = memory::head::rows_that_fit(state);
     if !crate::head::head_is_sound(rows as u64, max, 0) {
-        return Err(Refusal::Limits);
+        return Err(Refusal::BadLimits);
     }
     memory::rows::make_fresh(state, rows, max, ttl);
     Ok(())

@@ -17,7 +17,7 @@ use Rattle.rules.proofs.RowLists.{by_cond}
 use Rattle.rules.proofs.MemoryLaws.{bytes_drop}
 use Rattle.rules.proofs.LentMemory.{capacity_same, lent_request}
 use Rattle.commands.specs.OnMemory.{Session, answered, obey, pended, refused_six}
-use Rattle.commands.proofs.TypedCommands.{Fitting, SenderFits, appended_fits, command_fits, emptied_fits, with_pending_fits}
+use Rattle.commands.proofs.TypedCommands.{Fitting, SenderFits, command_fits, element_fits, emptied_fits}
 use Rattle.stream.specs.Runs.{Run, operands, run_all}
 use Rattle.stream.proofs.OneCommand.{takes_operands}
 
@@ -48,7 +48,7 @@ served_same h x k f g y =
 obeyed_same : (h : Session) (c : Command) → SessionFits h → Fitting h.sender c
     → let t = obey h c in let u = obey_state (capacity h.memory) (viewed h) c in SameAfter h t.session t.reply u.reply u.session
 unfolding obey obey_state pended pended_state
-obeyed_same h (Element e) f g = record { fits = record { bytes = f.bytes; sender = with_pending_fits (appended_fits h.sender.pending e f.sender.pending g) f.sender }; size = refl; reply = refl; session = refl }
+obeyed_same h (Element e) f g = record { fits = record { bytes = f.bytes; sender = element_fits h.sender e f.sender g }; size = refl; reply = refl; session = refl }
 obeyed_same h (WithPath q) f g = served_same h (Asked (q h.sender)) (emptied h.sender) f g (emptied_fits f.sender)
 obeyed_same h (Plain x) f g = served_same h x h.sender f g f.sender
 

@@ -5,7 +5,7 @@ use mathlib.Core.List.{List, [], ◌∷◌, ◌++◌}
 use mathlib.Core.Bool.{true, false}
 use lib.ListN.{replicate}
 use Rattle.types.specs.Paths.{appended, empty_path}
-use Rattle.types.specs.Senders.{new_sender, with_pending}
+use Rattle.types.specs.Senders.{new_sender, with_element}
 use Rattle.types.specs.Values.{refuses, says}
 use Rattle.rules.specs.Memory.{coord_entry_of}
 use Rattle.rules.specs.Commands.{after_six, code, code_of, codes, decimal, decimal_digits, decode_in, line, line_text, read_as, spaced, takes_path}
@@ -30,6 +30,6 @@ unfolding run_part stopped and_then cut_short_in operands_in width_in code_of co
 over_after_six h = refl
 
 -- a path element's line takes 15 bytes, and the 115 that are left are no room for another
-one_line : (l : List ℕ) → run_part 34 false 130 (session l new_sender) (0x01 ∷ (replicate 32 0 ++ (0x31 ∷ []))) ≡ record { lines = line 0x01 (says 1 0 0 0 0) ∷ []; used = 33; session = session l (with_pending (appended empty_path (coord_entry_of (replicate 32 0))).path new_sender); stop = Full }
+one_line : (l : List ℕ) → run_part 34 false 130 (session l new_sender) (0x01 ∷ (replicate 32 0 ++ (0x31 ∷ []))) ≡ record { lines = line 0x01 (says 1 0 0 0 0) ∷ []; used = 33; session = session l (with_element (appended empty_path (coord_entry_of (replicate 32 0))) new_sender); stop = Full }
 unfolding run_part stopped and_then cut_short_in operands_in width_in code_of codes code decode_in read_as obey_byte obey pended appended empty_path says line line_text spaced decimal decimal_digits
 one_line l = refl

@@ -29,7 +29,7 @@ use Rattle.rules.proofs.Sizes.{copies_bytes, small8}
 use Rattle.rules.proofs.Refused.{fresh_refusal}
 use Rattle.rules.specs.Layout.{head_size, memory_size, row_size}
 use Rattle.commands.specs.OnMemory.{Session, answered, session, obey, pended, refused_six}
-use Rattle.commands.proofs.TypedCommands.{Fitting, SenderFits, appended_fits, emptied_fits, new_fits, with_pending_fits}
+use Rattle.commands.proofs.TypedCommands.{Fitting, SenderFits, element_fits, emptied_fits, new_fits}
 use Rattle.stream.specs.declared.stop.Stop.TheVariants.{Six}
 use Rattle.stream.specs.Runs.{Run, run_all, run_part}
 use Rattle.stream.specs.Streams.{DemandSince, Since, asked, begun, replies_shown, replies_to, requests_from, requests_of, sender_after, serving, since, then, to_end}
@@ -128,7 +128,7 @@ every_split P (x ∷ xs) ys f = let k = every_split P xs ys f.1 in ((f.0, k.0), 
 
 asked_fits : (k : Sender) (c : Command) → SenderFits k → Fitting k c → Every TypedRequest (asked k c) × SenderFits (sender_after k c)
 unfolding asked sender_after
-asked_fits k (Element e) f g = (tt, with_pending_fits (appended_fits k.pending e f.pending g) f)
+asked_fits k (Element e) f g = (tt, element_fits k e f g)
 asked_fits k (WithPath q) f g = ((g, tt), emptied_fits f)
 asked_fits k (Plain x) f g = ((g, tt), f)
 

@@ -2,7 +2,7 @@
 use Rattle.std.specs.Prelude.{ℕ, zero, suc, List, [], ◌∷◌, ◌++◌, cond, ◌||◌, eqb, length}
 use Rattle.types.specs.declared.sender.Sender.{Sender}
 use Rattle.types.specs.Paths.{appended}
-use Rattle.types.specs.Senders.{with_pending, emptied}
+use Rattle.types.specs.Senders.{with_element, emptied}
 use Rattle.types.specs.declared.reply.Reply.{Reply}
 use Rattle.rules.specs.Cases.{maybe}
 use Rattle.rules.specs.Calls.{Answer, was_refused}
@@ -29,7 +29,7 @@ asked k (Plain x) = x ∷ []
 
 -- what the sender has after it
 unfoldable pub sender_after : Sender → Command → Sender
-sender_after k (Element e) = with_pending (appended k.pending e).path k
+sender_after k (Element e) = with_element (appended k.pending e) k
 sender_after k (WithPath f) = emptied k
 sender_after k (Plain x) = k
 

@@ -6,7 +6,7 @@ ghost use Rattle.stream.specs.Runs.{run_part};
 ghost use Rattle.stream.specs.Running.{next_is, EndsAs};
 
 use crate::stop::Stop;
-use commands::command::{Width, command_at, width_of};
+use commands::command::{command_at, width_of};
 use replies::line::{LINE, put_line};
 use types::reply::Tally;
 use types::sender::Sender;
@@ -40,8 +40,8 @@ fn next_command(input: &[u8], at: usize, room: usize, last: bool) -> Next
     }
     let left = input.len() - at - 1;
     match width_of(input[at]) {
-        Width::Unknown => Next::Command(0),
-        Width::Bytes(w) => {
+        None => Next::Command(0),
+        Some(w) => {
             if w <= left {
                 return Next::Command(w);
             }

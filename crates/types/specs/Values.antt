@@ -12,7 +12,7 @@ use Rattle.types.specs.declared.placed.Placed.{Placed}
 use Rattle.types.specs.declared.placed.VerifiedInsert.{VerifiedInsert}
 use Rattle.types.specs.declared.stats.CacheStats.{CacheStats}
 use Rattle.types.specs.declared.refusal.Refusal.{Refusal}
-use Rattle.types.specs.declared.refusal.Refusal.TheVariants.{UnsoundState, PathLength, StampsSpent, NoPlace, Limits, Command}
+use Rattle.types.specs.declared.refusal.Refusal.TheVariants.{UnsoundState, PathLength, StampsSpent, NoPlace, BadLimits, BadCommand}
 use Rattle.types.specs.declared.reply.Reply.{Reply}
 use Rattle.types.specs.declared.reply.Tally.{Tally}
 
@@ -46,8 +46,8 @@ refusal_code UnsoundState = 1
 refusal_code PathLength = 2
 refusal_code StampsSpent = 3
 refusal_code NoPlace = 4
-refusal_code Limits = 5
-refusal_code Command = 6
+refusal_code BadLimits = 5
+refusal_code BadCommand = 6
 
 -- ---- funding
 

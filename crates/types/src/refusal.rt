@@ -13,9 +13,9 @@ pub enum Refusal {
     // Main has no place for a verified insert.
     NoPlace,
     // These limits do not fit the memory's rows.
-    Limits,
+    BadLimits,
     // The command is unknown or cut, or its funding kind is none.
-    Command,
+    BadCommand,
 }
 
 impl From<Refusal> for u8 {

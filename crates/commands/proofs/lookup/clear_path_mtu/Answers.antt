@@ -1,14 +1,11 @@
 -- A call that answers nothing replies with its number and five zeros.
-use mathlib.Core.Path.{refl, sym, ◌∙◌, ap}
+use mathlib.Core.Path.{refl, ◌∙◌, ap}
 use native.Mathlib.Omega.{arith}
 use lib.ListN.{drop}
-use Rattle.types.specs.Values.{refuses}
 use Rattle.rules.specs.Memory.{cut}
 use Rattle.rules.specs.Calls.{ClearPathMtu}
-use Rattle.rules.specs.Refusals.{Asked, perform, perform_request, gives}
 use Rattle.rules.specs.Layout.{address_size}
-use Rattle.rules.specs.Commands.{code, codes, code_of, takes_path, key_in, after_six, read_as}
-use Rattle.rules.proofs.LentSound.{number_reply}
+use Rattle.rules.specs.Commands.{reply, code, codes, code_of, takes_path, key_in, after_six, read_as}
 use Rattle.commands.proofs.Operands.{key_at}
 use Rattle.commands.proofs.CommandLaws.{Given, Called, given_by, plain, called, is_sound, cut_six, unsound, done}
 use Rattle.commands.proofs.lookup.clear_path_mtu.Goals as goal
@@ -17,7 +14,7 @@ pub returns-then-input-at-lt-ADDRESS : goal.returns-then-input-at-lt-ADDRESS
 unfolding code_of codes code takes_path after_six
 returns-then-input-at-lt-ADDRESS c =
     let given : Given 0x24 c.args.state.now c.args.is_sound c.args.sender c.args.input.now c.args.at = given_by c.requires.0 c.slice_known-1.given c.shared_slice_known-1.given c.well_formed.1.1.0 in
-    cut_six given refl c.if-input-at-lt-ADDRESS.true refl c.refused_six.ensures
+    cut_six given refl c.if-input-at-lt-ADDRESS.true refl c.refused.ensures
 
 pub returns-then-not-is_sound : goal.returns-then-not-is_sound
 unfolding code_of codes code takes_path after_six read_as
@@ -25,18 +22,18 @@ returns-then-not-is_sound c =
     let given : Given 0x24 c.args.state.now c.args.is_sound c.args.sender c.args.input.now c.args.at = given_by c.requires.0 c.slice_known-1.given c.shared_slice_known-1.given c.well_formed.1.1.0 in
     let makes : let o = cut c.args.at address_size c.args.input.now in
     Called 0x24 c.args.state.now c.args.is_sound c.args.sender (drop c.args.at c.args.input.now) (ClearPathMtu (key_in o)) c.args.sender = called given refl c.if-input-at-lt-ADDRESS.false refl plain in
-    unsound makes c.if-not-is_sound.true refl c.refused_one.ensures
+    unsound makes c.if-not-is_sound.true refl c.refused-then-not-is_sound.ensures
 
 pub clear_path_mtu_unchecked-requires : goal.clear_path_mtu_unchecked-requires
 unfolding code_of codes code takes_path after_six
 clear_path_mtu_unchecked-requires c = is_sound c.requires.0 c.if-not-is_sound.false
 
 pub returns : goal.returns
-unfolding perform_request perform gives code_of codes code read_as
+unfolding code_of codes code read_as
 returns c =
     let given : Given 0x24 c.args.state.now c.args.is_sound c.args.sender c.args.input.now c.args.at = given_by c.requires.0 c.slice_known-1.given c.shared_slice_known-1.given c.well_formed.1.1.0 in
     let makes : let o = cut c.args.at address_size c.args.input.now in
     Called 0x24 c.args.state.now c.args.is_sound c.args.sender (drop c.args.at c.args.input.now) (ClearPathMtu (key_in o)) c.args.sender = called given refl c.if-input-at-lt-ADDRESS.false refl plain in
     let s = c.clear_path_mtu_unchecked.ensures in
     let q = ap ClearPathMtu (key_at c.args.at address_size c.args.input.now (omega arith) c.load_addr-key.ensures) in
-    done makes _ q (c.refused.ensures ∙ ap refuses s.0 ∙ sym (number_reply c.args.state.now (Asked (ClearPathMtu c.load_addr-key.result)) refl)) s.1 refl refl
+    done makes _ q (c.reply.ensures ∙ ap reply s.0) s.1 refl refl

@@ -13,7 +13,7 @@ pub returns-then-input-at-lt-KEY_TIME : goal.returns-then-input-at-lt-KEY_TIME
 unfolding code_of codes code takes_path after_six
 returns-then-input-at-lt-KEY_TIME c =
     let given : Given 0x21 c.args.state.now c.args.is_sound c.args.sender c.args.input.now c.args.at = given_by c.requires.0 c.slice_known-1.given c.shared_slice_known-1.given c.well_formed.1.1.0 in
-    cut_six given refl c.if-input-at-lt-KEY_TIME.true refl c.refused_six.ensures
+    cut_six given refl c.if-input-at-lt-KEY_TIME.true refl c.refused.ensures
 
 pub returns-then-not-is_sound : goal.returns-then-not-is_sound
 unfolding code_of codes code takes_path after_six read_as
@@ -21,7 +21,7 @@ returns-then-not-is_sound c =
     let given : Given 0x21 c.args.state.now c.args.is_sound c.args.sender c.args.input.now c.args.at = given_by c.requires.0 c.slice_known-1.given c.shared_slice_known-1.given c.well_formed.1.1.0 in
     let makes : let o = cut c.args.at key_time_size c.args.input.now in
     Called 0x21 c.args.state.now c.args.is_sound c.args.sender (drop c.args.at c.args.input.now) (GetAndTouch (key_in o) (time_in o)) c.args.sender = called given refl c.if-input-at-lt-KEY_TIME.false refl plain in
-    unsound makes c.if-not-is_sound.true refl c.refused_one.ensures
+    unsound makes c.if-not-is_sound.true refl c.refused-then-not-is_sound.ensures
 
 pub touch_unchecked-answer-requires : goal.touch_unchecked-answer-requires
 unfolding code_of codes code takes_path after_six

@@ -16,7 +16,7 @@ unfolding code_of codes code read_as
 returns-then-not-is_sound c =
     let makes : (bs : List ℕ) → Called 0x41 c.args.state.now c.args.is_sound c.args.sender bs NextExpiry c.args.sender = λ bs. let r : Reads codes 0x41 bs (Plain (Asked NextExpiry)) = record { code = _; known = refl; there = omega arith; says = refl } in
     called_bare c.args.state.now r plain (tt {0}) (all_bytes c.args.state.now (λ k. (c.shared_slice_known-1.given k).fits)) c.requires in
-    record { bare = λ bs. unsound (makes bs) c.if-not-is_sound.true refl c.refused_one.ensures }
+    record { bare = λ bs. unsound (makes bs) c.if-not-is_sound.true refl c.refused.ensures }
 
 pub next_expiry_unchecked-requires : goal.next_expiry_unchecked-requires
 next_expiry_unchecked-requires c = is_sound c.requires c.if-not-is_sound.false
@@ -27,4 +27,4 @@ returns c =
     let makes : (bs : List ℕ) → Called 0x41 c.args.state.now c.args.is_sound c.args.sender bs NextExpiry c.args.sender = λ bs. let r : Reads codes 0x41 bs (Plain (Asked NextExpiry)) = record { code = _; known = refl; there = omega arith; says = refl } in
     called_bare c.args.state.now r plain (tt {0}) (all_bytes c.args.state.now (λ k. (c.shared_slice_known-1.given k).fits)) c.requires in
     let s = c.next_expiry_unchecked.ensures in
-    record { bare = λ bs. done (makes bs) _ refl (c.expiry_reply.ensures ∙ ap reply s.0) s.1 refl refl }
+    record { bare = λ bs. done (makes bs) _ refl (c.reply.ensures ∙ ap reply s.0) s.1 refl refl }

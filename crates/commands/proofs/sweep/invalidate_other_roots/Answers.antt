@@ -14,7 +14,7 @@ pub returns-then-input-at-lt-ADDRESS : goal.returns-then-input-at-lt-ADDRESS
 unfolding code_of codes code takes_path after_six
 returns-then-input-at-lt-ADDRESS c =
     let given : Given 0x33 c.args.state.now c.args.is_sound c.args.sender c.args.input.now c.args.at = given_by c.requires.0 c.slice_known-1.given c.shared_slice_known-1.given c.well_formed.1.1.0 in
-    cut_six given refl c.if-input-at-lt-ADDRESS.true refl c.refused_six.ensures
+    cut_six given refl c.if-input-at-lt-ADDRESS.true refl c.refused.ensures
 
 pub returns-then-not-is_sound : goal.returns-then-not-is_sound
 unfolding code_of codes code takes_path after_six read_as
@@ -22,7 +22,7 @@ returns-then-not-is_sound c =
     let given : Given 0x33 c.args.state.now c.args.is_sound c.args.sender c.args.input.now c.args.at = given_by c.requires.0 c.slice_known-1.given c.shared_slice_known-1.given c.well_formed.1.1.0 in
     let makes : let o = cut c.args.at address_size c.args.input.now in
     Called 0x33 c.args.state.now c.args.is_sound c.args.sender (drop c.args.at c.args.input.now) (InvalidateOtherRoots (key_in o)) c.args.sender = called given refl c.if-input-at-lt-ADDRESS.false refl plain in
-    unsound makes c.if-not-is_sound.true refl c.refused_one.ensures
+    unsound makes c.if-not-is_sound.true refl c.refused-then-not-is_sound.ensures
 
 pub invalidate_other_roots_unchecked-requires : goal.invalidate_other_roots_unchecked-requires
 unfolding code_of codes code takes_path after_six
@@ -36,4 +36,4 @@ returns c =
     Called 0x33 c.args.state.now c.args.is_sound c.args.sender (drop c.args.at c.args.input.now) (InvalidateOtherRoots (key_in o)) c.args.sender = called given refl c.if-input-at-lt-ADDRESS.false refl plain in
     let s = c.invalidate_other_roots_unchecked.ensures in
     let q = ap InvalidateOtherRoots (key_at c.args.at address_size c.args.input.now (omega arith) c.load_addr-addr.ensures) in
-    done makes _ q (c.sweep_reply.ensures ∙ ap reply s.0) s.1 refl refl
+    done makes _ q (c.reply.ensures ∙ ap reply s.0) s.1 refl refl

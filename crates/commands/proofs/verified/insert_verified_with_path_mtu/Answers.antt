@@ -15,7 +15,7 @@ pub returns-then-input-at-lt-WITH_MTU : goal.returns-then-input-at-lt-WITH_MTU
 unfolding code_of codes code takes_path after_six
 returns-then-input-at-lt-WITH_MTU c =
     let given : Given 0x15 c.args.state.now c.args.is_sound c.args.sender c.args.input.now c.args.at = given_by c.requires.0 c.slice_known-1.given c.shared_slice_known-1.given c.well_formed.1.1.0 in
-    cut_six given refl c.if-input-at-lt-WITH_MTU.true c.emptied.ensures c.refused_six.ensures
+    cut_six given refl c.if-input-at-lt-WITH_MTU.true c.emptied.ensures c.refused.ensures
 
 pub returns-then-not-is_sound : goal.returns-then-not-is_sound
 unfolding code_of codes code takes_path after_six read_as
@@ -23,7 +23,7 @@ returns-then-not-is_sound c =
     let given : Given 0x15 c.args.state.now c.args.is_sound c.args.sender c.args.input.now c.args.at = given_by c.requires.0 c.slice_known-1.given c.shared_slice_known-1.given c.well_formed.1.1.0 in
     let makes : let o = cut c.args.at with_mtu_size c.args.input.now in
     Called 0x15 c.args.state.now c.args.is_sound c.args.sender (drop c.args.at c.args.input.now) (InsertVerifiedWithPathMtu (key_in o) c.args.sender.pending (time_in o) (le_number (cut mtu_at mtu_size o))) (emptied c.args.sender) = called given refl c.if-input-at-lt-WITH_MTU.false refl made_with_path in
-    unsound makes c.if-not-is_sound.true c.emptied-then-not-is_sound.ensures c.refused_one.ensures
+    unsound makes c.if-not-is_sound.true c.emptied-then-not-is_sound.ensures c.refused-then-not-is_sound.ensures
 
 pub insert_verified_with_path_mtu_unchecked-answer-requires : goal.insert_verified_with_path_mtu_unchecked-answer-requires
 unfolding code_of codes code takes_path after_six
@@ -38,4 +38,4 @@ returns c =
     let s = c.insert_verified_with_path_mtu_unchecked-answer.ensures in
     let q = key_time_and c.args.at with_mtu_size c.args.input.now (omega arith) c.load_addr-key.ensures c.read_u64-time.ensures (λ k n x. InsertVerifiedWithPathMtu k c.args.sender.pending n x)
     (number_at c.args.at with_mtu_size mtu_at mtu_size c.args.input.now (omega arith) c.read_u16-mtu.ensures) in
-    done makes _ q (c.verified_reply.ensures ∙ ap reply s.0) s.1 c.emptied-2.ensures refl
+    done makes _ q (c.reply.ensures ∙ ap reply s.0) s.1 c.emptied-2.ensures refl
