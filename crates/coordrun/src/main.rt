@@ -109,6 +109,7 @@ impl Session {
         }
     }
 
+    // What the turn behind a run does, by why the run ended.
     fn behind(&self, stop: Stop) -> Next {
         match stop {
             Stop::Full => Next::Run,

@@ -92,7 +92,7 @@ fn replay(
     if let Line::Stream(start) = line {
         session.begin(size(start.rows));
     }
-    session.come(line);
+    session.advance(line);
     match memory.get_mut(..session.size()) {
         Some(memory) => take(rt, line, memory, output, session),
         None => Ok(()),

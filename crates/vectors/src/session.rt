@@ -121,7 +121,8 @@ impl Session {
         self.stream.size
     }
 
-    pub fn come(&mut self, line: Line<'_>) {
+    // A line that has come may stand in a wrong place.
+    pub fn advance(&mut self, line: Line<'_>) {
         let is_due = self.stage == Stage::before(line);
         self.expect(is_due, Difference::Text);
         self.stage = Stage::behind(line);
