@@ -2,165 +2,127 @@
 // of every length up to 3 rows, and of 1,025 rows. A fresh that is done, on all of these states. What it prints is held to `stdout`.
 #![tactic(auto)]
 
-mod asking;
-mod lines;
+mod calls;
 mod states;
 
 ghost use Rattle.std.specs.Prelude.{◌≡◌, ◌≤◌, ◌+◌, length};
 ghost use Rattle.rules.specs.Records.{max_rows};
 ghost use Rattle.rules.specs.Layout.{memory_size};
 
-use asking::{CALLS, FRESH_2};
+use calls::{CALLS, Call, FRESH_2, FRESH_3, Said};
 use memory::bounds::MAX_ROWS;
 use raw::layout::{HEAD, ROW};
-use states::BAD_STATES;
+use states::{Kind, SPOILT, make, spoil, zeroed};
+use std::io;
+
+// The bytes of a memory of 3 rows, with some behind the last row.
+const SIZE: usize = 4096;
 
 // The length of 3 rows.
 const LAST: usize = HEAD + 3 * ROW;
 
-// What call number `call` answers on the state of this kind, and a sum over the memory that it leaves.
-fn answer(kind: u64, call: u64) {
-    let mut memory = io::buffer();
-    states::make(&mut memory, kind);
-    let said = asking::ask(&mut memory, call);
-    lines::number(kind);
-    lines::number(call);
-    lines::number(said.refusal);
-    lines::number(said.value);
-    lines::last(lines::sum(&memory));
+// Each byte counts with its place, so that bytes changed, moved or swapped show.
+fn sum(bytes: &[u8]) -> u32 {
+    bytes.iter().fold(0, |sum: u32, byte| {
+        ((u64::from(sum) * 31 + u64::from(*byte) + 1) % 4294967291) as u32
+    })
 }
 
-// The calls, and fresh.
-fn answers(kind: u64) {
-    let mut call = 0;
-    while call <= FRESH_2 {
-        answer(kind, call);
-        call += 1;
+// What the calls, and fresh, answer on a state, and a sum over the memory that each leaves.
+fn answers(rt: &impl Print, kind: Kind) -> io::Result<()> {
+    let number = kind as u8;
+    for (nth, call) in CALLS.into_iter().chain([FRESH_2]).enumerate() {
+        let mut memory = zeroed::<SIZE>();
+        make(&mut memory, kind);
+        let Said { refusal, value } = call.ask(&mut memory);
+        let sum = sum(&memory);
+        println!(rt; "{number} {nth} {refusal} {value} {sum}")?;
     }
+    Ok(())
 }
 
-// 1 if this call is refused by that number and leaves the memory as it was before, else 0.
-fn refused(memory: &mut [u8], before: &[u8], call: u64, number: u64) -> u64
-    ensures { result ≤ 1 }
-{
-    let said = asking::ask(memory, call);
-    if (said.refusal == number) & (said.value == 0) & check::same(memory, before) {
-        1
-    } else {
-        0
-    }
+// Whether this call is refused by that number and leaves the memory as it was before.
+fn refuses(call: Call, memory: &mut [u8], before: &[u8], refusal: u8) -> bool {
+    let said = call.ask(memory);
+    said == Said { refusal, value: 0 } && *memory == *before
 }
 
 // How many of the calls that need a sound state refuse this memory by 1 and leave it.
 fn refusals(memory: &mut [u8], before: &[u8]) -> u64
     ensures { result ≤ 21 }
 {
-    let mut count: u64 = 0;
-    let mut call = 0;
-    while call < CALLS {
-        count += refused(memory, before, call, 1);
-        call += 1;
+    let mut count = 0;
+    for call in CALLS {
+        count += u64::from(refuses(call, memory, before, 1));
     }
     count
 }
 
-// 1 if fresh is done, and what it leaves is a sound state, else 0.
-fn renewed(memory: &mut [u8]) -> u64 {
-    let said = asking::ask(memory, FRESH_2);
-    if (said.refusal == 0) & state::check::is_sound(memory) {
-        1
-    } else {
-        0
-    }
+// Whether fresh is done, and what it leaves is a sound state.
+fn renews(memory: &mut [u8]) -> bool {
+    FRESH_2.ask(memory).refusal == 0 && state::check::is_sound(memory)
 }
 
-// How many calls refuse it; whether fresh makes it sound, and a sum over the memory then.
-fn bad_state(number: u64) {
-    let mut memory = io::buffer();
-    let mut before = io::buffer();
-    states::make(&mut memory, states::FOREIGN);
-    states::spoil(&mut memory, number);
-    states::make(&mut before, states::FOREIGN);
-    states::spoil(&mut before, number);
-    lines::number(states::BAD);
-    lines::number(number);
-    lines::number(refusals(&mut memory, &before));
-    lines::number(renewed(&mut memory));
-    lines::last(lines::sum(&memory));
-}
-
-fn bad_states() {
-    let mut number = 0;
-    while number < BAD_STATES {
-        bad_state(number);
-        number += 1;
+// How many calls refuse each unsound state; whether fresh makes it sound, and a sum over the memory then.
+fn bad_states(rt: &impl Print) -> io::Result<()> {
+    let number = Kind::Bad as u8;
+    for (nth, changes) in SPOILT.into_iter().enumerate() {
+        let mut memory = zeroed::<SIZE>();
+        make(&mut memory, Kind::Bad);
+        spoil(&mut memory, changes);
+        let before = memory;
+        let refused = refusals(&mut memory, &before);
+        let renewed = renews(&mut memory) as u8;
+        let sum = sum(&memory);
+        println!(rt; "{number} {nth} {refused} {renewed} {sum}")?;
     }
+    Ok(())
 }
 
 // How many of the calls refuse a memory because of its length; fresh among them, by 5.
 fn length_refusals(memory: &mut [u8], before: &[u8]) -> u64
     ensures { result ≤ 22 }
 {
-    refusals(memory, before) + refused(memory, before, asking::FRESH_3, 5)
-}
-
-// The head claims 3 entries.
-fn short_length(memory: &mut [u8], before: &[u8], length: usize) -> u64
-    ensures { result ≤ 22 }
-{
-    if length <= memory.len() {
-        if length <= before.len() {
-            return length_refusals(&mut memory[..length], &before[..length]);
-        }
-    }
-    0
+    refusals(memory, before) + u64::from(refuses(FRESH_3, memory, before, 5))
 }
 
 // How many calls were refused, over all lengths up to that of 3 rows.
-fn short_ones(memory: &mut [u8], before: &[u8]) -> u64 {
-    let mut length: usize = 0;
-    let mut count: u64 = 0;
-    while length <= LAST {
-        count += short_length(memory, before, length);
-        length += 1;
+fn short_lengths(rt: &impl Print) -> io::Result<()> {
+    let number = Kind::Short as u8;
+    let mut memory = zeroed::<SIZE>();
+    make(&mut memory, Kind::Short);
+    let before = memory;
+    let mut count = 0;
+    for length in 0..LAST + 1 {
+        count += length_refusals(&mut memory[..length], &before[..length]);
     }
-    count
-}
-
-fn short_lengths() {
-    let mut memory = io::buffer();
-    let mut before = io::buffer();
-    memory[0] = 3;
-    before[0] = 3;
-    let count = short_ones(&mut memory, &before);
-    lines::number(states::SHORT);
-    lines::last(count);
+    println!(rt; "{number} {count}")
 }
 
 // A row more than there may be.
 const LONG: usize = HEAD + (MAX_ROWS as usize + 1) * ROW;
 
 fn long_memory() -> [u8; LONG]
-    ensures { (memory_size (max_rows + 1)) ≡ length result }
+    ensures { memory_size (max_rows + 1) ≡ length result }
 {
-    [0; LONG]
+    zeroed()
 }
 
 // A fresh head for 2 entries and no rows: only that R is over MAX_ROWS is wrong.
-fn long_length() {
+fn long_length(rt: &impl Print) -> io::Result<()> {
+    let number = Kind::Long as u8;
     let mut memory = long_memory();
-    let mut before = long_memory();
-    states::make(&mut memory, states::FRESH);
-    states::make(&mut before, states::FRESH);
-    lines::number(states::LONG);
-    lines::last(length_refusals(&mut memory, &before));
+    make(&mut memory, Kind::Long);
+    let before = memory;
+    let count = length_refusals(&mut memory, &before);
+    println!(rt; "{number} {count}")
 }
 
-fn main() {
-    answers(states::FRESH);
-    answers(states::FULL);
-    answers(states::FOREIGN);
-    bad_states();
-    short_lengths();
-    long_length();
+fn main(rt: HostRuntime) -> io::Result<()> {
+    answers(&rt, Kind::Fresh)?;
+    answers(&rt, Kind::Full)?;
+    answers(&rt, Kind::Foreign)?;
+    bad_states(&rt)?;
+    short_lengths(&rt)?;
+    long_length(&rt)
 }

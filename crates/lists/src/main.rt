@@ -3,120 +3,75 @@
 #![tactic(auto)]
 
 mod calls;
-mod lines;
-mod scan;
+mod line;
+mod print;
 
 ghost use Rattle.std.specs.Prelude.{◌≡◌, length};
-ghost use Rattle.rules.specs.Records.{max_rows};
 ghost use Rattle.rules.specs.Layout.{memory_size};
 
+use line::{Call, Line};
 use memory::bounds::MAX_ROWS;
 use raw::layout::{HEAD, ROW, STAMP_SEQ};
-use scan::Scan;
-use types::reply::Reply;
+use std::io;
 
-const FEW: usize = 24;
+const FEW: u64 = 24;
 
-const MOST: usize = MAX_ROWS as usize;
+const SHORT: usize = HEAD + FEW as usize * ROW;
 
-const SHORT: usize = HEAD + FEW * ROW;
+const LONG: usize = HEAD + MAX_ROWS as usize * ROW;
 
-const LONG: usize = HEAD + MOST * ROW;
-
-fn short_memory() -> [u8; SHORT]
-    ensures { memory_size 24 ≡ length result }
-{
-    [0; SHORT]
-}
-
-fn long_memory() -> [u8; LONG]
-    ensures { memory_size max_rows ≡ length result }
-{
-    [0; LONG]
-}
-
-fn call_on(memory: &mut [u8], v: [u64; 7], key: u64) -> Reply {
-    calls::call(memory, v[1], key, v[3], v[4], v[5])
-}
-
-// Keys first to last, or the first alone; only the last line is printed.
-fn each(memory: &mut [u8], v: [u64; 7], first: u64, last: u64) {
-    let mut key = first;
-    while key < last {
-        call_on(memory, v, key);
-        key += 1;
+// Only the last line is printed.
+fn make(rt: &impl Print, memory: &mut [u8], call: Call) -> io::Result<()> {
+    for key in call.key..call.last {
+        call.on(memory, key);
     }
-    let reply = call_on(memory, v, key);
-    lines::line(memory, v[0], reply);
+    let reply = call.on(memory, call.key.max(call.last));
+    print::reply(rt, memory, call.list, reply)
 }
 
 // The low byte of row 0's stamp, seq.
-const ROW_0_SEQ: usize = HEAD + STAMP_SEQ;
-
 fn stamp(memory: &mut [u8], seq: u64) {
-    if ROW_0_SEQ < memory.len() {
-        memory[ROW_0_SEQ] = (seq % 256) as u8;
+    if let Some(byte) = memory.get_mut(HEAD + STAMP_SEQ) {
+        *byte = (seq % 256) as u8;
     }
 }
 
 // Codes past 01's are no calls.
-fn make(memory: &mut [u8], v: [u64; 7]) {
-    match v[1] {
-        98 => lines::row(memory),
-        99 => stamp(memory, v[2]),
-        _ => each(memory, v, v[2], v[6]),
+fn take(rt: &impl Print, memory: &mut [u8], call: Call) -> io::Result<()> {
+    match call.code {
+        98 => print::row(rt, memory)?,
+        99 => stamp(memory, call.key),
+        _ => make(rt, memory, call)?,
     }
+    Ok(())
 }
 
-// A line of the text: of which rows the next ones are, or a call.
-fn step(memory: &mut [u8], rows: u64, only: u64, v: [u64; 7]) -> u64 {
-    if v[0] == 0 {
-        return v[1];
+// The lists, on a memory of so many rows.
+fn run(rt: &impl Print, text: &str, memory: &mut [u8], rows: u64) -> io::Result<()>
+    requires { memory_size rows ≡ length memory.old }
+{
+    let mut only = None;
+    for line in text.lines() {
+        match Line::parse(line) {
+            Some(Line::Only(for_rows)) => only = for_rows,
+            Some(Line::Call(call)) if only.unwrap_or(rows) == rows => take(rt, memory, call)?,
+            _ => {}
+        }
     }
-    if (only == 0) | (only == rows) {
-        make(memory, v);
-    }
-    only
+    Ok(())
 }
 
-fn ended(memory: &mut [u8], rows: u64, scan: Scan) -> Scan {
-    let v = scan.values;
-    if scan.count == 0 {
-        return Scan::empty(scan.only);
-    }
-    Scan::empty(step(memory, rows, scan.only, v))
+// Behind a function, so that a proof sees a length in place of so many zeros.
+fn zeroed<const N: usize>() -> [u8; N]
+    ensures { N ≡ length result }
+{
+    [0; N]
 }
 
-fn feed(memory: &mut [u8], rows: u64, scan: Scan, b: u8) -> Scan {
-    let next = scan.fed(b);
-    if b == b'\n' {
-        return ended(memory, rows, next);
-    }
-    next
-}
-
-fn run(text: &[u8], memory: &mut [u8], rows: u64) {
-    let mut scan = Scan::empty(0);
-    let mut i = 0;
-    while i < text.len() {
-        scan = feed(memory, rows, scan, text[i]);
-        i += 1;
-    }
-}
-
-fn on_24_rows(text: &[u8]) {
-    let mut memory = short_memory();
-    run(text, &mut memory, FEW as u64);
-}
-
-fn on_1024_rows(text: &[u8]) {
-    let mut memory = long_memory();
-    run(text, &mut memory, MAX_ROWS);
-}
-
-fn main() {
-    let mut space = io::large_buffer();
-    let n = io::read_full(0, &mut space);
-    on_24_rows(&space[..n]);
-    on_1024_rows(&space[..n]);
+fn main(rt: HostRuntime) -> io::Result<()> {
+    let text = io::read_to_string(rt.alloc(), rt.stdin())?;
+    let mut few = zeroed::<SHORT>();
+    let mut most = zeroed::<LONG>();
+    run(&rt, text.as_str(), &mut few, FEW)?;
+    run(&rt, text.as_str(), &mut most, MAX_ROWS)
 }

@@ -2,9 +2,12 @@
 // path) as bytes and the run's end as numbers. Thin; the calls have the contracts.
 #![tactic(auto)]
 
+use entries::addr::load_coord_entry;
 use raw::layout::{BYTE, ELEMENT, PATH};
+use std::array;
+use stream::run::Ran;
 use stream::stop::Stop;
-use types::coord::{PLACES, Path, zero_entry};
+use types::coord::{PLACES, Path};
 use types::reply::Tally;
 use types::sender::Sender;
 
@@ -15,30 +18,22 @@ const PENDING: usize = PATH;
 const REPORT: usize = 5;
 
 fn load(pending: &[u8]) -> Sender {
-    let mut entries = [zero_entry(); PLACES];
     if pending.len() < PENDING {
         return Sender::new();
     }
-    let mut k = 0;
-    while k < PLACES {
-        entries[k] = entries::addr::load_coord_entry(pending, BYTE + k * ELEMENT);
-        k += 1;
-    }
-    let len = raw::numbers::wide(pending[0]) as usize;
     Sender {
-        pending: Path { entries, len },
+        pending: Path {
+            entries: array::from_fn(|k| load_coord_entry(pending, BYTE + k * ELEMENT)),
+            len: usize::from(pending[0]),
+        },
     }
 }
 
 fn store(pending: &mut [u8], sender: Sender) {
     let path = sender.pending;
-    if pending.len() < PENDING {
-        return;
+    if PENDING <= pending.len() && path.len <= PLACES {
+        rows::values::store_path(pending, 0, path);
     }
-    if PLACES < path.len {
-        return;
-    }
-    rows::values::store_path(pending, 0, path);
 }
 
 fn stop_code(stop: Stop) -> u64 {
@@ -50,18 +45,14 @@ fn stop_code(stop: Stop) -> u64 {
     }
 }
 
-fn put(report: &mut [u64], i: usize, v: u64) {
-    if i < report.len() {
-        report[i] = v;
-    }
-}
-
-fn tell(report: &mut [u64], used: u64, written: u64, stop: u64, counts: Tally) {
-    put(report, 0, used);
-    put(report, 1, written);
-    put(report, 2, stop);
-    put(report, 3, counts.done);
-    put(report, 4, counts.refused);
+fn told(ran: Ran) -> [u64; REPORT] {
+    [
+        ran.used as u64,
+        ran.written as u64,
+        stop_code(ran.stop),
+        ran.tally.done,
+        ran.tally.refused,
+    ]
 }
 
 #[unsafe(no_mangle)]
@@ -73,27 +64,16 @@ pub extern "C" fn stream_run(
     output: &mut [u8],
     report: &mut [u64],
 ) {
+    let Some(report) = report.first_chunk_mut::<REPORT>() else {
+        return;
+    };
     if pending.len() < PENDING {
         return;
     }
-    if report.len() < REPORT {
-        return;
-    }
+    let [_, _, _, done, refused] = *report;
     let sender = load(pending);
-    let tally = Tally {
-        done: report[3],
-        refused: report[4],
-    };
+    let tally = Tally { done, refused };
     let ran = stream::run::run(state, sender, tally, input, last != 0, output);
-    let after = ran.sender;
-    let counts = ran.tally;
-    let stop = ran.stop;
-    store(pending, after);
-    tell(
-        report,
-        ran.used as u64,
-        ran.written as u64,
-        stop_code(stop),
-        counts,
-    );
+    store(pending, ran.sender);
+    *report = told(ran);
 }

@@ -1,111 +1,63 @@
 // What a stream left, against what was recorded.
-use crate::text;
-use memory::bounds::MAX_ROWS;
-use raw::layout;
-use raw::layout::{HEAD, ROW};
+use raw::layout::{
+    CREATED_AT, DEFAULT_TTL, ELEMENT, ENTRY, HEAD, MAX_ENTRIES, PATH_PLACES, ROW, ROW_COUNT, SEQ,
+    STORED_WEIGHT,
+};
+use raw::numbers::read_u64;
+use types::coord::PLACES;
 
-// A row's key and path length stand in front of its places, and its other fields behind them.
-const FRONT: usize = layout::PATH_PLACES;
-
-const BACK: usize = layout::CREATED_AT;
-
-const MOST: usize = MAX_ROWS as usize;
-
-fn same(a: &[u8], b: &[u8]) -> bool {
-    if a.len() != b.len() {
-        return false;
-    }
-    let mut i = 0;
-    while i < a.len() {
-        if a[i] != b[i] {
-            return false;
-        }
-        i += 1;
-    }
-    true
-}
-
-fn zeros(s: &[u8]) -> bool {
-    let mut i = 0;
-    while i < s.len() {
-        if s[i] != 0 {
-            return false;
-        }
-        i += 1;
-    }
-    true
-}
-
-// Where in the output, of which `written` bytes count, the answer that stands from `at` on ends; 0 where another stands there.
-pub fn answer_end(answer: &[u8], output: &[u8], at: usize, written: usize) -> usize {
-    if written > output.len() {
-        return 0;
-    }
-    if at > written {
-        return 0;
-    }
-    if answer.len() > written - at {
-        return 0;
-    }
-    let end = at + answer.len();
-    if same(answer, &output[at..end]) {
-        end
-    } else {
-        0
-    }
+// Where in the output, of which `written` bytes count, the answer that stands from `at` on, a line, ends; none where another stands there.
+pub fn answer_end(answer: &str, output: &[u8], at: usize, written: usize) -> Option<usize> {
+    let left = output.get(at..written)?;
+    let behind = left.strip_prefix(answer.as_bytes())?.strip_prefix(b"\n")?;
+    Some(written - behind.len())
 }
 
 // The head's five numbers, in the order of the line.
-pub fn same_head(line: &[u8], memory: &[u8]) -> bool {
+pub fn same_head(memory: &[u8], head: [u64; 5]) -> bool {
     if memory.len() < HEAD {
         return false;
     }
-    (text::number(line, 1) == raw::numbers::read_u64(memory, layout::MAX_ENTRIES))
-        & (text::number(line, 2) == raw::numbers::read_u64(memory, layout::DEFAULT_TTL))
-        & (text::number(line, 3) == raw::numbers::read_u64(memory, layout::SEQ))
-        & (text::number(line, 4) == raw::numbers::read_u64(memory, layout::STORED_WEIGHT))
-        & (text::number(line, 5) == raw::numbers::read_u64(memory, layout::ROW_COUNT))
+    let held = [
+        read_u64(memory, MAX_ENTRIES),
+        read_u64(memory, DEFAULT_TTL),
+        read_u64(memory, SEQ),
+        read_u64(memory, STORED_WEIGHT),
+        read_u64(memory, ROW_COUNT),
+    ];
+    held == head
 }
 
-// A row of the memory, whose places in use end at `end`: those behind are zero, and are not in the recorded bytes.
-fn same_parts(row: &[u8], bytes: &[u8], end: usize) -> bool {
-    if row.len() != ROW {
-        return false;
+fn rows(memory: &[u8]) -> &[[u8; ROW]] {
+    let behind_head = memory.get(HEAD..).unwrap_or(&[]);
+    behind_head.as_chunks::<ROW>().0
+}
+
+// The row of which these bytes were recorded: the places behind those in use are left out of them, and zero.
+fn whole_row(recorded: &[u8]) -> Option<[u8; ROW]> {
+    let length = usize::from(*recorded.get(ENTRY)?);
+    if length > PLACES {
+        return None;
     }
-    if end > BACK {
-        return false;
+    let (front, back) = recorded.split_at_checked(PATH_PLACES + length * ELEMENT)?;
+    if back.len() != ROW - CREATED_AT {
+        return None;
     }
-    if end > bytes.len() {
-        return false;
-    }
-    same(&row[0..end], &bytes[0..end]) & zeros(&row[end..BACK]) & same(&row[BACK..], &bytes[end..])
+    let mut row = [0; ROW];
+    row[..front.len()].copy_from_slice(front);
+    row[CREATED_AT..].copy_from_slice(back);
+    Some(row)
 }
 
 // Row `n` of the memory against its recorded bytes.
-pub fn same_row(memory: &[u8], n: usize, bytes: &[u8]) -> bool {
-    if n > MOST {
-        return false;
+pub fn same_row(memory: &[u8], n: usize, recorded: &[u8]) -> bool {
+    match (rows(memory).get(n), whole_row(recorded)) {
+        (Some(held), Some(row)) => *held == row,
+        _ => false,
     }
-    let from = HEAD + n * ROW;
-    let to = from + ROW;
-    if to > memory.len() {
-        return false;
-    }
-    if bytes.len() < FRONT {
-        return false;
-    }
-    let length = raw::numbers::wide(bytes[FRONT - 1]) as usize;
-    same_parts(&memory[from..to], bytes, FRONT + length * layout::ELEMENT)
 }
 
 // Whether the rows from `n` on are zero.
 pub fn rest_is_zero(memory: &[u8], n: usize) -> bool {
-    if n > MOST {
-        return false;
-    }
-    let from = HEAD + n * ROW;
-    if from > memory.len() {
-        return false;
-    }
-    zeros(&memory[from..])
+    rows(memory).iter().skip(n).all(|row| *row == [0; ROW])
 }

@@ -1,17 +1,18 @@
 // Recorded streams of commands, read from `stdin`, run again: the replies, the head and the rows that a stream leaves are held to
-// what the original replied and held. `stdin` says how it was made and what its lines are; 65,536 bytes of it are read.
+// what the original replied and held. `stdin` says how it was made and what its lines are.
 #![tactic(auto)]
 
 mod compare;
-mod print;
+mod line;
 mod session;
-mod text;
 
 ghost use Rattle.std.specs.Prelude.{◌≡◌, length};
 ghost use Rattle.rules.specs.Layout.{memory_size};
 
+use line::{Line, decode};
 use raw::layout::{HEAD, ROW};
-use session::Session;
+use session::{Difference, Session};
+use std::io;
 use types::reply::Tally;
 use types::sender::Sender;
 
@@ -26,122 +27,85 @@ fn whole_memory() -> [u8; SIZE]
     [0; SIZE]
 }
 
-// The bytes of memory that a stream has; none where it wants too many rows.
-fn size(line: &[u8]) -> usize {
-    let rows = text::number(line, 1);
+// Room for the output of a stream, and for the bytes of a line.
+const OUTPUT: usize = 65536;
+
+const BYTES: usize = 4096;
+
+// The bytes of a memory of so many rows; none where they are too many.
+fn size(rows: u64) -> usize {
     if rows <= ROWS {
-        return HEAD + rows as usize * ROW;
+        HEAD + rows as usize * ROW
+    } else {
+        0
     }
-    0
 }
 
-// Each stream begins on what the one before left.
-fn begin(line: &[u8], memory: &mut [u8], s: Session) -> Session {
-    let refusal = state::fresh::fresh(memory, text::number(line, 2), text::number(line, 3));
-    s.holds(refusal == 0, session::TEXT, 0)
-}
-
-// How many bytes of the output the run wrote.
-fn written(memory: &mut [u8], input: &[u8], output: &mut [u8]) -> usize {
+// Runs the commands of a line, from an empty pending path: how many bytes of the output they wrote.
+fn run(memory: &mut [u8], digits: &str, output: &mut [u8]) -> Option<usize> {
+    let mut buffer = [0; BYTES];
+    let commands = decode(digits, &mut buffer)?;
     let tally = Tally {
         done: 0,
         refused: 0,
     };
-    let ran = stream::run::run(memory, Sender::new(), tally, input, true, output);
-    ran.written
+    let ran = stream::run::run(memory, Sender::new(), tally, commands, true, output);
+    Some(ran.written)
 }
 
-fn run(line: &[u8], memory: &mut [u8], output: &mut [u8], s: Session) -> Session {
-    if line.len() < 3 {
-        return s;
+// A line of the stream that has this memory. Each stream begins on what the one before left.
+fn take(
+    rt: &impl Print,
+    line: Line<'_>,
+    memory: &mut [u8],
+    output: &mut [u8],
+    session: &mut Session,
+) -> io::Result<()> {
+    match line {
+        Line::Stream(start) => {
+            let refusal = state::fresh::fresh(memory, start.max, start.ttl);
+            session.expect(refusal == 0, Difference::Text);
+        }
+        Line::In(digits) => session.run(run(memory, digits, output)),
+        Line::Out(answer) => session.answer(answer, output),
+        Line::Head(head) => session.expect(compare::same_head(memory, head), Difference::Head),
+        Line::Row(digits) => {
+            let mut buffer = [0; BYTES];
+            session.row(memory, decode(digits, &mut buffer));
+        }
+        Line::End => session.end(rt, memory)?,
     }
-    let mut bytes = io::buffer();
-    let n = text::decode(&line[3..], &mut bytes);
-    let mut t = s;
-    t.written = written(memory, &bytes[0..n], output);
-    t
+    Ok(())
 }
 
-fn answered(line: &[u8], output: &[u8], s: Session) -> Session {
-    if line.len() < 4 {
-        return s.one_line(0);
+fn replay(
+    rt: &impl Print,
+    text: &str,
+    memory: &mut [u8],
+    output: &mut [u8],
+    session: &mut Session,
+) -> io::Result<()> {
+    let Some(line) = Line::parse(text) else {
+        session.lose();
+        return Ok(());
+    };
+    if let Line::Stream(start) = line {
+        session.begin(size(start.rows));
     }
-    s.one_line(compare::answer_end(&line[4..], output, s.compared, s.written))
-}
-
-fn row(line: &[u8], memory: &[u8], s: Session) -> Session {
-    if line.len() < 4 {
-        return s.one_row(false);
-    }
-    let mut bytes = io::buffer();
-    let n = text::decode(&line[4..], &mut bytes);
-    s.one_row(compare::same_row(memory, s.rows, &bytes[0..n]))
-}
-
-fn ended(memory: &[u8], s: Session) -> Session {
-    print::stream(s.ended(compare::rest_is_zero(memory, s.rows)))
-}
-
-// A line, by the byte that it begins with, on the memory of its stream.
-fn on_memory(first: u8, line: &[u8], memory: &mut [u8], output: &mut [u8], s: Session) -> Session {
-    match first {
-        b's' => begin(line, memory, s),
-        b'i' => run(line, memory, output, s),
-        b'o' => answered(line, output, s),
-        b'h' => s.holds(compare::same_head(line, memory), session::HEAD, 0),
-        b'r' => row(line, memory, s),
-        b'e' => ended(memory, s),
-        _ => s,
+    session.advance(line);
+    match memory.get_mut(..session.size()) {
+        Some(memory) => take(rt, line, memory, output, session),
+        None => Ok(()),
     }
 }
 
-fn came(first: u8, line: &[u8], s: Session) -> Session {
-    if first == b's' {
-        return s.begun(size(line)).came(first);
-    }
-    s.came(first)
-}
-
-fn on_line(line: &[u8], memory: &mut [u8], output: &mut [u8], s: Session) -> Session {
-    if line.len() == 0 {
-        return s;
-    }
-    let first = line[0];
-    if first == b'#' {
-        return s;
-    }
-    let t = came(first, line, s);
-    let n = t.size;
-    if n > memory.len() {
-        return t;
-    }
-    on_memory(first, line, &mut memory[0..n], output, t)
-}
-
-fn replay(text: &[u8], memory: &mut [u8], output: &mut [u8]) -> Session {
-    let mut s = Session::new();
-    let mut at = 0;
-    while at < text.len() {
-        let end = text::line_end(text, at);
-        s = on_line(&text[at..end], memory, output, s);
-        at = end;
-    }
-    s
-}
-
-// A text that ends inside a stream has a stream that differs.
-fn whole(s: Session) -> Session {
-    if s.before == b'e' {
-        return s;
-    }
-    print::stream(s.holds(false, session::TEXT, 0))
-}
-
-fn main() {
+fn main(rt: HostRuntime) -> io::Result<()> {
+    let text = io::read_to_string(rt.alloc(), rt.stdin())?;
     let mut memory = whole_memory();
-    let mut space = io::large_buffer();
-    let mut output = io::large_buffer();
-    let n = io::read_full(0, &mut space);
-    let s = replay(&space[..n], &mut memory, &mut output);
-    print::all(whole(s));
+    let mut output = [0; OUTPUT];
+    let mut session = Session::new();
+    for line in text.as_str().lines().filter(|line| !line.starts_with('#')) {
+        replay(&rt, line, &mut memory, &mut output, &mut session)?;
+    }
+    session.close(&rt)
 }

@@ -1,132 +1,210 @@
 // What the lines so far came to: of the stream that is being read, and of all.
+use crate::compare;
+use crate::line::Line;
+use std::{fmt, io};
 
-// What a stream's first difference is in, if it has one. TEXT: a line stands where it cannot, or a stream cannot begin. REST: a
-// row behind the last is not zero.
-pub const NOTHING: u8 = 0;
-
-pub const TEXT: u8 = 1;
-
-pub const LINE: u8 = 2;
-
-pub const HEAD: u8 = 3;
-
-pub const ROW: u8 = 4;
-
-pub const REST: u8 = 5;
-
-const MOST: usize = memory::bounds::MAX_ROWS as usize;
-
+// What a stream's first difference is in. Lines of the output and rows are counted from 1.
 #[derive(Clone, Copy)]
-pub struct Session {
-    // The byte that the line before began with, comments aside.
-    pub before: u8,
-    // Bytes of the memory that is lent to the stream.
-    pub size: usize,
+pub enum Difference {
+    // A line stands where it cannot, or a stream cannot begin.
+    Text,
+    Line(u64),
+    Head,
+    Row(usize),
+    // A row behind the last is not zero.
+    Rest,
+}
+
+impl fmt::Display for Difference {
+    fn fmt<W: fmt::Write>(&self, f: &mut fmt::Formatter<W>) -> fmt::Result {
+        match *self {
+            Difference::Text => write!(f, "text"),
+            Difference::Line(nth) => write!(f, "line {nth}"),
+            Difference::Head => write!(f, "head"),
+            Difference::Row(nth) => write!(f, "row {nth}"),
+            Difference::Rest => write!(f, "rest"),
+        }
+    }
+}
+
+// How far the lines are in a stream.
+#[derive(Clone, Copy, PartialEq, Eq)]
+enum Stage {
+    // Between streams.
+    Ended,
+    Begun,
+    // Its commands were run; their answers follow.
+    Ran,
+    // Its head was read; its rows follow.
+    Held,
+    // Behind what is no line.
+    Lost,
+}
+
+impl Stage {
+    // Where this line may stand.
+    fn before(line: Line<'_>) -> Stage {
+        match line {
+            Line::Stream(_) => Stage::Ended,
+            Line::In(_) => Stage::Begun,
+            Line::Out(_) | Line::Head(_) => Stage::Ran,
+            Line::Row(_) | Line::End => Stage::Held,
+        }
+    }
+
+    fn behind(line: Line<'_>) -> Stage {
+        match line {
+            Line::Stream(_) => Stage::Begun,
+            Line::In(_) | Line::Out(_) => Stage::Ran,
+            Line::Head(_) | Line::Row(_) => Stage::Held,
+            Line::End => Stage::Ended,
+        }
+    }
+}
+
+// The stream that is being read.
+#[derive(Clone, Copy)]
+struct Stream {
+    // Bytes of the memory that is lent to it.
+    size: usize,
     // Bytes of the output that the run wrote, and those that were compared.
-    pub written: usize,
-    pub compared: usize,
+    written: usize,
+    compared: usize,
     // Lines of the output and rows of the memory that were compared.
-    pub lines: u64,
-    pub rows: usize,
-    pub found: u8,
-    // Which line or row.
-    pub nth: u64,
-    // Over all streams.
-    pub streams: u64,
-    pub commands: u64,
-    pub differences: u64,
+    lines: u64,
+    rows: usize,
+    difference: Option<Difference>,
 }
 
-// Counts stay far below this.
-fn one_more(n: u64) -> u64 {
-    if n < 1000000 { n + 1 } else { n }
-}
-
-impl Session {
-    // As if a stream had just ended.
-    pub fn new() -> Session {
-        Session {
-            before: b'e',
-            size: 0,
+impl Stream {
+    fn new(size: usize) -> Stream {
+        Stream {
+            size,
             written: 0,
             compared: 0,
             lines: 0,
             rows: 0,
-            found: NOTHING,
-            nth: 0,
+            difference: None,
+        }
+    }
+}
+
+#[derive(Clone, Copy)]
+pub struct Session {
+    stage: Stage,
+    stream: Stream,
+    // Of all streams.
+    streams: u64,
+    commands: u64,
+    differences: u64,
+}
+
+impl Session {
+    pub fn new() -> Session {
+        Session {
+            stage: Stage::Ended,
+            stream: Stream::new(0),
             streams: 0,
             commands: 0,
             differences: 0,
         }
     }
 
+    // Another stream, with so many bytes of memory.
+    pub fn begin(&mut self, size: usize) {
+        self.stream = Stream::new(size);
+        self.streams = self.streams.saturating_add(1);
+    }
+
+    // The bytes of memory that the stream has.
+    pub fn size(&self) -> usize {
+        self.stream.size
+    }
+
+    // A line that has come may stand in a wrong place.
+    pub fn advance(&mut self, line: Line<'_>) {
+        let is_due = self.stage == Stage::before(line);
+        self.expect(is_due, Difference::Text);
+        self.stage = Stage::behind(line);
+    }
+
+    // What came is no line.
+    pub fn lose(&mut self) {
+        self.expect(false, Difference::Text);
+        self.stage = Stage::Lost;
+    }
+
     // Only a stream's first difference is kept.
-    pub fn holds(self, is_same: bool, found: u8, nth: u64) -> Session {
-        let mut s = self;
-        if !is_same & (s.found == NOTHING) {
-            s.found = found;
-            s.nth = nth;
-        }
-        s
-    }
-
-    // A line that begins with `first` has come.
-    pub fn came(self, first: u8) -> Session {
-        let mut s = self.holds(may_follow(self.before, first), TEXT, 0);
-        s.before = first;
-        s
-    }
-
-    // Another stream.
-    pub fn begun(self, size: usize) -> Session {
-        Session {
-            before: self.before,
-            size: size,
-            written: 0,
-            compared: 0,
-            lines: 0,
-            rows: 0,
-            found: NOTHING,
-            nth: 0,
-            streams: one_more(self.streams),
-            commands: self.commands,
-            differences: self.differences,
+    pub fn expect(&mut self, is_same: bool, difference: Difference) {
+        if !is_same && self.stream.difference.is_none() {
+            self.stream.difference = Some(difference);
         }
     }
 
-    // A line of the output was compared up to `end`, 0 where it differs.
-    pub fn one_line(self, end: usize) -> Session {
-        let mut s = self;
-        s.compared = end;
-        s.lines = one_more(s.lines);
-        s.commands = one_more(s.commands);
-        s.holds(0 < end, LINE, s.lines)
+    // The stream's commands were run, where they could be read.
+    pub fn run(&mut self, written: Option<usize>) {
+        self.expect(written.is_some(), Difference::Text);
+        self.stream.written = written.unwrap_or(0);
     }
 
-    pub fn one_row(self, is_same: bool) -> Session {
-        let mut s = self;
-        if s.rows < MOST {
-            s.rows = s.rows + 1;
+    pub fn answer(&mut self, answer: &str, output: &[u8]) {
+        let stream = self.stream;
+        let nth = stream.lines.saturating_add(1);
+        self.stream.lines = nth;
+        self.commands = self.commands.saturating_add(1);
+        match compare::answer_end(answer, output, stream.compared, stream.written) {
+            Some(end) => self.stream.compared = end,
+            None => self.expect(false, Difference::Line(nth)),
         }
-        s.holds(is_same, ROW, s.rows as u64)
+    }
+
+    pub fn row(&mut self, memory: &[u8], recorded: Option<&[u8]>) {
+        let n = self.stream.rows;
+        let nth = n.saturating_add(1);
+        self.stream.rows = nth;
+        let is_same = match recorded {
+            Some(recorded) => compare::same_row(memory, n, recorded),
+            None => false,
+        };
+        self.expect(is_same, Difference::Row(nth));
     }
 
     // A line of the output that was not recorded is a difference too.
-    pub fn ended(self, rest_is_zero: bool) -> Session {
-        let s = self.holds(self.compared == self.written, LINE, one_more(self.lines));
-        s.holds(rest_is_zero, REST, 0)
+    pub fn end(&mut self, rt: &impl Print, memory: &[u8]) -> io::Result<()> {
+        let stream = self.stream;
+        let nth = stream.lines.saturating_add(1);
+        self.expect(stream.compared == stream.written, Difference::Line(nth));
+        self.expect(compare::rest_is_zero(memory, stream.rows), Difference::Rest);
+        self.report(rt)
     }
-}
 
-// Whether a line that begins with `first` may stand behind one that begins with `before`.
-fn may_follow(before: u8, first: u8) -> bool {
-    match first {
-        b's' => before == b'e',
-        b'i' => before == b's',
-        b'o' => (before == b'i') | (before == b'o'),
-        b'h' => (before == b'i') | (before == b'o'),
-        b'r' => (before == b'h') | (before == b'r'),
-        b'e' => (before == b'h') | (before == b'r'),
-        _ => false,
+    // The line of the stream that has ended.
+    fn report(&mut self, rt: &impl Print) -> io::Result<()> {
+        let nth = self.streams;
+        let Stream {
+            lines,
+            rows,
+            difference,
+            ..
+        } = self.stream;
+        match difference {
+            None => println!(rt; "stream {nth}: {lines} commands, {rows} rows, same"),
+            Some(difference) => {
+                self.differences = self.differences.saturating_add(1);
+                println!(rt; "stream {nth}: {difference} differs")
+            }
+        }
+    }
+
+    // The line of all streams. A text that ends inside a stream has a stream that differs.
+    pub fn close(mut self, rt: &impl Print) -> io::Result<()> {
+        if self.stage != Stage::Ended {
+            self.expect(false, Difference::Text);
+            self.report(rt)?;
+        }
+        let streams = self.streams;
+        let commands = self.commands;
+        let differences = self.differences;
+        println!(rt; "{streams} streams, {commands} commands, {differences} differences")
     }
 }

@@ -1,11 +1,6 @@
 -- Each call adds at most 1, so the count is at most the calls made, which are 21 at the end.
-use mathlib.Core.Path.{◌≡◌}
-use Prim.Native.Nat.{◌-◌, ◌≤◌}
-use lib.ListN.{length}
+use Rattle.std.proofs.Common.{◌≤◌}
 use Rattle.checks.proofs.refusals.Given as goal
 
 abbrev pub invariant-loop-call : goal.invariant-loop-call
-invariant-loop-call l = (l.count ≤ l.call) × (l.call ≤ 21) × (length l.memory ≡ length l.initial.memory)
-
-abbrev pub decreases-loop-call : goal.decreases-loop-call
-decreases-loop-call l = 21 - l.call
+invariant-loop-call l = l.count ≤ l.call-index
