@@ -50,7 +50,7 @@ def theorems(claims):
         statement = re.sub(r'\b[A-Z]\w*\.(\w+)', r'\1', statement)
         line = f"unfolding {' '.join(sorted(set(unfolded)))}\n" if unfolded else ''
         said.append(f'-- {claim}\nn{i} : {statement}\n{line}n{i} = refl\n')
-    head = 'use Rattle.std.specs.Prelude.{◌+◌, ◌≡◌, refl}\nuse Rattle.std.proofs.Math.Option.{some}\n'
+    head = 'use Rattle.std.specs.Prelude.{◌+◌, ◌≡◌, refl}\nuse Rattle.std.specs.Prelude.{Some}\n'
     head += ''.join(f"use {path}.{{{', '.join(sorted(names))}}}\n" for path, names in sorted(uses.items()))
     return head + '\n' + '\n'.join(said)
 

@@ -1,10 +1,8 @@
 // The calls, on keys of the states that `states` makes, at time 10.
 use lookups::{demote, get, path_mtu, remove, touch};
-use replies::answer::{
-    demote_reply, expiry_reply, remove_reply, stats_reply, sweep_reply, touch_reply,
-};
+use replies::answer::{reply, touch_reply};
 use types::node_addr::{ADDRESS_BYTES, NodeAddr};
-use types::reply::{Reply, refused};
+use types::reply::Reply;
 
 const TIME: u64 = 10;
 
@@ -125,11 +123,8 @@ fn got_and_touched(memory: &mut [u8], key: u8) -> Said {
 
 // When the entry would have expired.
 fn removed(memory: &mut [u8], key: u8) -> Said {
-    let answer = remove::remove(memory, address(key));
-    Said {
-        refusal: remove_reply(answer.removal).refusal,
-        value: answer.entry.expires_at,
-    }
+    let expiry = remove::remove(memory, address(key)).map(|entry| entry.map(|e| e.expires_at));
+    second(reply(expiry))
 }
 
 impl Call {
@@ -139,24 +134,21 @@ impl Call {
             Call::Touch(key) => second(touch_reply(touch::touch(memory, address(key), TIME))),
             Call::GetAndTouch(key) => got_and_touched(memory, key),
             Call::Remove(key) => removed(memory, key),
-            Call::Demote(key) => first(demote_reply(demote::demote(memory, address(key)))),
+            Call::Demote(key) => first(reply(demote::demote(memory, address(key)))),
             Call::ClearPathMtu(key) => {
-                first(refused(path_mtu::clear_path_mtu(memory, address(key))))
+                first(reply(path_mtu::clear_path_mtu(memory, address(key))))
             }
-            Call::PurgeExpired => first(sweep_reply(sweeps::purge_expired(memory, TIME))),
-            Call::Clear => first(refused(sweeps::clear(memory))),
+            Call::PurgeExpired => first(reply(sweeps::purge_expired(memory, TIME))),
+            Call::Clear => first(reply(sweeps::clear(memory))),
             Call::InvalidateViaNode(node) => {
-                first(sweep_reply(sweeps::invalidate_via_node(memory, address(node))))
+                first(reply(sweeps::invalidate_via_node(memory, address(node))))
             }
             Call::InvalidateOtherRoots(root) => {
-                first(sweep_reply(sweeps::invalidate_other_roots(memory, address(root))))
+                first(reply(sweeps::invalidate_other_roots(memory, address(root))))
             }
-            Call::Stats(which) => one_statistic(
-                stats_reply(statistics::stats(memory, TIME)),
-                which,
-            ),
-            Call::NextExpiry => second(expiry_reply(statistics::next_expiry(memory))),
-            Call::Fresh(max) => first(refused(state::fresh::fresh(memory, max, 300))),
+            Call::Stats(which) => one_statistic(reply(statistics::stats(memory, TIME)), which),
+            Call::NextExpiry => second(reply(statistics::next_expiry(memory))),
+            Call::Fresh(max) => first(reply(state::fresh::fresh(memory, max, 300))),
         }
     }
 }

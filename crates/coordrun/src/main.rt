@@ -137,7 +137,7 @@ fn report(rt: &HostRuntime, what: &str, error: io::Error) -> io::Result<()> {
 // A proved loop has to end, and nothing says that the input does. So it has as many turns as no run uses up.
 // 24 rows are room enough for max 8, so fresh is done (stream, StreamDemand.fresh_24).
 fn serve(rt: &HostRuntime, memory: &mut [u8], input: &mut [u8], output: &mut [u8]) -> Tally {
-    state::fresh::fresh(memory, 8, 300000);
+    let _ = state::fresh::fresh(memory, 8, 300000);
     let mut session = Session::new();
     for _ in 0..u64::MAX {
         match session.next {

@@ -2,12 +2,12 @@
 use crate::line::Call;
 use lookups::{demote, get, touch};
 use placement::calls::{insert, insert_funded, insert_stated, insert_with_ttl};
-use replies::answer::{demote_reply, hint_reply, touch_reply, verified_reply};
+use replies::answer::{reply, touch_reply};
 use replies::part::part_reply;
 use types::coord::{CoordEntry, Path};
 use types::node_addr::{ADDRESS_BYTES, NodeAddr};
 use types::placed::Funding;
-use types::reply::{Reply, refused};
+use types::reply::Reply;
 use verification::calls::{insert_verified, insert_verified_with_path_mtu};
 
 const ROOT: u64 = 5000;
@@ -26,7 +26,7 @@ fn with_element(path: Path, n: u64) -> Path {
         sequence: 0,
         timestamp: 0,
     };
-    path.append(element).path
+    path.append(element).unwrap_or(path)
 }
 
 // From this address on to the root.
@@ -45,7 +45,10 @@ fn get_reply(memory: &[u8], key: NodeAddr, time: u64) -> Reply {
     if number == 0 {
         part_reply(part.len())
     } else {
-        refused(number)
+        Reply {
+            refusal: number,
+            values: [0; 5],
+        }
     }
 }
 
@@ -60,21 +63,21 @@ impl Call {
         let addr = address(key);
         let funding = Funding::Upto(more);
         match self.code {
-            0 => refused(state::fresh::fresh(memory, key, len)),
-            10 => hint_reply(insert(memory, addr, path(ROOT, len), time)),
-            11 => hint_reply(insert_with_ttl(memory, addr, path(ROOT, len), time, more)),
-            12 => hint_reply(insert_funded(memory, addr, path(ROOT, len), time, funding)),
-            13 => hint_reply(insert_stated(memory, addr, path(key, len), time, funding)),
-            14 => verified_reply(insert_verified(memory, addr, path(ROOT, len), time)),
+            0 => reply(state::fresh::fresh(memory, key, len)),
+            10 => reply(insert(memory, addr, path(ROOT, len), time)),
+            11 => reply(insert_with_ttl(memory, addr, path(ROOT, len), time, more)),
+            12 => reply(insert_funded(memory, addr, path(ROOT, len), time, funding)),
+            13 => reply(insert_stated(memory, addr, path(key, len), time, funding)),
+            14 => reply(insert_verified(memory, addr, path(ROOT, len), time)),
             15 => {
                 let path = path(ROOT, len);
                 let mtu = (more % 65536) as u16;
-                verified_reply(insert_verified_with_path_mtu(memory, addr, path, time, mtu))
+                reply(insert_verified_with_path_mtu(memory, addr, path, time, mtu))
             }
             20 => get_reply(memory, addr, time),
             21 => touch_reply(touch::touch(memory, addr, time)),
-            23 => demote_reply(demote::demote(memory, addr)),
-            _ => refused(sweeps::clear(memory)),
+            23 => reply(demote::demote(memory, addr)),
+            _ => reply(sweeps::clear(memory)),
         }
     }
 }

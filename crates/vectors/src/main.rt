@@ -63,8 +63,8 @@ fn take(
 ) -> io::Result<()> {
     match line {
         Line::Stream(start) => {
-            let refusal = state::fresh::fresh(memory, start.max, start.ttl);
-            session.expect(refusal == 0, Difference::Text);
+            let fresh = state::fresh::fresh(memory, start.max, start.ttl);
+            session.expect(fresh.is_ok(), Difference::Text);
         }
         Line::In(digits) => session.run(run(memory, digits, output)),
         Line::Out(answer) => session.answer(answer, output),
