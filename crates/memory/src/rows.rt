@@ -60,11 +60,7 @@ pub fn copy_row(state: &mut [u8], n: usize, i: usize, j: usize)
 {
     let from = HEAD + i * ROW;
     let to = HEAD + j * ROW;
-    let mut k = 0;
-    while k < ROW {
-        state[to + k] = state[from + k];
-        k += 1;
-    }
+    state[to..from + ROW].copy_within(from - to.., 0);
 }
 
 // Both limits are set, and everything else up to the end of row R becomes zero.
