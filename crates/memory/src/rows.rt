@@ -37,7 +37,7 @@ fn weight_without(state: &[u8], n: usize, i: usize) -> u64
 {
     let stored = head::stored_weight(state);
     if row::place(state, n, i) < PROBATION {
-        stored - raw::numbers::wide(row::weight(state, n, i))
+        stored - row::weight(state, n, i) as u64
     } else {
         stored
     }
