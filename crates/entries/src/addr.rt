@@ -15,12 +15,9 @@ pub(crate) fn addr_at(state: &[u8], at: usize, a: NodeAddr) -> bool
     requires { at + address_size ≤ length state.now }
     ensures { result ≡ same_addr a (record { 0 = cut at address_size state.now }) }
 {
-    let x = a.0;
     let mut same = true;
-    let mut i = 0;
-    while i < ADDRESS {
-        same = same & (x[i] == state[at + i]);
-        i += 1;
+    for i in 0..ADDRESS {
+        same &= a.0[i] == state[at + i];
     }
     same
 }
@@ -40,13 +37,7 @@ pub fn load_addr(state: &[u8], at: usize) -> NodeAddr
     requires { at + address_size ≤ length state.now }
     ensures { result ≡ record { 0 = cut at address_size state.now } }
 {
-    let mut a = [0u8; ADDRESS];
-    let mut k = 0;
-    while k < ADDRESS {
-        a[k] = state[at + k];
-        k += 1;
-    }
-    NodeAddr(a)
+    NodeAddr(state[at..at + ADDRESS].try_into().unwrap())
 }
 
 pub fn load_coord_entry(state: &[u8], at: usize) -> CoordEntry

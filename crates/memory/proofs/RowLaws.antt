@@ -2,11 +2,11 @@
 use mathlib.Core.Path.{◌≡◌, refl, sym, ap, ◌∙◌}
 use Prim.Native.Nat.{ℕ, zero, suc, ◌+◌, ◌*◌, ◌-◌, ◌^◌, ◌≤◌, ◌<◌}
 use native.Mathlib.Omega.{arith}
-use mathlib.Core.Logic.{inl, inr}
+use mathlib.Core.Logic.{inl}
 use mathlib.Core.Bool.{cond}
 use mathlib.Core.List.{List, [], ◌∷◌, ◌++◌, append_assoc}
 use lib.Dec.{ltb}
-use lib.ListN.{length, take, drop, get_or, replicate, length-append, length-drop, length-replicate}
+use lib.ListN.{length, take, drop, replicate, length-append, length-drop, length-replicate}
 use lib.Seq.{sets, sets-eq, length-sets, slice, length-slice, length-take-le, take-take, take-append-le, take_at, take_all, drop-append-le, drop-append-add, drop_at, drop-drop}
 use Rattle.rules.specs.Records.{Row, State}
 use Rattle.rules.specs.Rows.{in_main, row_at, weigh_rows, with_rows, without_row, zero_rows, with_only_rows}
@@ -15,14 +15,12 @@ use Rattle.rules.specs.Memory.{cut, le_number, le_bytes, row_of, rows_of, view_r
 use Rattle.rules.proofs.Foreign.{rows_of_length}
 use Rattle.rules.proofs.RowLists.{total_without}
 use Rattle.rules.proofs.Sizes.{zero_length}
-use Rattle.raw.proofs.CopyLaws.{cut_byte}
 use Rattle.rules.proofs.MemoryLaws.{drop_take_add}
 use Rattle.raw.proofs.StoreLaws.{take_sets_le, drop_sets_add, cut_else, cut_same, cut_cut}
 use Rattle.rules.specs.Refusals.{fresh}
 use Rattle.rules.specs.Layout.{default_ttl_offset, head_size, max_entries_offset, number_size, row_count_offset, row_size, seq_offset, stored_weight_offset}
 use Rattle.memory.specs.Edits.{with_stored_weight, with_row_count, OnlyRows, shrunk}
 use Rattle.memory.proofs.RowBlocks.{rows_take, parts_rows, without_eq}
-use Rattle.memory.proofs.StoreRuns.{Run}
 use Rattle.memory.proofs.Fields.{head_store, with_head_number}
 
 -- ---- the front of a memory
@@ -156,15 +154,6 @@ out_view n i l m h o = only_shrunk n (n - 1) (without_row i (view_rows n l).rows
 pub weight_out : (i : ℕ) (rs : List Row) → i < length rs → weigh_rows in_main (without_row i rs) + cond (ltb (row_at i rs).place 2) (row_at i rs).weight 0 ≡ weigh_rows in_main rs
 unfolding in_main
 weight_out i rs h = total_without (λ r. cond (ltb r.place 2) r.weight 0) i rs h
-
--- ---- a row is copied down
-
--- a byte that is still to be copied is as it was
-pub byte_to_copy : (l s : List ℕ) (from to k : ℕ) → Run l (cut from row_size l) to row_size k s → to + row_size ≤ from → k < row_size → get_or s (from + k) 0 ≡ get_or (cut from row_size l) k 0
-byte_to_copy l s from to k r h b =
-    let us : List ℕ = take k (cut from row_size l) in
-    let lu : length us ≡ k = length-take-le k (cut from row_size l) (omega (arith, r.whole)) in
-    rw r.is (cut_byte from row_size k (sets l to us) b ∙ ap (λ (x : List ℕ). get_or x k 0) (cut_else l us to from row_size (inr (omega arith))))
 
 -- ---- fresh
 

@@ -1,11 +1,10 @@
 -- Runs of stores, one behind the other, are one run.
 use mathlib.Core.Path.{◌≡◌, sym, ap, ◌∙◌}
-use mathlib.Core.List.{List, [], ◌∷◌, ◌++◌, append_assoc}
-use Prim.Native.Nat.{ℕ, ◌+◌, ◌≤◌, ◌<◌}
+use mathlib.Core.List.{List, ◌++◌, append_assoc}
+use Prim.Native.Nat.{ℕ, ◌+◌}
 use native.Mathlib.Omega.{arith}
-use native.Mathlib.Numerals.{add-one}
-use lib.ListN.{length, take, get_or, set, length-append, length-set}
-use lib.Seq.{sets, take_all, take-suc, length-take-le}
+use lib.ListN.{length, length-append}
+use lib.Seq.{sets}
 use Rattle.raw.proofs.StoreLaws.{sets_more}
 
 -- a run behind a run of k
@@ -40,26 +39,3 @@ pub four_from : (l a b c d : List ℕ) (at i j k m : ℕ) → i + length a ≡ j
     → sets (sets (sets (sets l (at + i) a) (at + j) b) (at + k) c) (at + m) d ≡ sets l (at + i) (a ++ (b ++ (c ++ d)))
 four_from l a b c d at i j k m p q r =
     ap (λ (x : List ℕ). sets (sets x (at + k) c) (at + m) d) (two_from l a b at i j p) ∙ three_from l (a ++ b) c d at i k m (rw length-append (omega arith)) r ∙ ap (sets l (at + i)) (append_assoc a b (c ++ d))
-
--- ---- a run stored byte by byte
-
-one_more : (l x : List ℕ) (at i : ℕ) → i < length x → set (sets l at (take i x)) (at + i) (get_or x i 0) ≡ sets l at (take (i + 1) x)
-one_more l x at i h =
-    let e : take (i + 1) x ≡ take i x ++ (get_or x i 0 ∷ []) = rw add-one (take-suc x i 0 h) in
-    behind l (take i x) (get_or x i 0 ∷ []) at i (length-take-le i x (omega arith)) ∙ ap (sets l at) (sym e)
-
--- of the n bytes of x the first i are stored
-pub record Run (l x : List ℕ) (at n i : ℕ) (s : List ℕ) : Type 0 where
-  pub within : i ≤ n
-  pub whole : length x ≡ n
-  pub size : length s ≡ length l
-  pub is : s ≡ sets l at (take i x)
-
--- a turn stores one more
-pub run_turn : {l x s : List ℕ} {at n i v : ℕ} → Run l x at n i s → i < n → v ≡ get_or x i 0 → Run l x at n (i + 1) (set s (at + i) v)
-run_turn {l} {x} {s} {at} {n} {i} r h e =
-    record { within = omega arith; whole = r.whole; size = simp length-set r.size; is = rw (e, r.is) (one_more l x at i (omega (arith, r.whole))) }
-
--- all are stored
-pub run_end : {l x s : List ℕ} {at n i : ℕ} → Run l x at n i s → n ≤ i → s ≡ sets l at x
-run_end {l} {x} {s} {at} {n} {i} r h = r.is ∙ ap (sets l at) (take_all i x (omega (arith, r.whole)))

@@ -37,7 +37,7 @@ fn weight_without(state: &[u8], n: usize, i: usize) -> u64
 {
     let stored = head::stored_weight(state);
     if row::place(state, n, i) < PROBATION {
-        stored - raw::numbers::wide(row::weight(state, n, i))
+        stored - row::weight(state, n, i) as u64
     } else {
         stored
     }
@@ -60,11 +60,7 @@ pub fn copy_row(state: &mut [u8], n: usize, i: usize, j: usize)
 {
     let from = HEAD + i * ROW;
     let to = HEAD + j * ROW;
-    let mut k = 0;
-    while k < ROW {
-        state[to + k] = state[from + k];
-        k += 1;
-    }
+    state[to..from + ROW].copy_within(from - to.., 0);
 }
 
 // Both limits are set, and everything else up to the end of row R becomes zero.

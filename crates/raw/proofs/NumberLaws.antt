@@ -1,11 +1,12 @@
--- Little-endian numbers, byte by byte as the code reads and writes them, are those of the rules.
-use mathlib.Core.Path.{◌≡◌, sym, ap}
-use Prim.Native.Nat.{ℕ, suc, ◌+◌, ◌*◌, ◌/◌, ◌%◌, ◌≤◌, ◌<◌}
+-- Little-endian numbers, as the code reads and writes them, are those of the rules.
+use mathlib.Core.Path.{◌≡◌, refl, sym}
+use Prim.Native.Nat.{ℕ, ◌+◌, ◌*◌, ◌%◌, ◌≤◌, ◌<◌}
 use native.Mathlib.Nat.{div-div-eq-div-mul}
 use native.Mathlib.Omega.{arith}
 use mathlib.Core.List.{List, [], ◌∷◌}
 use lib.ListN.{length, get_or, set}
 use lib.Seq.{sets}
+use Rattle.std.specs.Int.{w16, w64, from_le_bytes, to_le_bytes}
 use Rattle.types.proofs.PathLaws.{uncons}
 use Rattle.rules.specs.Memory.{cut, le_number, le_bytes}
 
@@ -17,7 +18,8 @@ pub byte_number : (l : List ℕ) (at : ℕ) → at + 1 ≤ length l → get_or l
 unfolding le_number
 byte_number l at h = rw (uncons l at 0 (omega arith)) (omega arith)
 
-pub pair_number : (l : List ℕ) (at : ℕ) → at + 2 ≤ length l → get_or l at 0 + get_or l (at + 1) 0 * 0x100 ≡ le_number (cut at 2 l)
+-- std's numbers from bytes, and bytes of numbers, are those of the rules
+pub pair_number : (l : List ℕ) (at : ℕ) → at + 2 ≤ length l → from_le_bytes w16 (cut at 2 l) ≡ le_number (cut at 2 l)
 unfolding le_number
 pair_number l at h = rw (uncons l at 0 (omega arith), uncons l (at + 1) 0 (omega arith)) (omega arith)
 
@@ -33,39 +35,17 @@ eight_bytes l at h =
     let e7 : at + 6 + 1 ≡ at + 7 = omega arith in
     rw (uncons l at 0 (omega arith), uncons l (at + 1) 0 (omega arith), e2, uncons l (at + 2) 0 (omega arith), e3, uncons l (at + 3) 0 (omega arith), e4, uncons l (at + 4) 0 (omega arith), e5, uncons l (at + 5) 0 (omega arith), e6, uncons l (at + 6) 0 (omega arith), e7, uncons l (at + 7) 0 (omega arith))
 
-pub word_number : (l : List ℕ) (at : ℕ) → at + 8 ≤ length l
-    → get_or l at 0 + get_or l (at + 1) 0 * 0x100 + get_or l (at + 2) 0 * 0x1_0000 + get_or l (at + 3) 0 * 0x100_0000 + get_or l (at + 4) 0 * 0x1_0000_0000
-    + get_or l (at + 5) 0 * 0x100_0000_0000 + get_or l (at + 6) 0 * 0x1_0000_0000_0000 + get_or l (at + 7) 0 * 0x100_0000_0000_0000 ≡ le_number (cut at 8 l)
+pub word_number : (l : List ℕ) (at : ℕ) → at + 8 ≤ length l → from_le_bytes w64 (cut at 8 l) ≡ le_number (cut at 8 l)
 unfolding le_number
 word_number l at h = rw (eight_bytes l at h) (sym (horner _ _ _ _ _ _ _ _))
 
--- the eight bytes of v, each from v itself
-unfoldable pub bytes64 : ℕ → List ℕ
-bytes64 v =
-    v % 256 ∷ v / 0x100 % 256 ∷ v / 0x1_0000 % 256 ∷ v / 0x100_0000 % 256 ∷ v / 0x1_0000_0000 % 256 ∷ v / 0x100_0000_0000 % 256 ∷ v / 0x1_0000_0000_0000 % 256 ∷ v / 0x100_0000_0000_0000 % 256 ∷ []
-
-pub bytes_le : (v : ℕ) → bytes64 v ≡ le_bytes 8 v
-unfolding bytes64 le_bytes
-bytes_le v = simp div-div-eq-div-mul
-
--- eight stores are a run of stores
-pub word_stores : (l : List ℕ) (at v : ℕ)
-    → set (set (set (set (set (set (set (set l at (v % 256)) (at + 1) (v / 0x100 % 256)) (at + 2) (v / 0x1_0000 % 256)) (at + 3) (v / 0x100_0000 % 256)) (at + 4) (v / 0x1_0000_0000 % 256)) (at + 5) (v / 0x100_0000_0000 % 256)) (at + 6) (v / 0x1_0000_0000_0000 % 256)) (at + 7) (v / 0x100_0000_0000_0000 % 256)
-    ≡ sets l at (le_bytes 8 v)
-unfolding bytes64
-word_stores l at v =
-    let e1 : at + 1 ≡ suc at = omega arith in
-    let e2 : at + 2 ≡ suc (suc at) = omega arith in
-    let e3 : at + 3 ≡ suc (suc (suc at)) = omega arith in
-    let e4 : at + 4 ≡ suc (suc (suc (suc at))) = omega arith in
-    let e5 : at + 5 ≡ suc (suc (suc (suc (suc at)))) = omega arith in
-    let e6 : at + 6 ≡ suc (suc (suc (suc (suc (suc at))))) = omega arith in
-    let e7 : at + 7 ≡ suc (suc (suc (suc (suc (suc (suc at)))))) = omega arith in
-    rw (e1, e2, e3, e4, e5, e6, e7) (ap (sets l at) (bytes_le v))
-
-pub pair_stores : (l : List ℕ) (at v : ℕ) → set (set l at (v % 256)) (at + 1) (v / 256 % 256) ≡ sets l at (le_bytes 2 v)
+pub pair_bytes : (v : ℕ) → to_le_bytes w16 v ≡ le_bytes 2 v
 unfolding le_bytes
-pair_stores l at v = let e1 : at + 1 ≡ suc at = omega arith in rw e1
+pair_bytes v = refl
+
+pub word_bytes : (v : ℕ) → to_le_bytes w64 v ≡ le_bytes 8 v
+unfolding le_bytes
+word_bytes v = simp div-div-eq-div-mul
 
 pub byte_store : (l : List ℕ) (at v : ℕ) → v < 256 → set l at v ≡ sets l at (le_bytes 1 v)
 unfolding le_bytes

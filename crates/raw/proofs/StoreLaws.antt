@@ -5,8 +5,11 @@ use native.Mathlib.Nat.{add-zero}
 use native.Mathlib.Omega.{arith}
 use mathlib.Core.Logic.{◌⊎◌, inl, inr}
 use mathlib.Core.List.{List, [], ◌∷◌, ◌++◌, append_assoc}
-use lib.ListN.{length, take, drop, set, replicate, length-replicate, replicate-append-replicate}
+use lib.ListN.{length, take, drop, set}
 use lib.Seq.{sets, sets-eq, take-set-le, drop-set-lt, take-set-lt, drop-set-add, take_at, drop_at, length-take-le, drop-drop}
+use borrow.Rule.Slice.PartMut.{put_mid}
+use Rattle.std.proofs.lemmas.List.Edits.{paste_all}
+use Rattle.std.proofs.lemmas.Slice.{put_mid-paste}
 use Rattle.rules.specs.Memory.{cut}
 use Rattle.rules.proofs.MemoryLaws.{cut_front}
 
@@ -47,9 +50,6 @@ cut_same l vs i h =
 pub cut_cut : (k m o w : ℕ) (l : List ℕ) → o + w ≤ m → cut o w (cut k m l) ≡ cut (k + o) w l
 cut_cut k m o w l h = cut_front o w m (drop k l) h ∙ ap (take w) (drop-drop o k l)
 
--- one zero more
-pub zero_turn : (l : List ℕ) (at j : ℕ) → set (sets l at (replicate j 0)) (at + j) 0 ≡ sets l at (replicate (j + 1) 0)
-zero_turn l at j =
-    ap (λ (k : ℕ). set (sets l at (replicate j 0)) (at + k) 0) (sym (length-replicate j 0))
-    ∙ sets_more (replicate j 0) (0 ∷ []) l at
-    ∙ ap (sets l at) (replicate-append-replicate j 1 0)
+-- a part of the memory, written as a slice of its own
+pub part_stored : (l vs : List ℕ) (at n : ℕ) → length vs ≡ n → at + n ≤ length l → put_mid at n l vs ≡ sets l at vs
+part_stored l vs at n e h = put_mid-paste at n l vs vs n refl refl (sym e) ∙ rw (paste_all l at vs n (sym e), sets-eq vs l at (omega arith), e, append_assoc)

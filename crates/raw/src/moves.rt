@@ -1,4 +1,4 @@
-// Rows move as blocks of bytes, one plain copy after another, so that the compiler makes wide copies of them.
+// Rows move, and bytes become zero. A part of the memory is moved by a constant within itself, so that each move compiles to one `memmove`.
 ghost use Rattle.std.specs.Prelude.{◌≡◌, ◌++◌, ◌+◌, ◌-◌, ◌≤◌, ◌<◌, length, take, drop, replicate};
 ghost use Rattle.std.proofs.Math.Seq.{slice};
 ghost use Rattle.std.proofs.lemmas.List.Edits.{sets};
@@ -11,11 +11,7 @@ pub fn shift_up(s: &mut [u8], from: usize, to: usize)
     requires { (from ≤ to) × (to + row_size ≤ length s.old) }
     ensures { s.new ≡ take (from + row_size) s.old ++ (slice from to s.old ++ drop (to + row_size) s.old) }
 {
-    let mut i = to;
-    while from < i {
-        i -= 1;
-        s[i + ROW] = s[i];
-    }
+    s[from..to + ROW].copy_within(..to - from, ROW);
 }
 
 // The bytes from a row past `at` up to `end` move down by a row.
@@ -23,12 +19,7 @@ pub fn shift_down(s: &mut [u8], at: usize, end: usize)
     requires { (at + row_size ≤ end) × (end ≤ length s.old) }
     ensures { s.new ≡ take at s.old ++ (slice (at + row_size) end s.old ++ drop (end - row_size) s.old) }
 {
-    let stop = end - ROW;
-    let mut i = at;
-    while i < stop {
-        s[i] = s[i + ROW];
-        i += 1;
-    }
+    s[at..end].copy_within(ROW.., 0);
 }
 
 // The bytes from `from` up to `to` become zero.
@@ -36,9 +27,5 @@ pub fn fill_zero(s: &mut [u8], from: usize, to: usize)
     requires { (from ≤ to) × (to ≤ length s.old) }
     ensures { s.new ≡ sets s.old from (replicate (to - from) 0) }
 {
-    let mut i = from;
-    while i < to {
-        s[i] = 0;
-        i += 1;
-    }
+    s[from..to].fill(0);
 }

@@ -19,13 +19,7 @@ fn hex_digit(d: u8) -> u8
 fn count_digits(v: u64) -> usize
     ensures { result ≡ length (decimal v) }
 {
-    let mut n = 1;
-    let mut rest = v / 10;
-    while 0 < rest {
-        rest /= 10;
-        n += 1;
-    }
-    n
+    v.max(1).ilog10() as usize + 1
 }
 
 // The digits from the last to the first; where the text goes on.
@@ -34,10 +28,8 @@ fn put_decimal(out: &mut [u8], at: usize, v: u64) -> usize
     ensures { (result ≡ at + length (decimal v)) × (out.new ≡ sets out.old at (decimal v)) }
 {
     let n = count_digits(v);
-    let mut i = n;
     let mut rest = v;
-    while 0 < i {
-        i -= 1;
+    for i in (0..n).rev() {
         out[at + i] = 48 + (rest % 10) as u8;
         rest /= 10;
     }
@@ -58,10 +50,8 @@ fn put_values(out: &mut [u8], at: usize, values: [u64; 5]) -> usize
     ensures { (result ≡ at + length (spaced values)) × (out.new ≡ sets out.old at (spaced values)) }
 {
     let mut end = at;
-    let mut k = 0;
-    while k < 5 {
-        end = put_number(out, end, values[k]);
-        k += 1;
+    for value in &values {
+        end = put_number(out, end, *value);
     }
     end
 }

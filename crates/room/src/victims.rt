@@ -111,10 +111,8 @@ fn put_back(state: &mut [u8], n: usize)
     requires { head_size + n * row_size ≤ length state.old }
     ensures { view_rows n state.new ≡ with_rows (map put_back (view_rows n state.old).rows) (view_rows n state.old) }
 {
-    let mut i = 0;
-    while i < n {
+    for i in 0..n {
         put_row_back(state, n, i);
-        i += 1;
     }
 }
 

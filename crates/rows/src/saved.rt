@@ -13,11 +13,7 @@ fn store_saved(s: &mut [u8], at: usize, row: [u8; ROW])
     ensures s_after { s.new ≡ sets s.old at row }
     ensures row_len { length row ≡ row_size }
 {
-    let mut i = 0;
-    while i < ROW {
-        s[at + i] = row[i];
-        i += 1;
-    }
+    s[at..at + ROW].copy_from_slice(&row);
 }
 
 // The rows from i on move up by a row, and row i has these bytes.
@@ -37,11 +33,5 @@ pub fn save_row(state: &[u8], n: usize, i: usize) -> [u8; ROW]
     ensures { result ≡ cut (head_size + i * row_size) row_size state.now }
 {
     let at = HEAD + i * ROW;
-    let mut row = [0u8; ROW];
-    let mut k = 0;
-    while k < ROW {
-        row[k] = state[at + k];
-        k += 1;
-    }
-    row
+    state[at..at + ROW].try_into().unwrap()
 }

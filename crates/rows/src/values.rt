@@ -15,12 +15,7 @@ pub(crate) fn store_addr(s: &mut [u8], at: usize, a: NodeAddr)
     ensures s_after { s.new ≡ sets s.old at (addr_bytes a) }
     ensures addr_fits { AddrFits a }
 {
-    let x = a.0;
-    let mut i = 0;
-    while i < ADDRESS {
-        s[at + i] = x[i];
-        i += 1;
-    }
+    s[at..at + ADDRESS].copy_from_slice(&a.0);
 }
 
 fn store_coord_entry(s: &mut [u8], at: usize, e: CoordEntry)
@@ -41,11 +36,8 @@ pub fn store_path(s: &mut [u8], at: usize, p: Path)
 {
     let n = p.len;
     raw::numbers::write_u8(s, at, n as u8);
-    let mut i = 0;
-    while i < n {
-        let e = p.entries[i];
-        store_coord_entry(s, at + BYTE + i * ELEMENT, e);
-        i += 1;
+    for i in 0..n {
+        store_coord_entry(s, at + BYTE + i * ELEMENT, p.entries[i]);
     }
     let from = at + BYTE + n * ELEMENT;
     let to = at + PATH;

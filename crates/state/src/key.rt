@@ -13,14 +13,12 @@ fn address_before(s: &[u8], a: usize, b: usize) -> bool
     requires { (a + address_size ≤ length s.now) × (b + address_size ≤ length s.now) }
     ensures { result ≡ bytes_before (cut a address_size s.now) (cut b address_size s.now) }
 {
-    let mut at = 0;
-    while at < ADDRESS {
+    for at in 0..ADDRESS {
         let x = s[a + at];
         let y = s[b + at];
         if x != y {
             return x < y;
         }
-        at += 1;
     }
     false
 }

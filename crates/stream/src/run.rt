@@ -128,11 +128,6 @@ pub fn keep_unused(buffer: &mut [u8], used: usize, held: usize) -> usize
     requires { (used ≤ held) × (held ≤ length buffer.old) }
     ensures { (result ≡ held - used) × (buffer.new ≡ slice used held buffer.old ++ drop (held - used) buffer.old) }
 {
-    let left = held - used;
-    let mut n = 0;
-    while n < left {
-        buffer[n] = buffer[n + used];
-        n += 1;
-    }
-    left
+    buffer.copy_within(used..held, 0);
+    held - used
 }

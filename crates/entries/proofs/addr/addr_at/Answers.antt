@@ -9,10 +9,10 @@ use Rattle.entries.proofs.addr.addr_at.Goals as goal
 pub loop-i-preserved : goal.loop-i-preserved
 loop-i-preserved c =
     let p = c.loop-i in
-    (omega arith, p.invariant.1, addr_more _ p.same _ _ p.invariant.2 (addr_turn c.args.a.0 c.args.state.now c.args.at p.i p.invariant.1 (omega arith) (omega arith)) ∙ and_in p.same _ _)
+    (p.invariant.0, addr_more _ p.same _ _ p.invariant.1 (addr_turn c.args.a.0 c.args.state.now c.args.at p.i p.invariant.0 (omega arith) (omega arith)) ∙ and_in p.same _ _)
 
 pub returns : goal.returns
 unfolding same_addr
 returns c =
     let p = c.loop-i in
-    sym (addr_more _ p.same _ _ p.invariant.2 (addr_end c.args.a.0 c.args.state.now c.args.at p.i p.invariant.1 (omega arith) (omega arith)) ∙ and-true p.same)
+    sym (addr_more _ p.same _ _ p.invariant.1 (addr_end c.args.a.0 c.args.state.now c.args.at p.i p.invariant.0 (omega arith) (omega arith)) ∙ and-true p.same)

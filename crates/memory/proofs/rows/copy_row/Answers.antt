@@ -1,20 +1,18 @@
--- The loop has copied k bytes; row j ends where row i begins or before, so no store changes a byte still to be read.
-use mathlib.Core.Path.{refl}
-use Prim.Native.Nat.{◌+◌, ◌*◌}
+-- A move within a part is, by `moved_part`, one within the memory, and by `copied_cut` a run of stores of the row's bytes.
+use mathlib.Core.Path.{◌∙◌}
+use Prim.Native.Nat.{ℕ, ◌+◌, ◌*◌, ◌-◌}
 use native.Mathlib.Omega.{arith}
 use Rattle.rules.specs.Layout.{head_size, row_size}
 use Rattle.rules.proofs.MemoryLaws.{length_cut}
-use Rattle.memory.proofs.StoreRuns.{run_turn, run_end}
-use Rattle.memory.proofs.RowLaws.{byte_to_copy}
+use Rattle.raw.proofs.MoveLaws.{copied_cut, moved_part}
 use Rattle.memory.proofs.rows.copy_row.Goals as goal
 
-pub loop-k-init : goal.loop-k-init
-loop-k-init c = (record { within = omega arith; whole = length_cut (head_size + c.args.i * row_size) row_size c.args.state.now (omega arith); size = refl; is = refl }, refl, refl)
-
-pub loop-k-preserved : goal.loop-k-preserved
-loop-k-preserved c =
-    let v = c.loop-k.invariant in
-    (run_turn v.0 (omega arith) (byte_to_copy c.args.state.now _ _ _ c.loop-k.k v.0 (omega arith) (omega arith)), refl, refl)
-
 pub returns : goal.returns
-returns c = run_end c.loop-k.invariant.0 (omega arith)
+returns c =
+    let l = c.args.state.now in
+    let from : ℕ = head_size + c.args.i * row_size in
+    let to : ℕ = head_size + c.args.j * row_size in
+    let n : ℕ = from + row_size - to in
+    rw (c.copy_within.ensures.after, length_cut to n l (omega arith))
+    (moved_part l to n (from - to) n 0 from (from + row_size) to (omega arith) (omega arith) (omega arith) (omega arith) (omega arith) (omega arith) (omega arith)
+    ∙ copied_cut l from row_size to (omega arith) (omega arith))

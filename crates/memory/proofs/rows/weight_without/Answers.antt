@@ -20,8 +20,8 @@ overflow_sub-result c =
     let row : Row = row_at c.args.i rows in
     let stored : weigh_rows in_main others + cond (ltb row.place 2) row.weight 0 ≡ c.stored_weight-stored.result = weight_out c.args.i rows (omega (arith, view_length c.args.n c.args.state.now, c.requires.0))
     ∙ sym (c.stored_weight-stored.ensures ∙ (same_head 0 c.args.n c.args.state.now).stored_weight ∙ c.requires.2) in
-    let main_row : weigh_rows in_main others + c.wide.result ≡ c.stored_weight-stored.result = let t = lt-ltb row.place 2 (omega (arith, c.place.ensures, c.if-place-lt-PROBATION.true)) in
-    omega (arith, rw t at stored, c.wide.ensures.0, c.weight.ensures) in
+    let main_row : weigh_rows in_main others + c.weight.result ≡ c.stored_weight-stored.result = let t = lt-ltb row.place 2 (omega (arith, c.place.ensures, c.if-place-lt-PROBATION.true)) in
+    omega (arith, rw t at stored, c.weight.ensures) in
     omega (arith, main_row)
 
 pub returns-then-place-lt-PROBATION : goal.returns-then-place-lt-PROBATION
@@ -31,8 +31,8 @@ returns-then-place-lt-PROBATION c =
     let row : Row = row_at c.args.i rows in
     let stored : weigh_rows in_main others + cond (ltb row.place 2) row.weight 0 ≡ c.stored_weight-stored.result = weight_out c.args.i rows (omega (arith, view_length c.args.n c.args.state.now, c.requires.0))
     ∙ sym (c.stored_weight-stored.ensures ∙ (same_head 0 c.args.n c.args.state.now).stored_weight ∙ c.requires.2) in
-    let main_row : weigh_rows in_main others + c.wide.result ≡ c.stored_weight-stored.result = let t = lt-ltb row.place 2 (omega (arith, c.place.ensures, c.if-place-lt-PROBATION.true)) in
-    omega (arith, rw t at stored, c.wide.ensures.0, c.weight.ensures) in
+    let main_row : weigh_rows in_main others + c.weight.result ≡ c.stored_weight-stored.result = let t = lt-ltb row.place 2 (omega (arith, c.place.ensures, c.if-place-lt-PROBATION.true)) in
+    omega (arith, rw t at stored, c.weight.ensures) in
     omega (arith, main_row)
 
 pub returns-else-place-lt-PROBATION : goal.returns-else-place-lt-PROBATION

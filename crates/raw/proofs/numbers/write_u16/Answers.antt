@@ -1,11 +1,15 @@
--- A store keeps the length, so the second index is in range too; by `pair_stores` both stores are one run.
-use lib.ListN.{length-set}
-use Rattle.raw.proofs.NumberLaws.{pair_stores}
-use borrow.Author.Rules.{rules}
+-- By `pair_bytes` std's bytes of v are the rules', and by `part_stored` a part that has them is a run of stores.
+use mathlib.Core.Path.{◌≡◌, ◌∙◌}
+use Prim.Native.Nat.{◌+◌, ◌-◌}
+use native.Mathlib.Omega.{arith}
+use Rattle.rules.specs.Memory.{le_bytes}
+use Rattle.rules.proofs.MemoryLaws.{length_le}
+use Rattle.raw.proofs.StoreLaws.{part_stored}
+use Rattle.raw.proofs.NumberLaws.{pair_bytes}
 use Rattle.raw.proofs.numbers.write_u16.Goals as goal
 
-pub bounds-s-at-2 : goal.bounds-s-at-2
-bounds-s-at-2 c = simp length-set (search rules)
-
 pub returns : goal.returns
-returns c = pair_stores _ _ _
+returns c =
+    let e : c.args.at + 2 - c.args.at ≡ 2 = omega arith in
+    let bytes : c.copy_from_slice.new.self ≡ le_bytes 2 c.args.v = c.copy_from_slice.ensures.after ∙ c.to_le_bytes.ensures ∙ pair_bytes c.args.v in
+    rw (e, bytes) (part_stored c.args.s.now (le_bytes 2 c.args.v) c.args.at 2 (length_le 2 c.args.v) c.requires)

@@ -1,29 +1,15 @@
--- Dividing by 256 repeatedly is dividing by its powers, so the eight stores are one run of `le_bytes 8 v`.
-use borrow.Author.Rules.{rules}
-use Rattle.raw.proofs.NumberLaws.{word_stores}
-use lib.ListN.{length-set}
+-- By `word_bytes` std's bytes of v are the rules', and by `part_stored` a part that has them is a run of stores.
+use mathlib.Core.Path.{◌≡◌, ◌∙◌}
+use Prim.Native.Nat.{◌+◌, ◌-◌}
+use native.Mathlib.Omega.{arith}
+use Rattle.rules.specs.Memory.{le_bytes}
+use Rattle.rules.proofs.MemoryLaws.{length_le}
+use Rattle.raw.proofs.StoreLaws.{part_stored}
+use Rattle.raw.proofs.NumberLaws.{word_bytes}
 use Rattle.raw.proofs.numbers.write_u64.Goals as goal
 
-pub bounds-s-at-2 : goal.bounds-s-at-2
-bounds-s-at-2 c = simp length-set (search rules)
-
-pub bounds-s-at-3 : goal.bounds-s-at-3
-bounds-s-at-3 c = simp length-set (search rules)
-
-pub bounds-s-at-4 : goal.bounds-s-at-4
-bounds-s-at-4 c = simp length-set (search rules)
-
-pub bounds-s-at-5 : goal.bounds-s-at-5
-bounds-s-at-5 c = simp length-set (search rules)
-
-pub bounds-s-at-6 : goal.bounds-s-at-6
-bounds-s-at-6 c = simp length-set (search rules)
-
-pub bounds-s-at-7 : goal.bounds-s-at-7
-bounds-s-at-7 c = simp length-set (search rules)
-
-pub bounds-s-at-8 : goal.bounds-s-at-8
-bounds-s-at-8 c = simp length-set (search rules)
-
 pub returns : goal.returns
-returns c = word_stores _ _ _
+returns c =
+    let e : c.args.at + 8 - c.args.at ≡ 8 = omega arith in
+    let bytes : c.copy_from_slice.new.self ≡ le_bytes 8 c.args.v = c.copy_from_slice.ensures.after ∙ c.to_le_bytes.ensures ∙ word_bytes c.args.v in
+    rw (e, bytes) (part_stored c.args.s.now (le_bytes 8 c.args.v) c.args.at 8 (length_le 8 c.args.v) c.requires)

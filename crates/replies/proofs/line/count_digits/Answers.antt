@@ -1,19 +1,8 @@
--- The digits counted and those left add up to all; what is left is below 10^(20 − n), so n stays at most 20.
-use native.Mathlib.Omega.{arith}
-use Rattle.replies.proofs.Digits.{count_start, count_turn, count_end}
+-- A number from 10^k up to ten times as much has k + 1 digits; 0 has one, as 1 has.
+use Rattle.replies.proofs.Digits.{counted}
 use Rattle.replies.proofs.line.count_digits.Goals as goal
 
-pub loop-rest-init : goal.loop-rest-init
-loop-rest-init c = count_start c.args.v c.ranges.v.fits
-
-pub overflow_add-n : goal.overflow_add-n
-overflow_add-n c = omega (arith, c.loop-rest.invariant.within)
-
-pub loop-rest-smaller : goal.loop-rest-smaller
-loop-rest-smaller c = omega arith
-
-pub loop-rest-preserved : goal.loop-rest-preserved
-loop-rest-preserved c = count_turn _ _ _ c.loop-rest-test.true c.loop-rest.invariant
-
 pub returns : goal.returns
-returns c = count_end _ _ c.loop-rest.rest (omega arith) c.loop-rest.invariant
+returns c =
+    let h = c.ilog10.ensures in
+    counted c.args.v c.ilog10.result h.bound (rw c.max.ensures at h.power_le) (rw c.max.ensures at h.next_power_gt)

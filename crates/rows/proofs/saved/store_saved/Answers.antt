@@ -1,11 +1,15 @@
--- The loop has stored the array's first i bytes; it ends at i = ROW, which is the array's length.
-use Rattle.memory.proofs.StoreRuns.{run_turn, run_end}
-use mathlib.Core.Path.{refl}
+-- The array is as long as a row, and by `part_stored` a part of the memory that has its bytes is a run of stores.
+use mathlib.Core.Path.{◌≡◌}
+use Prim.Native.Nat.{◌+◌, ◌-◌}
 use native.Mathlib.Omega.{arith}
+use borrow.Author.Rules.{rules}
+use lib.ListN.{length}
+use Rattle.rules.specs.Layout.{row_size}
+use Rattle.raw.proofs.StoreLaws.{part_stored}
 use Rattle.rows.proofs.saved.store_saved.Goals as goal
 
-pub loop-i-preserved : goal.loop-i-preserved
-loop-i-preserved c = run_turn c.loop-i.invariant (omega arith) refl
-
 pub returns : goal.returns
-returns c = record { s_after = run_end c.loop-i.invariant (omega arith); row_len = c.loop-i.invariant.whole }
+returns c =
+    let e : c.args.at + row_size - c.args.at ≡ row_size = omega arith in
+    let n : length c.args.row ≡ row_size = search rules in
+    record { s_after = rw (e, c.copy_from_slice.ensures.after) (part_stored c.args.s.now c.args.row c.args.at row_size n c.requires); row_len = n }

@@ -1,12 +1,14 @@
--- By `one_more` the run of the first i bytes grows by one; owning an address tells that it has 16 bytes, each below 256.
-use Rattle.memory.proofs.OwnedValues.{owned_addr}
-use Rattle.memory.proofs.StoreRuns.{run_turn, run_end}
-use mathlib.Core.Path.{refl}
+-- Owning an address tells that it has 16 bytes, each below 256; by `part_stored` a part that has them is a run of stores.
+use mathlib.Core.Path.{◌≡◌}
+use Prim.Native.Nat.{◌+◌, ◌-◌}
 use native.Mathlib.Omega.{arith}
+use Rattle.rules.specs.Layout.{address_size}
+use Rattle.raw.proofs.StoreLaws.{part_stored}
+use Rattle.memory.proofs.OwnedValues.{owned_addr}
 use Rattle.rows.proofs.values.store_addr.Goals as goal
 
-pub loop-i-preserved : goal.loop-i-preserved
-loop-i-preserved c = run_turn c.loop-i.invariant (omega arith) refl
-
 pub returns : goal.returns
-returns c = record { s_after = run_end c.loop-i.invariant (omega arith); addr_fits = owned_addr c.args.a _ c.well_formed.1.1.0 }
+returns c =
+    let f = owned_addr c.args.a _ c.well_formed.1.1.0 in
+    let e : c.args.at + address_size - c.args.at ≡ address_size = omega arith in
+    record { s_after = rw (e, c.copy_from_slice.ensures.after) (part_stored c.args.s.now c.args.a.0 c.args.at address_size f.size c.requires); addr_fits = f }

@@ -1,5 +1,5 @@
 -- Behind the length stand the bytes of the first i elements; the zeros stored past the last are those of zero elements.
-use mathlib.Core.Path.{◌≡◌, ◌∙◌}
+use mathlib.Core.Path.{◌≡◌}
 use Prim.Native.Nat.{◌+◌}
 use native.Mathlib.Omega.{arith}
 use borrow.Author.Rules.{rules}
@@ -13,12 +13,10 @@ unfolding coord_entries_bytes
 loop-i-init c = search rules
 
 pub loop-i-preserved : goal.loop-i-preserved
-loop-i-preserved c =
-    let v = c.loop-i.invariant in
-    (omega arith, c.store_coord_entry.auto.s ∙ v.1, entries_turn _ _ _ (c.args.at + 1) c.loop-i.i c.args.p (owned_path c.args.p _ c.well_formed.1.1.0) (omega arith) c.requires.1 v.2 c.store_coord_entry.ensures.s_after)
+loop-i-preserved c = entries_turn _ _ _ (c.args.at + 1) c.loop-i.i c.args.p (owned_path c.args.p _ c.well_formed.1.1.0) (omega arith) c.requires.1 c.loop-i.invariant c.store_coord_entry.ensures.s_after
 
 pub returns : goal.returns
 returns c =
     let f = owned_path c.args.p _ c.well_formed.1.1.0 in
     let e : c.loop-i.i ≡ c.args.p.len = omega arith in
-    record { s_after = rw (c.fill_zero.ensures, c.loop-i.invariant.2, e, c.write_u8.ensures) (path_stored c.args.s.now c.args.at c.args.p f c.requires.1); path_fits = f }
+    record { s_after = rw (c.fill_zero.ensures, c.loop-i.invariant, e, c.write_u8.ensures) (path_stored c.args.s.now c.args.at c.args.p f c.requires.1); path_fits = f }

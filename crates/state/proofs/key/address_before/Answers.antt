@@ -9,13 +9,13 @@ use Rattle.state.proofs.KeyLaws.{bytes_differ, bytes_agree}
 use Rattle.state.proofs.key.address_before.Goals as goal
 
 pub returns-then-x-y : goal.returns-then-x-y
-returns-then-x-y c = sym (c.loop-at.invariant.1 ∙ bytes_differ c.args.s.now c.args.a c.args.b c.loop-at.at c.requires.0 c.requires.1 (omega arith) c.if-x-y.true)
+returns-then-x-y c = sym (c.loop-at.invariant ∙ bytes_differ c.args.s.now c.args.a c.args.b c.loop-at.at c.requires.0 c.requires.1 (omega arith) c.if-x-y.true)
 
 pub loop-at-preserved : goal.loop-at-preserved
-loop-at-preserved c = (omega arith, c.loop-at.invariant.1 ∙ bytes_agree c.args.s.now c.args.a c.args.b c.loop-at.at c.requires.0 c.requires.1 (omega arith) c.if-x-y.false)
+loop-at-preserved c = c.loop-at.invariant ∙ bytes_agree c.args.s.now c.args.a c.args.b c.loop-at.at c.requires.0 c.requires.1 (omega arith) c.if-x-y.false
 
 pub returns : goal.returns
 returns c =
     let x = length_cut c.args.a address_size c.args.s.now c.requires.0 in
     let y = length_cut c.args.b address_size c.args.s.now c.requires.1 in
-    sym (c.loop-at.invariant.1 ∙ before_end (cut c.args.a address_size c.args.s.now) (cut c.args.b address_size c.args.s.now) c.loop-at.at (omega arith) (omega arith))
+    sym (c.loop-at.invariant ∙ before_end (cut c.args.a address_size c.args.s.now) (cut c.args.b address_size c.args.s.now) c.loop-at.at (omega arith) (omega arith))
