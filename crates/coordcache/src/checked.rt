@@ -27,6 +27,7 @@ use types::refusal::Refusal;
 use types::reply::Reply;
 
 // 1 if the memory is a sound state, else 0. It is lent by `&`, so that what it is before and after is one value.
+#[tactic(auto, using(crate::proofs::ToldReplies::sound_bit))]
 #[unsafe(no_mangle)]
 pub extern "C" fn coord_cache_is_sound(state: &[u8]) -> u8
     ensures { (result ≡ bit (sound (capacity state.now) (view state.now))) × (state.now ≡ state.now) }
@@ -34,6 +35,7 @@ pub extern "C" fn coord_cache_is_sound(state: &[u8]) -> u8
     state::check::is_sound(state) as u8
 }
 
+#[tactic(auto, unfolding(rules::specs::Answers::refusal_of))]
 #[unsafe(no_mangle)]
 pub extern "C" fn coord_cache_fresh(state: &mut [u8], max: u64, ttl: u64) -> u8
     ensures { (result ≡ refusal_of (lent state.old (Fresh max ttl)).answer) × (state.new ≡ (lent state.old (Fresh max ttl)).memory) }

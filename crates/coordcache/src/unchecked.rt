@@ -1,4 +1,6 @@
 // The calls for a memory that is known to be sound, such as one that only these functions have written since a done fresh.
+#![tactic(auto, using(crate::proofs::ToldReplies::told_call))]
+
 ghost use Rattle.std.specs.Prelude.{◌≡◌, true};
 ghost use Rattle.rules.specs.Sound.{sound};
 ghost use Rattle.rules.specs.Calls.{Insert, InsertWithTtl, InsertFunded, InsertStated, InsertVerified, InsertVerifiedWithPathMtu, Get, GetAndTouch, Remove, Demote, ClearPathMtu, PurgeExpired, Clear, InvalidateViaNode, InvalidateOtherRoots, Stats, NextExpiry};
@@ -169,6 +171,7 @@ pub extern "C" fn coord_cache_get_and_touch_unchecked(
 }
 
 // Found; the bytes of the row that leaves go into `row`.
+#[tactic(auto, using(crate::proofs::ToldLookups::removed_told, crate::proofs::ToldLookups::row_told))]
 #[unsafe(no_mangle)]
 pub extern "C" fn coord_cache_remove_unchecked(
     state: &mut [u8],

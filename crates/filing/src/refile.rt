@@ -15,6 +15,7 @@ use rows::insert::set_path;
 use types::coord::Path;
 
 // Row i's entry is updated.
+#[tactic(auto, using(crate::proofs::RefiledRows::updated))]
 fn update(state: &mut [u8], n: usize, i: usize, path: Path, time: u64, ttl: u64)
     requires { (i < n) × (head_size + n * row_size ≤ length state.old) × (path.len ≤ path_places) }
     ensures { view_rows n state.new ≡ rewrite (update path time ttl) i (view_rows n state.old) }

@@ -14,6 +14,7 @@ use types::node_addr::NodeAddr;
 use types::refusal::Refusal;
 
 // Row i's entry becomes a hint; a parked row is refiled.
+#[tactic(auto, using(crate::proofs::DemotedRows::demoted_in_place, crate::proofs::DemotedRows::demoted_parked, crate::proofs::DemotedRows::hinted_seq))]
 fn demote_at(state: &mut [u8], n: usize, i: usize)
     requires { (i < n) × (head_size + n * row_size ≤ length state.old) × ((view_rows n state.old).seq < largest_number) }
     ensures { view_rows n state.new ≡ demoted_at i (view_rows n state.old) }

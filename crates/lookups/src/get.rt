@@ -36,6 +36,7 @@ pub fn get_place(state: &[u8], key: NodeAddr, time: u64) -> PathPlace
     }
 }
 
+#[tactic(auto, using(crate::proofs::FoundRows::part_from))]
 pub fn get_unchecked<'a>(state: &'a [u8], key: NodeAddr, time: u64) -> &'a [u8]
     requires { sound (capacity state.now) (view state.now) ≡ true }
     ensures part { result.now ≡ got_part key time state.now }

@@ -19,6 +19,7 @@ use types::node_addr::NodeAddr;
 use types::refusal::Refusal;
 
 // Row i is refreshed: last_used and expires_at are set.
+#[tactic(auto, using(crate::proofs::TouchedRows::refreshed, memory::proofs::Fields::same_head))]
 fn refresh_at(state: &mut [u8], n: usize, i: usize, time: u64)
     requires { (i < n) × (head_size + n * row_size ≤ length state.old) }
     ensures { view_rows n state.new ≡ rewrite (refresh time (view_rows n state.old).default_ttl) i (view_rows n state.old) }
@@ -62,6 +63,7 @@ pub fn touch(state: &mut [u8], key: NodeAddr, time: u64) -> Result<Option<u64>, 
 }
 
 // Row i is touched; where its path then stands.
+#[tactic(auto, using(crate::proofs::PathPlaces::placed, crate::proofs::PathPlaces::unplaced))]
 fn touch_row(state: &mut [u8], n: usize, i: usize, time: u64) -> PathPlace
     requires { (i < n) × (head_size + n * row_size ≤ length state.old) × ((view_rows n state.old).stored_weight ≡ main_weight (view_rows n state.old)) }
     ensures { (result ≡ touched_place i time (view_rows n state.old)) × (view_rows (length (touched_at i time (view_rows n state.old)).rows) state.new ≡ touched_at i time (view_rows n state.old)) }
@@ -88,6 +90,7 @@ pub fn touch_place(state: &mut [u8], key: NodeAddr, time: u64) -> PathPlace
 
 // The part is read from the memory after the touch. A parameter that lends a part out has no memory at exit to speak of, so
 // the equation of the memory stands at touch and touch_place.
+#[tactic(auto, using(crate::proofs::FoundRows::part_from))]
 pub fn get_and_touch_unchecked<'a>(state: &'a mut [u8], key: NodeAddr, time: u64) -> &'a [u8]
     requires { sound (capacity state.old) (view state.old) ≡ true }
     ensures { result.now ≡ got_part key time (call state.old (GetAndTouch key time)).memory }

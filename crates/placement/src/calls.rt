@@ -14,6 +14,7 @@ use types::node_addr::NodeAddr;
 use types::placed::{Funding, Placed};
 use types::refusal::Refusal;
 
+#[tactic(auto, using(refusals::proofs::SoundCalls::head_there, crate::proofs::HintCalls::inserts, crate::proofs::HintCalls::shown_ttl))]
 pub fn insert_unchecked(
     state: &mut [u8],
     key: NodeAddr,
@@ -42,6 +43,7 @@ pub fn insert(state: &mut [u8], key: NodeAddr, path: Path, time: u64) -> Result<
     insert_unchecked(state, key, path, time)
 }
 
+#[tactic(auto, using(crate::proofs::HintCalls::inserts_with_ttl))]
 pub fn insert_with_ttl_unchecked(
     state: &mut [u8],
     key: NodeAddr,
@@ -68,6 +70,7 @@ pub fn insert_with_ttl(
     insert_with_ttl_unchecked(state, key, path, time, ttl)
 }
 
+#[tactic(auto, using(refusals::proofs::SoundCalls::head_there, crate::proofs::HintCalls::inserts_funded, crate::proofs::HintCalls::shown_ttl))]
 pub fn insert_funded_unchecked(
     state: &mut [u8],
     key: NodeAddr,
@@ -96,6 +99,7 @@ pub fn insert_funded(
 }
 
 // Stated: the path's first address is the key.
+#[tactic(auto, using(refusals::proofs::SoundCalls::head_there, crate::proofs::HintCalls::inserts_stated, crate::proofs::HintCalls::shown_ttl))]
 pub fn insert_stated_unchecked(
     state: &mut [u8],
     key: NodeAddr,

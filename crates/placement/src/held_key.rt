@@ -40,6 +40,7 @@ fn outcome_of(same: bool) -> HintOutcome
 }
 
 // Updated and refiled at this weight, with nothing added.
+#[tactic(auto, using(room::proofs::RoomToFile::laid_out, filing::proofs::FiledInRoom::rows_there), unfolding(rules::specs::Placement::place_result))]
 fn refile_held(
     state: &mut [u8],
     n: usize,
@@ -124,6 +125,7 @@ fn larger(a: u8, b: u8) -> u8
 }
 
 // 4. In probation.
+#[tactic(auto, using(crate::proofs::HeldKeys::row_there), unfolding(rules::specs::Placement::place_probation))]
 fn place_probation(
     state: &mut [u8],
     n: usize,
@@ -192,6 +194,7 @@ fn grow(
 }
 
 // 5. In main.
+#[tactic(auto, using(crate::proofs::HeldKeys::row_there, filing::proofs::FiledInRoom::rows_there), unfolding(rules::specs::Placement::place_main, rules::specs::Placement::place_result, rules::specs::Placement::rejected))]
 fn place_main(
     state: &mut [u8],
     n: usize,

@@ -24,6 +24,7 @@ use types::node_addr::NodeAddr;
 use types::placed::{Funding, HintOutcome, Placed, Segment};
 
 // What a path weighs, as a row holds it.
+#[tactic(auto, using(crate::proofs::NewKeys::light))]
 pub fn row_weight(path: Path) -> u8
     requires { Writable path }
     ensures { (result ≡ path_weight path) × (result ≤ weight_limit) }
@@ -44,6 +45,7 @@ fn inserted(added: u64, segment: Segment, unfunded: bool, examined: u64) -> Plac
 }
 
 // To probation, with room made there; `before` keys were examined already.
+#[tactic(auto, using(room::proofs::RoomToFile::laid_out, crate::proofs::NewKeys::probation_few, crate::proofs::NewKeys::probation_takes), unfolding(rules::specs::Placement::new_in_probation, rules::specs::Placement::place_result))]
 fn new_in_probation(
     state: &mut [u8],
     n: usize,
@@ -66,6 +68,7 @@ fn new_in_probation(
 }
 
 // Covered, and room was made: to main, at its weight.
+#[tactic(auto, unfolding(rules::specs::Placement::place_result))]
 fn new_in_main(
     state: &mut [u8],
     n: usize,
@@ -87,6 +90,7 @@ fn new_in_main(
 }
 
 // No room: Upto to probation, but not unfunded; Uncharged is Rejected.
+#[tactic(auto, using(filing::proofs::FiledInRoom::rows_there), unfolding(rules::specs::Placement::new_without_room, rules::specs::Placement::place_result, rules::specs::Placement::rejected))]
 fn new_without_room(
     state: &mut [u8],
     n: usize,

@@ -15,6 +15,7 @@ const STAMPS_OF_CALL: u64 = 4096;
 pub const LAST_SEQ: u64 = LARGEST_NUMBER - STAMPS_OF_CALL;
 
 // Why a call that takes a path and draws stamps is refused before any row is read: for its path, else for its stamps.
+#[tactic(auto, using(crate::proofs::WriteRefusals::bad_length, crate::proofs::SoundCalls::shown_seq, crate::proofs::WriteRefusals::stamps_left, crate::proofs::WriteRefusals::stamps_spent), unfolding(rules::specs::Refusals::bad_path))]
 pub fn write_refusal(state: &[u8], path: Path) -> Result<(), Refusal>
     requires { head_size ≤ length state.now }
     ensures { result ≡ write_refusal path (view state.now) }

@@ -13,6 +13,7 @@ use std::cmp::Ordering;
 use types::node_addr::NodeAddr;
 
 // Eight bytes as a number, the first highest. Summed by fours, it compiles to one load and a reversal of its bytes.
+#[tactic(auto, using(crate::proofs::BigEndianLaws::eight_number))]
 fn be_u64(s: &[u8], at: usize) -> u64
     requires { at + 8 ≤ length s.now }
     ensures { NumberOf (cut at 8 s.now) result }
@@ -54,6 +55,7 @@ fn order_to(state: &[u8], at: usize, key: NodeAddr) -> Ordering
 }
 
 // The key of row i of n against an address.
+#[tactic(auto, using(crate::proofs::KeyBytes::key_bytes))]
 fn key_order(state: &[u8], n: usize, i: usize, key: NodeAddr) -> Ordering
     requires { (i < n) × (head_size + n * row_size ≤ length state.now) }
     ensures { result ≡ order_of (row_at i (view_rows n state.now).rows).key key }

@@ -23,6 +23,7 @@ use room::closed_form::{cut_to_bound, has_room, main_len};
 use types::coord::Path;
 
 // Row i's entry becomes Verified.
+#[tactic(auto, using(crate::proofs::Marks::verified_source_lem))]
 fn mark_verified(state: &mut [u8], n: usize, i: usize, time: u64)
     requires { (i < n) × (head_size + n * row_size ≤ length state.old) }
     ensures { view_rows n state.new ≡ rewrite (mark_verified time) i (view_rows n state.old) }
@@ -32,6 +33,7 @@ fn mark_verified(state: &mut [u8], n: usize, i: usize, time: u64)
 }
 
 // Row i's entry gets the MTU, if one is given.
+#[tactic(auto, using(crate::proofs::Marks::no_mtu_lem, crate::proofs::Marks::some_mtu_lem))]
 fn set_given_mtu(state: &mut [u8], n: usize, i: usize, mtu: Option<u16>)
     requires { (i < n) × (head_size + n * row_size ≤ length state.old) }
     ensures { view_rows n state.new ≡ rewrite (given_mtu mtu) i (view_rows n state.old) }
@@ -79,6 +81,7 @@ pub fn has_room_without(state: &[u8], n: usize, i: usize, w: u64) -> bool
 }
 
 // Row i of main, as taking it out and filing it again would leave it.
+#[tactic(auto, using(room::proofs::RoomToFile::laid_out, memory::proofs::Fields::same_head, room::proofs::RoomToFile::shown, crate::proofs::InPlace::stored_few, crate::proofs::InPlace::verified_back))]
 pub fn verify_in_place(
     state: &mut [u8],
     n: usize,
