@@ -5,7 +5,8 @@ use native.Mathlib.Omega.{arith}
 use native.Mathlib.Numerals.{add-one}
 use mathlib.Core.Bool.{Bool, true, false, cond}
 use mir.Val.{bool_byte}
-use mathlib.Core.List.{List}
+use mathlib.Core.List.{List, [], ◌∷◌}
+use Rattle.std.specs.List.{filter}
 use lib.ListN.{length, drop, drop_of_length-le}
 use lib.Seq.{drop-cons}
 use Rattle.rules.specs.Records.{Row}
@@ -34,3 +35,14 @@ one_at_most false = omega arith
 
 pub count_turn : (p : Row → Bool) (i c T : ℕ) (b : Bool) (rs : List Row) → i < length rs → b ≡ p (row_at i rs) → c + total (λ x. cond (p x) 1 0) (drop i rs) ≡ T → c + bool_byte b + total (λ x. cond (p x) 1 0) (drop (i + 1) rs) ≡ T
 count_turn p i c T b rs h e t = omega (arith, total_next (λ x. cond (p x) 1 0) i rs h, as_count b ∙ ap (λ (x : Bool). cond x 1 0) e)
+
+-- ---- rows that pass a test, filtered
+
+pub filter_count : (p : Row → Bool) (rs : List Row) → length (filter p rs) ≡ total (λ r. cond (p r) 1 0) rs
+unfolding total
+filter_count p [] = refl
+filter_count p (r ∷ rs) = here (p r) (filter_count p rs)
+  where
+    here : (b : Bool) → length (filter p rs) ≡ total (λ x. cond (p x) 1 0) rs → length (cond b (r ∷ filter p rs) (filter p rs)) ≡ cond b 1 0 + total (λ x. cond (p x) 1 0) rs
+    here true e = omega (arith, e)
+    here false e = omega (arith, e)
