@@ -14,12 +14,10 @@ use Rattle.types.specs.Addresses.{same_addr}
 use Rattle.types.specs.Paths.{elements, same_entry, same_entries, among, root_of, path_places}
 use Rattle.types.proofs.PathLaws.{entry_at, entries_turn, among_turn, last_element}
 use Rattle.rules.specs.Records.{Row}
-use Rattle.rules.specs.Rows.{row_at}
-use Rattle.rules.specs.Memory.{cut, coord_entry_of, coord_entries_of, path_of, entry_of, row_of, view_rows}
-use Rattle.rules.specs.Layout.{address_size, coord_entry_size, entry_offset, entry_size, head_size, places_in_row, places_offset, row_size}
+use Rattle.rules.specs.Memory.{cut, coord_entry_of, coord_entries_of, path_of, entry_of, row_of}
+use Rattle.rules.specs.Layout.{address_size, coord_entry_size, entry_offset, entry_size, places_in_row, places_offset}
 use Rattle.rules.proofs.MemoryLaws.{elements_of_length}
 use Rattle.raw.proofs.StoreLaws.{cut_cut}
-use Rattle.memory.proofs.Fields.{row_at_lem}
 use Rattle.entries.proofs.Bytes.{element_addr}
 
 pub entries_at : (n k : ℕ) (l : List ℕ) (d : CoordEntry) → k < n → get_or (coord_entries_of n l) k d ≡ coord_entry_of (cut (k * coord_entry_size) coord_entry_size l)

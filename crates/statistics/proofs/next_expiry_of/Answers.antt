@@ -1,34 +1,22 @@
--- soonest is the smallest expiry of the rows from i on, which are never none, as i starts at the last row.
-use mathlib.Core.Path.{◌≡◌, sym, ap, ◌∙◌}
-use mathlib.Core.Option.{some}
-use Prim.Native.Nat.{ℕ, ◌+◌, ◌-◌, min}
-use native.Mathlib.Omega.{arith}
+-- The least of the numbers that the rows give is the smallest expiry, and there is none where there are no rows.
+use mathlib.Core.Path.{sym, ap, ◌∙◌}
+use Rattle.std.proofs.Common.{rules, tests}
+use Rattle.std.proofs.lemmas.Iterator.{YieldsList-from_map}
+use Rattle.std.proofs.lemmas.Iterator.Consumers.{min_from_yields_List, YieldsList-from_first, YieldsList-at}
+use Rattle.std.specs.Option.{option_map}
 use Rattle.rules.specs.Calls.{ExpiryGiven}
-use Rattle.rules.specs.Memory.{view_rows}
 use Rattle.rules.specs.Answers.{expiry_said}
-use Rattle.rules.proofs.Foreign.{view_length}
-use Rattle.statistics.proofs.Means.{expiry_none, expiry_last, expiry_turn}
+use Rattle.statistics.proofs.Means.{expiry, expiry_some, expiry_none}
 use Rattle.statistics.proofs.next_expiry_of.Goals as goal
 
-pub returns-then-n-eq0 : goal.returns-then-n-eq0
+pub returns-in-Some : goal.returns-in-Some
 unfolding expiry_said
-returns-then-n-eq0 c =
-    let e : c.args.n ≡ 0 = c.if-n-eq0.true in
-    rw e (ap ExpiryGiven (sym (expiry_none c.args.state.now)))
+returns-in-Some c =
+    let m = min_from_yields_List c.map.result _ c.min.ensures.ran (YieldsList-from_map _ expiry (YieldsList-at c.map.ensures.source (YieldsList-from_first (λ x. x) (λ s. s) _ c.of.ensures.rows)) c.map.ensures.closure (λ x r q k. search (rules, tests))) in
+    ap ExpiryGiven (expiry_some _ c.in-Some.soonest (ap (option_map (λ y. y)) (sym c.in-Some.is) ∙ m))
 
-pub loop-i-init : goal.loop-i-init
-loop-i-init c = (omega arith, expiry_last (c.args.n - 1) (view_rows c.args.n c.args.state.now).rows (omega (arith, view_length c.args.n c.args.state.now)) ∙ ap some (sym c.expires_at-soonest.ensures))
-
-pub loop-i-preserved : goal.loop-i-preserved
-loop-i-preserved c =
-    let l = c.loop-i in
-    let e : l.i - 1 + 1 ≡ l.i = omega arith in
-    let z = ap (λ (x : ℕ). some (min x l.soonest)) (sym c.expires_at.ensures) ∙ ap some (sym c.lesser-soonest.ensures) in
-    (omega arith, expiry_turn (l.i - 1) l.soonest (view_rows c.args.n c.args.state.now).rows (omega (arith, view_length c.args.n c.args.state.now)) (rw e l.invariant.1) ∙ z)
-
-pub returns : goal.returns
+pub returns-in-None : goal.returns-in-None
 unfolding expiry_said
-returns c =
-    let l = c.loop-i in
-    let e : l.i ≡ 0 = omega arith in
-    ap ExpiryGiven (sym (rw e at l.invariant.1))
+returns-in-None c =
+    let m = min_from_yields_List c.map.result _ c.min.ensures.ran (YieldsList-from_map _ expiry (YieldsList-at c.map.ensures.source (YieldsList-from_first (λ x. x) (λ s. s) _ c.of.ensures.rows)) c.map.ensures.closure (λ x r q k. search (rules, tests))) in
+    ap ExpiryGiven (expiry_none _ (ap (option_map (λ y. y)) (sym c.in-None.is) ∙ m))

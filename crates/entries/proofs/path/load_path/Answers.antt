@@ -1,5 +1,5 @@
 -- The loop has copied the places before `place`.
-use mathlib.Core.Path.{refl, sym, ◌∙◌}
+use mathlib.Core.Path.{sym, ◌∙◌}
 use native.Mathlib.Omega.{arith}
 use lib.ListN.{length-set}
 use Rattle.raw.proofs.CopyLaws.{stored, copied}
