@@ -18,13 +18,14 @@ use memory::row::{Row, Rows};
 use types::answers::{ExpiryAnswer, StatsAnswer};
 use types::stats::CacheStats;
 
+// Each row adds 0 or 1, so that no branch hangs on it.
 fn count_expired(state: &[u8], n: usize, time: u64) -> u64
     requires { head_size + n * row_size ≤ length state.now }
     ensures { result ≡ count_rows (λ x. expired time x.entry) (view_rows n state.now).rows }
 {
     Rows::of(state, n)
-        .filter(|row| is_expired(row, time))
-        .count() as u64
+        .map(|row| is_expired(&row, time) as u64)
+        .sum()
 }
 
 // max(now − created_at, 0)
