@@ -9,6 +9,7 @@ ghost use Rattle.memory.specs.Edits.{OnlyRows};
 ghost use Rattle.retention.specs.Sweep.{sweep_test, kept_rows, kept_down, PathFit, PathsFit};
 
 use memory::codes;
+use memory::row::row_at;
 use types::node_addr::NodeAddr;
 
 // What a sweep looks for.
@@ -25,16 +26,17 @@ fn row_matches(state: &[u8], n: usize, i: usize, kind: u8, time: u64, addr: Node
     requires { (i < n) × (head_size + n * row_size ≤ length state.now) × PathFit (row_at i (view_rows n state.now).rows) }
     ensures { result ≡ sweep_test kind time addr (row_at i (view_rows n state.now).rows) }
 {
+    let row = row_at(state, n, i);
     if kind == EXPIRED {
-        return entries::times::is_expired(state, n, i, time);
+        return entries::times::is_expired(&row, time);
     }
     if kind == VIA_NODE {
-        return entries::path::path_contains(state, n, i, addr);
+        return entries::path::path_contains(&row, addr);
     }
     if kind == OTHER_ROOT {
-        return !entries::path::root_is(state, n, i, addr);
+        return !entries::path::root_is(&row, addr);
     }
-    memory::row::place(state, n, i) == codes::ASIDE
+    row.place() == codes::ASIDE
 }
 
 // Row i goes down to place j.
@@ -86,8 +88,9 @@ fn weight_in_main(state: &[u8], n: usize, i: usize) -> u64
     requires { (i < n) × (head_size + n * row_size ≤ length state.now) }
     ensures { (result ≡ cond (in_main (row_at i (view_rows n state.now).rows)) (row_at i (view_rows n state.now).rows).weight 0) × (result < 256) }
 {
-    if memory::row::place(state, n, i) < codes::PROBATION {
-        raw::numbers::wide(memory::row::weight(state, n, i))
+    let row = row_at(state, n, i);
+    if row.place() < codes::PROBATION {
+        raw::numbers::wide(row.weight())
     } else {
         0
     }
@@ -114,7 +117,8 @@ fn any_expired(state: &[u8], n: usize, time: u64) -> bool
 {
     let mut i = 0;
     while i < n {
-        if entries::times::is_expired(state, n, i, time) {
+        let row = row_at(state, n, i);
+        if entries::times::is_expired(&row, time) {
             return true;
         }
         i += 1;
@@ -129,7 +133,8 @@ fn any_other_root(state: &[u8], n: usize, addr: NodeAddr) -> bool
 {
     let mut i = 0;
     while i < n {
-        if !entries::path::root_is(state, n, i, addr) {
+        let row = row_at(state, n, i);
+        if !entries::path::root_is(&row, addr) {
             return true;
         }
         i += 1;
@@ -144,7 +149,8 @@ fn any_via_node(state: &[u8], n: usize, addr: NodeAddr) -> bool
 {
     let mut i = 0;
     while i < n {
-        if entries::path::path_contains(state, n, i, addr) {
+        let row = row_at(state, n, i);
+        if entries::path::path_contains(&row, addr) {
             return true;
         }
         i += 1;
