@@ -14,6 +14,7 @@ ghost use Rattle.room.specs.Rooms.{chosen_of, room_of, SetAside, Leaves};
 
 use crate::closed_form::{cut_to_bound, has_room};
 use memory::codes::{ASIDE, BY_USE};
+use memory::row::row_at;
 use raw::layout::ADDRESS;
 use stamps::lowest::{Lowest, LowestOfMain, lowest_of_main};
 use stamps::walk::next_victim;
@@ -46,8 +47,9 @@ fn set_place(state: &mut [u8], n: usize, i: usize, place: u8)
     requires { (i < n) × (head_size + n * row_size ≤ length state.old) }
     ensures { view_rows n state.new ≡ with_rows (change_row (at_new_place place) i (view_rows n state.old).rows) (view_rows n state.old) }
 {
-    let first = memory::row::stamp_first(state, n, i);
-    let seq = memory::row::stamp_seq(state, n, i);
+    let row = row_at(state, n, i);
+    let first = row.stamp_first();
+    let seq = row.stamp_seq();
     memory::row::set_stamp(state, n, i, place, first, seq);
 }
 
@@ -79,7 +81,7 @@ fn choose_victims(state: &mut [u8], n: usize, lowest: LowestOfMain, w: u64, time
             }
             Lowest::At(i) => {
                 left -= 1;
-                stored -= raw::numbers::wide(memory::row::weight(state, n, i));
+                stored -= raw::numbers::wide(row_at(state, n, i).weight());
                 set_place(state, n, i, ASIDE);
                 last = i;
                 if has_room(max, left, stored, w) {
@@ -102,7 +104,7 @@ fn put_row_back(state: &mut [u8], n: usize, i: usize)
     requires { (i < n) × (head_size + n * row_size ≤ length state.old) }
     ensures { view_rows n state.new ≡ with_rows (change_row put_back i (view_rows n state.old).rows) (view_rows n state.old) }
 {
-    if memory::row::place(state, n, i) == ASIDE {
+    if row_at(state, n, i).place() == ASIDE {
         set_place(state, n, i, BY_USE);
     }
 }
