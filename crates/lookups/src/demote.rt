@@ -9,6 +9,7 @@ ghost use Rattle.rules.specs.Layout.{head_size, row_size};
 ghost use Rattle.lookups.specs.KeyedSteps.{demoted_at};
 ghost use Rattle.types.specs.Values.{largest_number};
 
+use memory::row::row_at;
 use search::outcome::Search;
 use types::answers::DemoteAnswer;
 use types::node_addr::NodeAddr;
@@ -18,7 +19,7 @@ fn demote_at(state: &mut [u8], n: usize, i: usize)
     requires { (i < n) × (head_size + n * row_size ≤ length state.old) × ((view_rows n state.old).seq < largest_number) }
     ensures { view_rows n state.new ≡ demoted_at i (view_rows n state.old) }
 {
-    let place = memory::row::place(state, n, i);
+    let place = row_at(state, n, i).place();
     memory::row::mark_hint(state, n, i);
     if place == memory::codes::PARKED {
         stamps::row::restamp(state, n, i);

@@ -6,6 +6,7 @@ ghost use Rattle.rules.specs.Answers.{blank_entry, removal_said, entry_given};
 ghost use Rattle.rules.specs.Memory.{capacity, view};
 ghost use Rattle.rules.specs.Lent.{call};
 
+use memory::row::row_at;
 use search::outcome::Search;
 use types::answers::{Removal, RemoveAnswer};
 use types::coord::Path;
@@ -35,7 +36,7 @@ pub fn remove_unchecked(state: &mut [u8], key: NodeAddr) -> RemoveAnswer
     let at = search::keys::search(state, n, key);
     match at {
         Search::At(i) => {
-            let entry = entries::entry::load_entry(state, n, i);
+            let entry = entries::entry::load_entry(&row_at(state, n, i));
             memory::rows::remove_row(state, n, i);
             RemoveAnswer {
                 removal: Removal::Removed,

@@ -18,6 +18,7 @@ use crate::in_place::{has_room_without, verify_in_place};
 use entries::new_entry::{NewEntry, new_entry, updated_entry, verified_entry, with_mtu};
 use filing::in_room::file_in_room;
 use memory::codes::BY_USE;
+use memory::row::row_at;
 use memory::rows::remove_row;
 use room::victims::make_room;
 use search::keys::search;
@@ -34,7 +35,7 @@ fn plain_entry(state: &[u8], n: usize, at: Search, path: Path, time: u64) -> New
 {
     let ttl = memory::head::default_ttl(state);
     match at {
-        Search::At(i) => verified_entry(updated_entry(state, n, i, path, time, ttl), time),
+        Search::At(i) => verified_entry(updated_entry(&row_at(state, n, i), path, time, ttl), time),
         Search::Absent(_) => verified_entry(new_entry(path, time, ttl), time),
     }
 }
