@@ -1,4 +1,5 @@
-// The fields of row i of n. The offsets are raw::layout's (docs/PACKING.md), counted from the row's first byte.
+// A row where it stands: read as a Row, which contracts see as the rules' record, and set by the functions that take the memory, the
+// number of rows and the row's index. The offsets are raw::layout's (docs/PACKING.md), counted from the row's first byte.
 ghost use Rattle.std.specs.Prelude.{◌≡◌, ◌+◌, ◌*◌, ◌≤◌, ◌<◌, length};
 ghost use Rattle.std.proofs.lemmas.List.Edits.{sets};
 ghost use Rattle.std.specs.Iterator.{YieldsFirst, item_count};

@@ -15,10 +15,8 @@ ghost use Rattle.room.specs.Rooms.{chosen_of, room_of, SetAside, Leaves};
 use crate::closed_form::{cut_to_bound, has_room};
 use memory::codes::{ASIDE, BY_USE};
 use memory::row::row_at;
-use raw::layout::ADDRESS;
 use stamps::lowest::{Lowest, LowestOfMain, lowest_of_main};
 use stamps::walk::next_victim;
-use types::node_addr::NodeAddr;
 
 // Whether enough victims were chosen; the main rows that are left and their weight; the row that was set aside last; the keys taken up.
 #[derive(Clone, Copy)]
@@ -126,8 +124,7 @@ fn drop_aside(state: &mut [u8], n: usize) -> usize
     requires { (n ≤ max_rows) × (head_size + n * row_size ≤ length state.old) × PathsFit (view_rows n state.old).rows }
     ensures { (result ≤ n) × (view_rows result state.new ≡ with_only_rows (keep_rows (λ x. not (at_place aside x)) (view_rows n state.old).rows) (view_rows n state.old)) }
 {
-    let none = NodeAddr([0u8; ADDRESS]);
-    retention::rows::retain_rows(state, n, retention::rows::SET_ASIDE, 0, none)
+    retention::rows::retain_rows(state, n, |row| row.place() == ASIDE)
 }
 
 // There is room: no victim is sought.
