@@ -1,4 +1,4 @@
--- The path of row i of n: its places in the memory, and its elements.
+-- The path of a row: its places in the row's bytes, and its elements.
 use mathlib.Core.Path.{◌≡◌, refl, ap, ◌∙◌}
 use mathlib.Core.Bool.{true, false, ◌&&◌, ◌||◌}
 use mathlib.Core.List.{List}
@@ -14,17 +14,11 @@ use Rattle.types.specs.Addresses.{same_addr}
 use Rattle.types.specs.Paths.{elements, same_entry, same_entries, among, root_of, path_places}
 use Rattle.types.proofs.PathLaws.{entry_at, entries_turn, among_turn, last_element}
 use Rattle.rules.specs.Records.{Row}
-use Rattle.rules.specs.Rows.{row_at}
-use Rattle.rules.specs.Memory.{cut, coord_entry_of, coord_entries_of, path_of, entry_of, row_of, view_rows}
-use Rattle.rules.specs.Layout.{address_size, coord_entry_size, entry_offset, entry_size, head_size, places_in_row, places_offset, row_size}
+use Rattle.rules.specs.Memory.{cut, coord_entry_of, coord_entries_of, path_of, entry_of, row_of}
+use Rattle.rules.specs.Layout.{address_size, coord_entry_size, entry_offset, entry_size, places_in_row, places_offset}
 use Rattle.rules.proofs.MemoryLaws.{elements_of_length}
 use Rattle.raw.proofs.StoreLaws.{cut_cut}
-use Rattle.memory.proofs.Fields.{row_at_lem}
 use Rattle.entries.proofs.Bytes.{element_addr}
-
--- the path of row i of n
-abbrev pub row_path : ℕ → ℕ → List ℕ → Path
-row_path n i l = (row_at i (view_rows n l).rows).entry.path
 
 pub entries_at : (n k : ℕ) (l : List ℕ) (d : CoordEntry) → k < n → get_or (coord_entries_of n l) k d ≡ coord_entry_of (cut (k * coord_entry_size) coord_entry_size l)
 unfolding coord_entries_of
@@ -46,54 +40,50 @@ row_place c k d h =
     entries_at path_places k (drop places_offset (cut entry_offset entry_size c)) d h
     ∙ ap coord_entry_of (ap (take coord_entry_size) (drop-drop (k * coord_entry_size) places_offset (cut entry_offset entry_size c)) ∙ cut_cut entry_offset entry_size (places_offset + k * coord_entry_size) coord_entry_size c (omega arith) ∙ ap (λ (j : ℕ). cut j coord_entry_size c) e)
 
-module _ (n i : ℕ) (l : List ℕ) (h : i < n) where
-  pub places_length : length (row_path n i l).entries ≡ path_places
-  places_length = ap (λ (r : Row). length r.entry.path.entries) (row_at_lem n i l h) ∙ row_places (cut (head_size + i * row_size) row_size l)
+module _ (c : List ℕ) (r : Row) (h : row_of c ≡ r) where
+  pub places_length : length r.entry.path.entries ≡ path_places
+  places_length = rw (← h) (row_places c)
 
-  pub place_at : (k : ℕ) (d : CoordEntry) → k < path_places → get_or (row_path n i l).entries k d ≡ coord_entry_of (cut (head_size + i * row_size + places_in_row + k * coord_entry_size) coord_entry_size l)
-  place_at k d g =
-      let e : head_size + i * row_size + (places_in_row + k * coord_entry_size) ≡ head_size + i * row_size + places_in_row + k * coord_entry_size = omega arith in
-      ap (λ (r : Row). get_or r.entry.path.entries k d) (row_at_lem n i l h)
-      ∙ row_place (cut (head_size + i * row_size) row_size l) k d g
-      ∙ ap coord_entry_of (cut_cut (head_size + i * row_size) row_size (places_in_row + k * coord_entry_size) coord_entry_size l (omega arith) ∙ ap (λ (j : ℕ). cut j coord_entry_size l) e)
+  pub place_at : (k : ℕ) (d : CoordEntry) → k < path_places → get_or r.entry.path.entries k d ≡ coord_entry_of (cut (places_in_row + k * coord_entry_size) coord_entry_size c)
+  place_at k d g = rw (← h) (row_place c k d g)
 
-  place_addr : (k : ℕ) → k < path_places → (entry_at (row_path n i l) k).node_addr ≡ record { 0 = cut (head_size + i * row_size + places_in_row + k * coord_entry_size) address_size l }
-  place_addr k g = ap (λ (x : CoordEntry). x.node_addr) (place_at k _ g) ∙ element_addr (head_size + i * row_size + places_in_row + k * coord_entry_size) l
+  place_addr : (k : ℕ) → k < path_places → (entry_at r.entry.path k).node_addr ≡ record { 0 = cut (places_in_row + k * coord_entry_size) address_size c }
+  place_addr k g = ap (λ (x : CoordEntry). x.node_addr) (place_at k _ g) ∙ element_addr (places_in_row + k * coord_entry_size) c
 
-  pub elements_count : length (elements (row_path n i l)) ≡ min (row_path n i l).len path_places
+  pub elements_count : length (elements r.entry.path) ≡ min r.entry.path.len path_places
   unfolding elements
-  elements_count = length-take (row_path n i l).len (row_path n i l).entries ∙ ap (min (row_path n i l).len) places_length
+  elements_count = length-take r.entry.path.len r.entry.path.entries ∙ ap (min r.entry.path.len) places_length
 
-  pub elements_length : (row_path n i l).len ≤ path_places → length (elements (row_path n i l)) ≡ (row_path n i l).len
+  pub elements_length : r.entry.path.len ≤ path_places → length (elements r.entry.path) ≡ r.entry.path.len
   elements_length g = elements_count ∙ omega arith
 
   -- a turn of the comparison with another path
-  pub path_turn : (q : Path) (k : ℕ) → k < path_places → k < length (elements (row_path n i l)) → k < length (elements q)
-      → same_entries (drop k (elements (row_path n i l))) (drop k (elements q)) ≡ (same_entry (coord_entry_of (cut (head_size + i * row_size + places_in_row + k * coord_entry_size) coord_entry_size l)) (entry_at q k) && same_entries (drop (k + 1) (elements (row_path n i l))) (drop (k + 1) (elements q)))
+  pub path_turn : (q : Path) (k : ℕ) → k < path_places → k < length (elements r.entry.path) → k < length (elements q)
+      → same_entries (drop k (elements r.entry.path)) (drop k (elements q)) ≡ (same_entry (coord_entry_of (cut (places_in_row + k * coord_entry_size) coord_entry_size c)) (entry_at q k) && same_entries (drop (k + 1) (elements r.entry.path)) (drop (k + 1) (elements q)))
   path_turn q k g hp hq =
-      entries_turn (row_path n i l) q k hp hq
-      ∙ ap (λ (x : CoordEntry). same_entry x (entry_at q k) && same_entries (drop (k + 1) (elements (row_path n i l))) (drop (k + 1) (elements q))) (place_at k _ g)
+      entries_turn r.entry.path q k hp hq
+      ∙ ap (λ (x : CoordEntry). same_entry x (entry_at q k) && same_entries (drop (k + 1) (elements r.entry.path)) (drop (k + 1) (elements q))) (place_at k _ g)
 
   -- a turn of the search for an address
-  search_turn : (a : NodeAddr) (k : ℕ) → (row_path n i l).len ≤ path_places → k < (row_path n i l).len
-      → among a (drop k (elements (row_path n i l))) ≡ (same_addr a (record { 0 = cut (head_size + i * row_size + places_in_row + k * coord_entry_size) address_size l }) || among a (drop (k + 1) (elements (row_path n i l))))
+  search_turn : (a : NodeAddr) (k : ℕ) → r.entry.path.len ≤ path_places → k < r.entry.path.len
+      → among a (drop k (elements r.entry.path)) ≡ (same_addr a (record { 0 = cut (places_in_row + k * coord_entry_size) address_size c }) || among a (drop (k + 1) (elements r.entry.path)))
   search_turn a k g b =
-      among_turn a (row_path n i l) k (omega (arith, elements_length g))
-      ∙ ap (λ (x : NodeAddr). same_addr a x || among a (drop (k + 1) (elements (row_path n i l)))) (place_addr k (omega arith))
+      among_turn a r.entry.path k (omega (arith, elements_length g))
+      ∙ ap (λ (x : NodeAddr). same_addr a x || among a (drop (k + 1) (elements r.entry.path))) (place_addr k (omega arith))
 
-  pub search_hit : (a : NodeAddr) (k : ℕ) → (row_path n i l).len ≤ path_places → k < (row_path n i l).len
-      → same_addr a (record { 0 = cut (head_size + i * row_size + places_in_row + k * coord_entry_size) address_size l }) ≡ true → among a (drop k (elements (row_path n i l))) ≡ true
+  pub search_hit : (a : NodeAddr) (k : ℕ) → r.entry.path.len ≤ path_places → k < r.entry.path.len
+      → same_addr a (record { 0 = cut (places_in_row + k * coord_entry_size) address_size c }) ≡ true → among a (drop k (elements r.entry.path)) ≡ true
   search_hit a k g b e = search_turn a k g b ∙ rw e
 
-  pub search_miss : (a : NodeAddr) (k : ℕ) → (row_path n i l).len ≤ path_places → k < (row_path n i l).len
-      → same_addr a (record { 0 = cut (head_size + i * row_size + places_in_row + k * coord_entry_size) address_size l }) ≡ false → among a (drop k (elements (row_path n i l))) ≡ among a (drop (k + 1) (elements (row_path n i l)))
+  pub search_miss : (a : NodeAddr) (k : ℕ) → r.entry.path.len ≤ path_places → k < r.entry.path.len
+      → same_addr a (record { 0 = cut (places_in_row + k * coord_entry_size) address_size c }) ≡ false → among a (drop k (elements r.entry.path)) ≡ among a (drop (k + 1) (elements r.entry.path))
   search_miss a k g b e = search_turn a k g b ∙ rw e
 
   -- the root stands in the last place up to the length
-  pub root_place : (row_path n i l).len ≤ path_places → 1 ≤ (row_path n i l).len
-      → root_of (row_path n i l) ≡ record { 0 = cut (head_size + i * row_size + places_in_row + ((row_path n i l).len - 1) * coord_entry_size) address_size l }
+  pub root_place : r.entry.path.len ≤ path_places → 1 ≤ r.entry.path.len
+      → root_of r.entry.path ≡ record { 0 = cut (places_in_row + (r.entry.path.len - 1) * coord_entry_size) address_size c }
   unfolding root_of
   root_place g b =
-      last_element _ (row_path n i l) (λ e. omega (arith, elements_length g))
-      ∙ ap (λ (k : ℕ). (entry_at (row_path n i l) (k - 1)).node_addr) (elements_length g)
-      ∙ place_addr ((row_path n i l).len - 1) (omega arith)
+      last_element _ r.entry.path (λ e. omega (arith, elements_length g))
+      ∙ ap (λ (k : ℕ). (entry_at r.entry.path (k - 1)).node_addr) (elements_length g)
+      ∙ place_addr (r.entry.path.len - 1) (omega arith)

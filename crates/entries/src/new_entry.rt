@@ -1,14 +1,11 @@
 // An entry by value, as the calls make it (the original's entry.rs).
-ghost use Rattle.std.specs.Prelude.{◌≡◌, ◌+◌, ◌*◌, ◌≤◌, ◌<◌, length};
-ghost use Rattle.rules.specs.Rows.{row_at};
+ghost use Rattle.std.specs.Prelude.{◌≡◌};
 ghost use Rattle.rules.specs.Entries.{new_entry, update, mark_verified, set_mtu};
-ghost use Rattle.rules.specs.Memory.{view_rows};
-ghost use Rattle.rules.specs.Layout.{head_size, row_size};
 ghost use Rattle.entries.specs.NewEntries.{entry_from};
 
 use crate::times::{VERIFIED_TTL_MS, add_times};
 use memory::codes::{HINT, NO_MTU, SOME_MTU, VERIFIED};
-use memory::row;
+use memory::row::Row;
 use types::coord::Path;
 
 #[derive(Clone, Copy)]
@@ -39,14 +36,13 @@ pub fn new_entry(path: Path, time: u64, ttl: u64) -> NewEntry
     }
 }
 
-// Row i's entry, updated: created_at and MTU are kept.
-pub fn updated_entry(state: &[u8], n: usize, i: usize, path: Path, time: u64, ttl: u64) -> NewEntry
-    requires { (i < n) × (head_size + n * row_size ≤ length state.now) }
-    ensures { (entry_from result ≡ update path time ttl (row_at i (view_rows n state.now).rows).entry) × (result.path ≡ path) }
+// A row's entry, updated: created_at and MTU are kept.
+pub fn updated_entry(row: &Row<'_>, path: Path, time: u64, ttl: u64) -> NewEntry
+    ensures { (entry_from result ≡ update path time ttl row.now.entry) × (result.path ≡ path) }
 {
-    let created = row::created_at(state, n, i);
-    let mark = row::mtu_mark(state, n, i);
-    let mtu = row::mtu(state, n, i);
+    let created = row.created_at();
+    let mark = row.mtu_mark();
+    let mtu = row.mtu();
     let expires = add_times(time, ttl);
     NewEntry {
         path: path,

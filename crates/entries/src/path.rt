@@ -1,4 +1,4 @@
-// The path of row i of n. Its places stand one behind another.
+// The path of a row. Its places stand one behind another.
 ghost use Rattle.std.specs.Prelude.{◌≡◌, ◌+◌, ◌*◌, ◌≤◌, ◌<◌, length};
 ghost use Rattle.types.specs.Addresses.{same_addr};
 ghost use Rattle.types.specs.Paths.{path_places, elements, same_path, contains, root_of};
@@ -7,7 +7,7 @@ ghost use Rattle.rules.specs.Memory.{view_rows};
 ghost use Rattle.rules.specs.Layout.{coord_entry_size, entry_offset, head_size, places_offset, row_size};
 
 use crate::addr;
-use memory::row;
+use memory::row::{Row, row_at};
 use raw::layout::{ADDRESS, ELEMENT, HEAD, PATH_PLACES, ROW};
 use types::coord::{CoordEntry, PLACES, Path};
 use types::node_addr::NodeAddr;
@@ -19,69 +19,55 @@ pub struct PathPlace {
     pub bytes: usize,
 }
 
-// How many places hold an element. A length past the last place means all of them.
-fn held_elements(state: &[u8], n: usize, i: usize) -> usize
-    requires { (i < n) × (head_size + n * row_size ≤ length state.now) }
-    ensures { (result ≡ length (elements (row_at i (view_rows n state.now).rows).entry.path)) × (result ≤ path_places) }
+// Whether the row's path and this one are the same, element by element, where it stands.
+pub fn path_is(row: &Row<'_>, path: Path) -> bool
+    ensures { result ≡ same_path row.now.entry.path path }
 {
-    let len = row::path_len(state, n, i) as usize;
-    if len < PLACES { len } else { PLACES }
-}
-
-// Whether row i's path and this one are the same, element by element, where it stands.
-pub fn path_is(state: &[u8], n: usize, i: usize, path: Path) -> bool
-    requires { (i < n) × (head_size + n * row_size ≤ length state.now) }
-    ensures { result ≡ same_path (row_at i (view_rows n state.now).rows).entry.path path }
-{
-    let held = held_elements(state, n, i);
+    let bytes = row.bytes();
+    // A length past the last place means all of them.
+    let held = (row.path_len() as usize).min(PLACES);
     if held != path.count() {
         return false;
     }
-    let places = HEAD + i * ROW + PATH_PLACES;
-    let mut k = 0;
-    while k < held {
+    for k in 0..held {
         let e = path.entries[k];
-        if !addr::coord_entry_at(state, places + k * ELEMENT, e) {
+        if !addr::coord_entry_at(bytes, PATH_PLACES + k * ELEMENT, e) {
             return false;
         }
-        k += 1;
     }
     true
 }
 
 // Whether an element up to the length has the address.
-pub fn path_contains(state: &[u8], n: usize, i: usize, a: NodeAddr) -> bool
-    requires { (i < n) × (head_size + n * row_size ≤ length state.now) × ((row_at i (view_rows n state.now).rows).entry.path.len ≤ path_places) }
-    ensures { result ≡ contains a (row_at i (view_rows n state.now).rows).entry.path }
+pub fn path_contains(row: &Row<'_>, a: NodeAddr) -> bool
+    requires { row.now.entry.path.len ≤ path_places }
+    ensures { result ≡ contains a row.now.entry.path }
 {
-    let len = row::path_len(state, n, i) as usize;
-    let places = HEAD + i * ROW + PATH_PLACES;
-    let mut k = 0;
-    while k < len {
-        if addr::addr_at(state, places + k * ELEMENT, a) {
+    let len = row.path_len() as usize;
+    let bytes = row.bytes();
+    for k in 0..len {
+        if addr::addr_at(bytes, PATH_PLACES + k * ELEMENT, a) {
             return true;
         }
-        k += 1;
     }
     false
 }
 
 // Whether the last element up to the length has the address.
-pub fn root_is(state: &[u8], n: usize, i: usize, a: NodeAddr) -> bool
-    requires { (i < n) × (head_size + n * row_size ≤ length state.now) × ((row_at i (view_rows n state.now).rows).entry.path.len ≤ path_places) × (1 ≤ (row_at i (view_rows n state.now).rows).entry.path.len) }
-    ensures { result ≡ same_addr (root_of (row_at i (view_rows n state.now).rows).entry.path) a }
+pub fn root_is(row: &Row<'_>, a: NodeAddr) -> bool
+    requires { (row.now.entry.path.len ≤ path_places) × (1 ≤ row.now.entry.path.len) }
+    ensures { result ≡ same_addr (root_of row.now.entry.path) a }
 {
-    let len = row::path_len(state, n, i) as usize;
-    let places = HEAD + i * ROW + PATH_PLACES;
-    addr::addr_at(state, places + (len - 1) * ELEMENT, a)
+    let len = row.path_len() as usize;
+    addr::addr_at(row.bytes(), PATH_PLACES + (len - 1) * ELEMENT, a)
 }
 
-// Where the elements up to the length stand.
+// Where the elements of row i of n stand, up to the length.
 pub fn path_place(state: &[u8], n: usize, i: usize) -> PathPlace
     requires { (i < n) × (head_size + n * row_size ≤ length state.now) }
     ensures { result ≡ record { at = head_size + i * row_size + (entry_offset + places_offset); bytes = (row_at i (view_rows n state.now).rows).entry.path.len * coord_entry_size } }
 {
-    let len = row::path_len(state, n, i) as usize;
+    let len = row_at(state, n, i).path_len() as usize;
     PathPlace {
         at: HEAD + i * ROW + PATH_PLACES,
         bytes: len * ELEMENT,
@@ -89,22 +75,19 @@ pub fn path_place(state: &[u8], n: usize, i: usize) -> PathPlace
 }
 
 // All places and the length.
-pub(crate) fn load_path(state: &[u8], n: usize, i: usize) -> Path
-    requires { (i < n) × (head_size + n * row_size ≤ length state.now) }
-    ensures { result ≡ (row_at i (view_rows n state.now).rows).entry.path }
+pub(crate) fn load_path(row: &Row<'_>) -> Path
+    ensures { result ≡ row.now.entry.path }
 {
-    let places = HEAD + i * ROW + PATH_PLACES;
+    let bytes = row.bytes();
     let blank = CoordEntry {
         node_addr: NodeAddr([0u8; ADDRESS]),
         sequence: 0,
         timestamp: 0,
     };
     let mut entries = [blank; PLACES];
-    let mut place = 0;
-    while place < PLACES {
-        entries[place] = addr::load_coord_entry(state, places + place * ELEMENT);
-        place += 1;
+    for place in 0..PLACES {
+        entries[place] = addr::load_coord_entry(bytes, PATH_PLACES + place * ELEMENT);
     }
-    let len = row::path_len(state, n, i) as usize;
+    let len = row.path_len() as usize;
     Path { entries, len }
 }

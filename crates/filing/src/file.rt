@@ -14,6 +14,7 @@ ghost use Rattle.entries.specs.NewEntries.{entry_from};
 use entries::new_entry::NewEntry;
 use memory::codes::{BY_USE, PROBATION};
 use memory::head;
+use memory::row::row_at;
 use raw::layout::ROW;
 use rows::exchange::exchange_row;
 use rows::insert::insert_row;
@@ -153,9 +154,9 @@ pub fn file_unchanged(state: &mut [u8], n: usize, key: NodeAddr, row: [u8; ROW])
     let i = index_for(state, n, key);
     insert_saved(state, n, i, row);
     let m = n + 1;
-    let weight = memory::row::weight(state, m, i);
+    let weight = row_at(state, m, i).weight();
     let stored = stored_with(state, weight, BY_USE);
     head::set_stored_weight(state, m, stored);
-    let used = memory::row::last_used(state, m, i);
+    let used = row_at(state, m, i).last_used();
     draw_stamp(state, m, i, BY_USE, used);
 }

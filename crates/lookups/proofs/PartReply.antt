@@ -28,6 +28,7 @@ use Rattle.rules.proofs.SoundTest.{RowOk}
 use Rattle.rules.proofs.Public.{SoundMemory, sound_memory}
 use Rattle.rules.specs.Layout.{coord_entry_size, head_size, places_in_row, row_size}
 use Rattle.refusals.proofs.SoundCalls.{not_refused}
+use Rattle.memory.proofs.Fields.{row_at_lem}
 use Rattle.entries.proofs.PathElements.{elements_length}
 use Rattle.replies.specs.Part.{part_reply}
 
@@ -50,7 +51,7 @@ part_of l n i s h =
     let k : (row_at i (view_rows n l).rows).entry.path.len ≤ path_places = ok.short in
     subst (λ (x : State). PartOf l x i) s.same (record {
       bytes = length_cut (head_size + i * row_size + places_in_row) ((row_at i (view_rows n l).rows).entry.path.len * coord_entry_size) l (omega (arith, s.long, k));
-      count = elements_length n i l h k;
+      count = elements_length _ _ (sym (row_at_lem n i l h)) k;
       long = ok.long;
     })
 

@@ -26,6 +26,7 @@ use Rattle.rules.specs.Memory.{capacity, view_rows, view}
 use Rattle.rules.specs.Lent.{Bytes, lent, call}
 use Rattle.refusals.proofs.RefusalsSaid.{one_said}
 use Rattle.memory.proofs.RowLaws.{view_length}
+use Rattle.memory.proofs.Fields.{row_at_lem}
 use Rattle.entries.proofs.PathElements.{elements_length}
 use Rattle.refusals.proofs.SoundCalls.{Answered, done_rows, not_refused}
 use Rattle.refusals.proofs.SearchedKeys.{Found, inside}
@@ -102,7 +103,7 @@ module _ {k : NodeAddr} {n : ℕ} {l : List ℕ} (time : ℕ) where
   unfolding perform gives touched touched_at
   touched_at_lem {i} f r m b z v =
       let d = touch_done f m (length (touched_at i time (view_rows n l)).rows) b z (rw f.row v.1) in
-      let a = touch_says_lem k time (view_rows n l) i f.row (elements_length n i l (inside f) (path_short f)) in
+      let a = touch_says_lem k time (view_rows n l) i f.row (elements_length _ _ (sym (row_at_lem n i l (inside f))) (path_short f)) in
       told l k time (Ok r) m (ap (λ (x : Option ℕ). Ok x) v.0 ∙ sym a ∙ ap touch_answer d.answer) d.memory
 
   pub touched_absent : Found k n None l → Bytes l → Told l k time (Ok None) l

@@ -9,17 +9,17 @@ ghost use Rattle.rules.specs.Layout.{head_size, row_size};
 ghost use Rattle.lookups.specs.KeyedSteps.{demoted_at};
 ghost use Rattle.types.specs.Values.{largest_number};
 
+use memory::row::row_at;
 use state::check::check_sound;
 use types::node_addr::NodeAddr;
 use types::refusal::Refusal;
 
 // Row i's entry becomes a hint; a parked row is refiled.
-#[tactic(auto, using(crate::proofs::DemotedRows::demoted_in_place, crate::proofs::DemotedRows::demoted_parked, crate::proofs::DemotedRows::hinted_seq))]
 fn demote_at(state: &mut [u8], n: usize, i: usize)
     requires { (i < n) × (head_size + n * row_size ≤ length state.old) × ((view_rows n state.old).seq < largest_number) }
     ensures { view_rows n state.new ≡ demoted_at i (view_rows n state.old) }
 {
-    let place = memory::row::place(state, n, i);
+    let place = row_at(state, n, i).place();
     memory::row::mark_hint(state, n, i);
     if place == memory::codes::PARKED {
         stamps::row::restamp(state, n, i);

@@ -8,6 +8,7 @@ ghost use Rattle.rules.specs.Lent.{call, got_part};
 ghost use Rattle.lookups.specs.Steps.{StandsAt};
 
 use entries::path::PathPlace;
+use memory::row::row_at;
 use state::check::check_sound;
 use types::node_addr::NodeAddr;
 
@@ -27,7 +28,7 @@ pub fn get_place(state: &[u8], key: NodeAddr, time: u64) -> PathPlace
     let at = search::keys::search(state, n, key);
     match at {
         Ok(i) => {
-            if entries::times::is_expired(state, n, i, time) {
+            if entries::times::is_expired(&row_at(state, n, i), time) {
                 return no_path();
             }
             entries::path::path_place(state, n, i)

@@ -6,6 +6,7 @@ ghost use Rattle.rules.specs.Answers.{said};
 ghost use Rattle.rules.specs.Memory.{capacity, view};
 ghost use Rattle.rules.specs.Lent.{call};
 
+use memory::row::row_at;
 use state::check::check_sound;
 use types::entry::CacheEntry;
 use types::node_addr::NodeAddr;
@@ -19,7 +20,7 @@ pub fn remove_unchecked(state: &mut [u8], key: NodeAddr) -> Option<CacheEntry>
     let at = search::keys::search(state, n, key);
     match at {
         Ok(i) => {
-            let entry = entries::entry::load_entry(state, n, i);
+            let entry = entries::entry::load_entry(&row_at(state, n, i));
             memory::rows::remove_row(state, n, i);
             Some(entry)
         }

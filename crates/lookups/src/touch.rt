@@ -14,6 +14,7 @@ ghost use Rattle.lookups.specs.Steps.{touched_at, touch_says, touched_place, Sta
 
 use crate::get::no_path;
 use entries::path::PathPlace;
+use memory::row::row_at;
 use state::check::check_sound;
 use types::node_addr::NodeAddr;
 use types::refusal::Refusal;
@@ -33,11 +34,12 @@ fn touch_at(state: &mut [u8], n: usize, i: usize, time: u64) -> Option<u64>
     requires { (i < n) × (head_size + n * row_size ≤ length state.old) × ((view_rows n state.old).stored_weight ≡ main_weight (view_rows n state.old)) }
     ensures { (result ≡ touch_says i time (view_rows n state.old)) × (view_rows (length (touched_at i time (view_rows n state.old)).rows) state.new ≡ touched_at i time (view_rows n state.old)) }
 {
-    if entries::times::is_expired(state, n, i, time) {
+    let row = row_at(state, n, i);
+    if entries::times::is_expired(&row, time) {
         memory::rows::remove_row(state, n, i);
         return None;
     }
-    let len = raw::numbers::wide(memory::row::path_len(state, n, i));
+    let len = raw::numbers::wide(row.path_len());
     refresh_at(state, n, i, time);
     Some(len)
 }

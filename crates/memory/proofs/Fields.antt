@@ -47,50 +47,52 @@ row_key n i l h =
     let z : head_size + i * row_size + 0 ≡ head_size + i * row_size = omega arith in
     ap (λ (r : Row). r.key.0) (row_at_lem n i l h) ∙ cut_cut (head_size + i * row_size) row_size key_offset address_size l (omega arith) ∙ ap (λ (k : ℕ). cut k address_size l) z
 
--- w bytes at o of row i, as a number
-abbrev number_at : List ℕ → ℕ → ℕ → ℕ → ℕ
-number_at l i o w = le_number (cut (head_size + i * row_size + o) w l)
+-- w bytes at o of a row, as a number
+abbrev number_at : List ℕ → ℕ → ℕ → ℕ
+number_at c o w = le_number (cut o w c)
 
--- every number of row i, where it is read
-pub record Numbers (l : List ℕ) (i : ℕ) (r : Row) : Type 0 where
-  pub path_length : number_at l i entry_offset byte_size ≡ r.entry.path.len
-  pub created_at : number_at l i created_at_in_row number_size ≡ r.entry.created_at
-  pub last_used : number_at l i last_used_in_row number_size ≡ r.entry.last_used
-  pub expires_at : number_at l i expires_at_in_row number_size ≡ r.entry.expires_at
-  pub mtu_mark : number_at l i mtu_mark_in_row byte_size ≡ r.entry.mtu_mark
-  pub mtu : number_at l i mtu_in_row mtu_size ≡ r.entry.mtu
-  pub source : number_at l i source_in_row byte_size ≡ r.entry.source
-  pub verified_until : number_at l i verified_until_in_row number_size ≡ r.entry.verified_until
-  pub place : number_at l i place_offset byte_size ≡ r.place
-  pub stamp_first : number_at l i stamp_first_offset number_size ≡ r.stamp_first
-  pub stamp_seq : number_at l i stamp_seq_offset number_size ≡ r.stamp_seq
-  pub weight : number_at l i weight_offset byte_size ≡ r.weight
+-- every number of a row, where its bytes have it
+pub record Numbers (c : List ℕ) (r : Row) : Type 0 where
+  pub path_length : number_at c entry_offset byte_size ≡ r.entry.path.len
+  pub created_at : number_at c created_at_in_row number_size ≡ r.entry.created_at
+  pub last_used : number_at c last_used_in_row number_size ≡ r.entry.last_used
+  pub expires_at : number_at c expires_at_in_row number_size ≡ r.entry.expires_at
+  pub mtu_mark : number_at c mtu_mark_in_row byte_size ≡ r.entry.mtu_mark
+  pub mtu : number_at c mtu_in_row mtu_size ≡ r.entry.mtu
+  pub source : number_at c source_in_row byte_size ≡ r.entry.source
+  pub verified_until : number_at c verified_until_in_row number_size ≡ r.entry.verified_until
+  pub place : number_at c place_offset byte_size ≡ r.place
+  pub stamp_first : number_at c stamp_first_offset number_size ≡ r.stamp_first
+  pub stamp_seq : number_at c stamp_seq_offset number_size ≡ r.stamp_seq
+  pub weight : number_at c weight_offset byte_size ≡ r.weight
 
-module _ (l : List ℕ) (n i : ℕ) (h : i < n) where
-  of_row : (get : Row → ℕ) (o w : ℕ) → ((c : List ℕ) → get (row_of c) ≡ le_number (cut o w c)) → o + w ≤ row_size → number_at l i o w ≡ get (row_at i (view_rows n l).rows)
-  of_row get o w law k = ap le_number (sym (cut_cut (head_size + i * row_size) row_size o w l k)) ∙ sym (law (cut (head_size + i * row_size) row_size l)) ∙ ap get (sym (row_at_lem n i l h))
+numbers_read : (c : List ℕ) → Numbers c (row_of c)
+unfolding row_of entry_of path_of
+numbers_read c =
+    let of_entry : (o w : ℕ) → o + w ≤ entry_size → number_at c (entry_offset + o) w ≡ le_number (cut o w (cut entry_offset entry_size c)) = λ o w h. ap le_number (sym (cut_cut entry_offset entry_size o w c h)) in
+    record {
+      path_length = of_entry length_offset byte_size (omega arith);
+      created_at = of_entry created_at_offset number_size (omega arith);
+      last_used = of_entry last_used_offset number_size (omega arith);
+      expires_at = of_entry expires_at_offset number_size (omega arith);
+      mtu_mark = of_entry mtu_mark_offset byte_size (omega arith);
+      mtu = of_entry mtu_offset mtu_size (omega arith);
+      source = of_entry source_offset byte_size (omega arith);
+      verified_until = of_entry verified_until_offset number_size (omega arith);
+      place = refl;
+      stamp_first = refl;
+      stamp_seq = refl;
+      weight = refl;
+    }
 
-  of_entry : (get : Entry → ℕ) (o w : ℕ) → ((c : List ℕ) → get (entry_of c) ≡ le_number (cut o w c)) → o + w ≤ entry_size → number_at l i (entry_offset + o) w ≡ get (row_at i (view_rows n l).rows).entry
-  unfolding row_of
-  of_entry get o w law k = of_row (λ r. get r.entry) (entry_offset + o) w (λ c. law (cut entry_offset entry_size c) ∙ ap le_number (cut_cut entry_offset entry_size o w c k)) (omega arith)
+pub numbers : (c : List ℕ) (r : Row) → row_of c ≡ r → Numbers c r
+numbers c r e = rw (← e) (numbers_read c)
 
-  pub field_read : Numbers l i (row_at i (view_rows n l).rows)
-  unfolding row_of entry_of path_of
-  field_read =
-      record {
-        path_length = of_entry (λ e. e.path.len) length_offset byte_size (λ c. refl) (omega arith);
-        created_at = of_entry (λ e. e.created_at) created_at_offset number_size (λ c. refl) (omega arith);
-        last_used = of_entry (λ e. e.last_used) last_used_offset number_size (λ c. refl) (omega arith);
-        expires_at = of_entry (λ e. e.expires_at) expires_at_offset number_size (λ c. refl) (omega arith);
-        mtu_mark = of_entry (λ e. e.mtu_mark) mtu_mark_offset byte_size (λ c. refl) (omega arith);
-        mtu = of_entry (λ e. e.mtu) mtu_offset mtu_size (λ c. refl) (omega arith);
-        source = of_entry (λ e. e.source) source_offset byte_size (λ c. refl) (omega arith);
-        verified_until = of_entry (λ e. e.verified_until) verified_until_offset number_size (λ c. refl) (omega arith);
-        place = of_row (λ r. r.place) place_offset byte_size (λ c. refl) (omega arith);
-        stamp_first = of_row (λ r. r.stamp_first) stamp_first_offset number_size (λ c. refl) (omega arith);
-        stamp_seq = of_row (λ r. r.stamp_seq) stamp_seq_offset number_size (λ c. refl) (omega arith);
-        weight = of_row (λ r. r.weight) weight_offset byte_size (λ c. refl) (omega arith);
-      }
+-- a row is before the others
+pub first_row : (n : ℕ) (l : List ℕ) → 0 < n → rows_of n l ≡ row_of (take row_size l) ∷ rows_of (n - 1) (drop row_size l)
+unfolding rows_of
+first_row zero l h = absurd (not-suc-le-zero h)
+first_row (suc n) l h = let e : suc n - 1 ≡ n = omega arith in rw e
 
 -- ---- stores in a row
 

@@ -5,7 +5,8 @@ use native.Mathlib.Omega.{arith}
 use native.Mathlib.Numerals.{add-one}
 use mathlib.Core.Bool.{Bool, true, false, cond}
 use mir.Val.{bool_byte}
-use mathlib.Core.List.{List}
+use mathlib.Core.List.{List, [], ◌∷◌, map}
+use Rattle.std.specs.List.{fold, sum}
 use lib.ListN.{length, drop, drop_of_length-le}
 use lib.Seq.{drop-cons}
 use Rattle.rules.specs.Records.{Row}
@@ -34,3 +35,18 @@ one_at_most false = omega arith
 
 pub count_turn : (p : Row → Bool) (i c T : ℕ) (b : Bool) (rs : List Row) → i < length rs → b ≡ p (row_at i rs) → c + total (λ x. cond (p x) 1 0) (drop i rs) ≡ T → c + bool_byte b + total (λ x. cond (p x) 1 0) (drop (i + 1) rs) ≡ T
 count_turn p i c T b rs h e t = omega (arith, total_next (λ x. cond (p x) 1 0) i rs h, as_count b ∙ ap (λ (x : Bool). cond x 1 0) e)
+
+-- ---- a 1 for each row that passes a test, summed
+
+sum_from : (p : Row → Bool) (a : ℕ) (rs : List Row) → fold (λ s x. s + x) a (map (λ r. bool_byte (p r)) rs) ≡ a + total (λ r. cond (p r) 1 0) rs
+unfolding total
+sum_from p a [] = omega arith
+sum_from p a (r ∷ rs) = sum_from p (a + bool_byte (p r)) rs ∙ omega (arith, as_count (p r))
+
+pub sum_count : (p : Row → Bool) (rs : List Row) → sum (map (λ r. bool_byte (p r)) rs) ≡ total (λ r. cond (p r) 1 0) rs
+sum_count p rs = sum_from p 0 rs ∙ omega arith
+
+pub count_few : (p : Row → Bool) (rs : List Row) → total (λ r. cond (p r) 1 0) rs ≤ length rs
+unfolding total
+count_few p [] = omega arith
+count_few p (r ∷ rs) = omega (arith, as_count (p r), one_at_most (p r), count_few p rs)

@@ -1,11 +1,13 @@
-// The fields of row i of n. The offsets are raw::layout's (docs/PACKING.md), counted from the row's first byte.
+// A row where it stands: read as a Row, which contracts see as the rules' record, and set by the functions that take the memory, the
+// number of rows and the row's index. The offsets are raw::layout's (docs/PACKING.md), counted from the row's first byte.
 ghost use Rattle.std.specs.Prelude.{◌≡◌, ◌+◌, ◌*◌, ◌≤◌, ◌<◌, length};
 ghost use Rattle.std.proofs.lemmas.List.Edits.{sets};
+ghost use Rattle.std.specs.Iterator.{YieldsFirst, item_count};
 ghost use Rattle.rules.specs.Records.{empty_entry, with_mtu, with_source, with_times};
 ghost use Rattle.rules.specs.Rows.{row_at, change_row, with_rows};
 ghost use Rattle.rules.specs.Entries.{mark_hint, drop_mtu};
 ghost use Rattle.rules.specs.Lookups.{rewrite};
-ghost use Rattle.rules.specs.Memory.{source_bytes, view_rows};
+ghost use Rattle.rules.specs.Memory.{row_of, source_bytes, view_rows};
 ghost use Rattle.rules.specs.Lent.{Small};
 ghost use Rattle.rules.specs.Layout.{byte_size, head_size, number_size, row_size, source_in_row};
 ghost use Rattle.memory.specs.Edits.{stamped_as, with_weight};
@@ -13,89 +15,170 @@ ghost use Rattle.memory.specs.Edits.{stamped_as, with_weight};
 use crate::codes::{HINT, NO_MTU};
 use raw::layout;
 use raw::layout::{HEAD, ROW};
+use std::marker::Model;
 
-pub fn path_len(state: &[u8], n: usize, i: usize) -> u8
-    requires { (i < n) × (head_size + n * row_size ≤ length state.now) }
-    ensures { result ≡ (row_at i (view_rows n state.now).rows).entry.path.len }
-{
-    raw::numbers::read_u8(state, HEAD + i * ROW + layout::ENTRY)
+// A row, read where it stands.
+#[derive(Drop)]
+pub struct Row<'a> {
+    bytes: &'a [u8],
 }
 
-pub fn created_at(state: &[u8], n: usize, i: usize) -> u64
-    requires { (i < n) × (head_size + n * row_size ≤ length state.now) }
-    ensures { result ≡ (row_at i (view_rows n state.now).rows).entry.created_at }
-{
-    raw::numbers::read_u64(state, HEAD + i * ROW + layout::CREATED_AT)
+impl<'a> Model for Row<'a> {
+    ghost use Rattle.std.specs.Prelude.{◌≡◌, length};
+    ghost use Rattle.rules.specs.Records.{Row as RowSeen};
+    ghost use Rattle.rules.specs.Memory.{row_of};
+    ghost use Rattle.rules.specs.Layout.{row_size};
+
+    ghost Value = { RowSeen };
+
+    ghost view = { λ r. row_of r.bytes.now };
+
+    ghost invariant = { λ r. length r.bytes.now ≡ row_size };
 }
 
-pub fn last_used(state: &[u8], n: usize, i: usize) -> u64
+// Row i of n.
+pub fn row_at(state: &[u8], n: usize, i: usize) -> Row<'_>
     requires { (i < n) × (head_size + n * row_size ≤ length state.now) }
-    ensures { result ≡ (row_at i (view_rows n state.now).rows).entry.last_used }
+    ensures { result ≡ row_at i (view_rows n state.now).rows }
 {
-    raw::numbers::read_u64(state, HEAD + i * ROW + layout::LAST_USED)
+    let at = HEAD + i * ROW;
+    Row {
+        bytes: &state[at..at + ROW],
+    }
 }
 
-pub fn expires_at(state: &[u8], n: usize, i: usize) -> u64
-    requires { (i < n) × (head_size + n * row_size ≤ length state.now) }
-    ensures { result ≡ (row_at i (view_rows n state.now).rows).entry.expires_at }
-{
-    raw::numbers::read_u64(state, HEAD + i * ROW + layout::EXPIRES_AT)
+impl<'a> Row<'a> {
+    // The row's bytes, for what is compared or copied where it stands.
+    pub fn bytes(&self) -> &'a [u8]
+        ensures row { row_of result.now ≡ self.now }
+        ensures size { length result.now ≡ row_size }
+    {
+        self.bytes
+    }
+
+    pub fn path_len(&self) -> u8
+        ensures { result ≡ self.now.entry.path.len }
+    {
+        raw::numbers::read_u8(self.bytes, layout::ENTRY)
+    }
+
+    pub fn created_at(&self) -> u64
+        ensures { result ≡ self.now.entry.created_at }
+    {
+        raw::numbers::read_u64(self.bytes, layout::CREATED_AT)
+    }
+
+    pub fn last_used(&self) -> u64
+        ensures { result ≡ self.now.entry.last_used }
+    {
+        raw::numbers::read_u64(self.bytes, layout::LAST_USED)
+    }
+
+    pub fn expires_at(&self) -> u64
+        ensures { result ≡ self.now.entry.expires_at }
+    {
+        raw::numbers::read_u64(self.bytes, layout::EXPIRES_AT)
+    }
+
+    pub fn mtu_mark(&self) -> u8
+        ensures { result ≡ self.now.entry.mtu_mark }
+    {
+        raw::numbers::read_u8(self.bytes, layout::MTU_MARK)
+    }
+
+    pub fn mtu(&self) -> u16
+        ensures { result ≡ self.now.entry.mtu }
+    {
+        raw::numbers::read_u16(self.bytes, layout::MTU)
+    }
+
+    pub fn source(&self) -> u8
+        ensures { result ≡ self.now.entry.source }
+    {
+        raw::numbers::read_u8(self.bytes, layout::SOURCE)
+    }
+
+    pub fn verified_until(&self) -> u64
+        ensures { result ≡ self.now.entry.verified_until }
+    {
+        raw::numbers::read_u64(self.bytes, layout::VERIFIED_UNTIL)
+    }
+
+    pub fn place(&self) -> u8
+        ensures { result ≡ self.now.place }
+    {
+        raw::numbers::read_u8(self.bytes, layout::PLACE)
+    }
+
+    pub fn stamp_first(&self) -> u64
+        ensures { result ≡ self.now.stamp_first }
+    {
+        raw::numbers::read_u64(self.bytes, layout::STAMP_FIRST)
+    }
+
+    pub fn stamp_seq(&self) -> u64
+        ensures { result ≡ self.now.stamp_seq }
+    {
+        raw::numbers::read_u64(self.bytes, layout::STAMP_SEQ)
+    }
+
+    pub fn weight(&self) -> u8
+        ensures { result ≡ self.now.weight }
+    {
+        raw::numbers::read_u8(self.bytes, layout::WEIGHT)
+    }
 }
 
-pub fn mtu_mark(state: &[u8], n: usize, i: usize) -> u8
-    requires { (i < n) × (head_size + n * row_size ≤ length state.now) }
-    ensures { result ≡ (row_at i (view_rows n state.now).rows).entry.mtu_mark }
-{
-    raw::numbers::read_u8(state, HEAD + i * ROW + layout::MTU_MARK)
+// The rows that are still to come, first to last.
+#[derive(Drop)]
+pub struct Rows<'a> {
+    bytes: &'a [u8],
+    left: usize,
 }
 
-pub fn mtu(state: &[u8], n: usize, i: usize) -> u16
-    requires { (i < n) × (head_size + n * row_size ≤ length state.now) }
-    ensures { result ≡ (row_at i (view_rows n state.now).rows).entry.mtu }
-{
-    raw::numbers::read_u16(state, HEAD + i * ROW + layout::MTU)
+impl<'a> Model for Rows<'a> {
+    ghost use Rattle.std.specs.Prelude.{◌*◌, ◌≤◌, List, length};
+    ghost use Rattle.rules.specs.Records.{Row as RowSeen};
+    ghost use Rattle.rules.specs.Memory.{rows_of};
+    ghost use Rattle.rules.specs.Layout.{row_size};
+
+    ghost Value = { List RowSeen };
+
+    ghost view = { λ r. rows_of r.left r.bytes.now };
+
+    ghost invariant = { λ r. r.left * row_size ≤ length r.bytes.now };
 }
 
-pub fn source(state: &[u8], n: usize, i: usize) -> u8
-    requires { (i < n) × (head_size + n * row_size ≤ length state.now) }
-    ensures { result ≡ (row_at i (view_rows n state.now).rows).entry.source }
-{
-    raw::numbers::read_u8(state, HEAD + i * ROW + layout::SOURCE)
+impl<'a> Rows<'a> {
+    // The first n rows of a memory.
+    pub fn of(state: &'a [u8], n: usize) -> Rows<'a>
+        requires { head_size + n * row_size ≤ length state.now }
+        ensures rows { result ≡ (view_rows n state.now).rows }
+        ensures len { length result ≡ n }
+    {
+        Rows {
+            bytes: &state[HEAD..],
+            left: n,
+        }
+    }
 }
 
-pub fn verified_until(state: &[u8], n: usize, i: usize) -> u64
-    requires { (i < n) × (head_size + n * row_size ≤ length state.now) }
-    ensures { result ≡ (row_at i (view_rows n state.now).rows).entry.verified_until }
-{
-    raw::numbers::read_u64(state, HEAD + i * ROW + layout::VERIFIED_UNTIL)
-}
+impl<'a> Iterator for Rows<'a> {
+    type Item = Row<'a>;
 
-pub fn place(state: &[u8], n: usize, i: usize) -> u8
-    requires { (i < n) × (head_size + n * row_size ≤ length state.now) }
-    ensures { result ≡ (row_at i (view_rows n state.now).rows).place }
-{
-    raw::numbers::read_u8(state, HEAD + i * ROW + layout::PLACE)
-}
+    ghost next_gives = { YieldsFirst (λ s. s) };
 
-pub fn stamp_first(state: &[u8], n: usize, i: usize) -> u64
-    requires { (i < n) × (head_size + n * row_size ≤ length state.now) }
-    ensures { result ≡ (row_at i (view_rows n state.now).rows).stamp_first }
-{
-    raw::numbers::read_u64(state, HEAD + i * ROW + layout::STAMP_FIRST)
-}
+    ghost remaining = { item_count (λ s. s) };
 
-pub fn stamp_seq(state: &[u8], n: usize, i: usize) -> u64
-    requires { (i < n) × (head_size + n * row_size ≤ length state.now) }
-    ensures { result ≡ (row_at i (view_rows n state.now).rows).stamp_seq }
-{
-    raw::numbers::read_u64(state, HEAD + i * ROW + layout::STAMP_SEQ)
-}
-
-pub fn weight(state: &[u8], n: usize, i: usize) -> u8
-    requires { (i < n) × (head_size + n * row_size ≤ length state.now) }
-    ensures { result ≡ (row_at i (view_rows n state.now).rows).weight }
-{
-    raw::numbers::read_u8(state, HEAD + i * ROW + layout::WEIGHT)
+    fn next(&mut self) -> Option<Row<'a>> {
+        if self.left == 0 {
+            return None;
+        }
+        let (bytes, others) = self.bytes.split_at(ROW);
+        self.bytes = others;
+        self.left -= 1;
+        Some(Row { bytes })
+    }
 }
 
 // Source and verified_until of the row whose first byte is at `at`.

@@ -36,8 +36,9 @@ fn weight_without(state: &[u8], n: usize, i: usize) -> u64
     ensures { result ≡ weigh_rows in_main (without_row i (view_rows n state.now).rows) }
 {
     let stored = head::stored_weight(state);
-    if row::place(state, n, i) < PROBATION {
-        stored - row::weight(state, n, i) as u64
+    let leaving = row::row_at(state, n, i);
+    if leaving.place() < PROBATION {
+        stored - leaving.weight() as u64
     } else {
         stored
     }

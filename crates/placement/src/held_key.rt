@@ -19,7 +19,7 @@ use filing::file::file_unchanged;
 use filing::in_room::file_in_room;
 use filing::refile::update_in_place;
 use memory::codes::{BY_USE, PROBATION};
-use memory::row;
+use memory::row::row_at;
 use memory::rows::remove_row;
 use raw::numbers::wide;
 use room::victims::make_room;
@@ -109,7 +109,7 @@ fn promote(
     requires { HeldHint key path outcome false n i state.old }
     ensures { Placing (promote key path time ttl weight i (view_rows n state.old)) result state.new }
 {
-    let e = updated_entry(state, n, i, path, time, ttl);
+    let e = updated_entry(&row_at(state, n, i), path, time, ttl);
     remove_row(state, n, i);
     let room = make_room(state, n - 1, wide(weight), time);
     let victim = room.victim;
@@ -125,7 +125,6 @@ fn larger(a: u8, b: u8) -> u8
 }
 
 // 4. In probation.
-#[tactic(auto, using(crate::proofs::HeldKeys::row_there), unfolding(rules::specs::Placement::place_probation))]
 fn place_probation(
     state: &mut [u8],
     n: usize,
@@ -140,7 +139,7 @@ fn place_probation(
     requires { HeldHint key path outcome false n i state.old }
     ensures { Placing (place_probation key path time ttl funding i (view_rows n state.old)) result state.new }
 {
-    let w = larger(row_weight(path), row::weight(state, n, i));
+    let w = larger(row_weight(path), row_at(state, n, i).weight());
     if !funding.covers(wide(w)) {
         return refile_held(state, n, i, path, time, ttl, w, Segment::Probation, outcome);
     }
@@ -164,7 +163,7 @@ fn grow(
     requires { HeldHint key path outcome true n i state.old × (added ≡ weight - (row_in n i state.old).weight) }
     ensures { Placing (grow key path time ttl stated weight i (view_rows n state.old)) result state.new }
 {
-    let e = updated_entry(state, n, i, path, time, ttl);
+    let e = updated_entry(&row_at(state, n, i), path, time, ttl);
     let saved = save_row(state, n, i);
     remove_row(state, n, i);
     let w = wide(weight);
@@ -194,7 +193,6 @@ fn grow(
 }
 
 // 5. In main.
-#[tactic(auto, using(crate::proofs::HeldKeys::row_there, filing::proofs::FiledInRoom::rows_there), unfolding(rules::specs::Placement::place_main, rules::specs::Placement::place_result, rules::specs::Placement::rejected))]
 fn place_main(
     state: &mut [u8],
     n: usize,
@@ -211,7 +209,7 @@ fn place_main(
     ensures { Placing (place_main key path time ttl funding stated i (view_rows n state.old)) result state.new }
 {
     let w = row_weight(path);
-    let old = row::weight(state, n, i);
+    let old = row_at(state, n, i).weight();
     if w <= old {
         return refile_held(state, n, i, path, time, ttl, old, Segment::Main, outcome);
     }
@@ -238,16 +236,17 @@ pub fn place_held(
     requires { Holds key n i state.old × Writable path × ((view_rows n state.old).seq ≤ last_seq) }
     ensures { Placing (place_held key path time ttl funding stated i (view_rows n state.old)) result state.new }
 {
-    let verified = is_verified(state, n, i, time);
+    let row = row_at(state, n, i);
+    let verified = is_verified(&row, time);
     if verified & !stated {
         return reject(false, 0);
     }
-    let same = path_is(state, n, i, path);
+    let same = path_is(&row, path);
     if verified & same {
         return reject(false, 0);
     }
     let outcome = outcome_of(same);
-    if row::place(state, n, i) < PROBATION {
+    if row.place() < PROBATION {
         return place_main(state, n, i, key, path, time, ttl, funding, stated, outcome);
     }
     place_probation(state, n, i, key, path, time, ttl, funding, outcome)

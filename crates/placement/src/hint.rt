@@ -9,6 +9,7 @@ ghost use Rattle.placement.specs.Hints.{Places, Stands};
 
 use crate::held_key::place_held;
 use crate::new_key::place_new;
+use memory::row::row_at;
 use memory::rows::remove_row;
 use refusals::write::write_refusal;
 use types::coord::Path;
@@ -31,7 +32,7 @@ fn remove_expired(state: &mut [u8], n: usize, key: NodeAddr, time: u64) -> KeyRo
     let at = search::keys::search(state, n, key);
     match at {
         Ok(i) => {
-            if entries::times::is_expired(state, n, i, time) {
+            if entries::times::is_expired(&row_at(state, n, i), time) {
                 remove_row(state, n, i);
                 return KeyRow::New(n - 1);
             }

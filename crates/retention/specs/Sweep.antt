@@ -1,23 +1,17 @@
--- What a sweep looks for, and what it keeps.
-use Rattle.std.specs.Prelude.{ℕ, ◌+◌, ◌*◌, ◌≤◌, List, Bool, cond, not, ltb, eqb}
+-- What a sweep keeps.
+use Rattle.std.specs.Prelude.{ℕ, ◌≡◌, ◌+◌, ◌*◌, ◌≤◌, List, length, Bool, cond, not, ltb}
 use Rattle.std.proofs.lemmas.List.Edits.{sets}
-use Rattle.types.specs.declared.node_addr.NodeAddr.{NodeAddr}
-use Rattle.types.specs.Addresses.{same_addr}
-use Rattle.types.specs.Paths.{path_places, contains, root_of}
+use Rattle.types.specs.Paths.{path_places}
 use Rattle.rules.specs.Cases.{Every}
-use Rattle.rules.specs.Records.{Row, aside}
-use Rattle.rules.specs.Rows.{at_place, keep_rows}
-use Rattle.rules.specs.Entries.{expired}
-use Rattle.rules.specs.Memory.{cut}
+use Rattle.rules.specs.Records.{Row}
+use Rattle.rules.specs.Rows.{keep_rows, with_only_rows}
+use Rattle.rules.specs.Memory.{cut, view_rows}
 use Rattle.rules.specs.Layout.{head_size, row_size}
+use Rattle.memory.specs.Edits.{OnlyRows}
 
--- 0 an expired entry, 1 a path through the address, 2 a path to another root, another number a row that was set aside
-unfoldable pub sweep_test : ℕ → ℕ → NodeAddr → Row → Bool
-sweep_test kind now a r = cond (eqb kind 0) (expired now r.entry) (cond (eqb kind 1) (contains a r.entry.path) (cond (eqb kind 2) (not (same_addr (root_of r.entry.path) a)) (at_place aside r)))
-
--- the rows that stay
-unfoldable pub kept_rows : ℕ → ℕ → NodeAddr → List Row → List Row
-kept_rows kind now a rs = keep_rows (λ r. not (sweep_test kind now a r)) rs
+-- the rows that stay, where those that pass the test leave
+unfoldable pub kept_rows : (Row → Bool) → List Row → List Row
+kept_rows test rs = keep_rows (λ r. not (test r)) rs
 
 -- row i copied to place j before it
 unfoldable pub kept_down : ℕ → ℕ → List ℕ → List ℕ
@@ -30,3 +24,19 @@ pub record PathFit (r : Row) : Type 0 where
 
 abbrev pub PathsFit : List Row → Type 0
 PathsFit rs = Every PathFit rs
+
+-- where R says b of a row whose path fits, so does the test
+abbrev pub Tests : (Row → Bool → Type 0) → (Row → Bool) → Type 0
+Tests R test = (r : Row) (b : Bool) → PathFit r → R r b → b ≡ test r
+
+-- of n rows those that stay, by R, are the first j
+pub record OnlyKept (R : Row → Bool → Type 0) (n j : ℕ) (l m : List ℕ) : Type 0 where
+  pub few : j ≤ n
+  pub rows : List Row
+  pub counted : j ≡ length rows
+  pub only : OnlyRows n j rows l m
+  pub tested : (test : Row → Bool) → Tests R test → kept_rows test (view_rows n l).rows ≡ rows
+
+-- of n rows those that do not pass the test are the only ones now, and j of them
+abbrev pub Swept : (Row → Bool) → ℕ → ℕ → List ℕ → List ℕ → Type 0
+Swept test n j l m = (j ≡ length (kept_rows test (view_rows n l).rows)) × (view_rows j m ≡ with_only_rows (kept_rows test (view_rows n l).rows) (view_rows n l))

@@ -1,41 +1,15 @@
-// One sweep: the rows that match leave, and the others are kept together in their order.
-ghost use Rattle.std.specs.Prelude.{◌≡◌, cond, false, ℕ, ◌+◌, ◌*◌, ◌-◌, ◌≤◌, ◌<◌, length};
-ghost use Rattle.types.specs.declared.node_addr.NodeAddr.{NodeAddr as Address};
-ghost use Rattle.rules.specs.Rows.{row_at, in_main, weigh_rows, main_weight, with_only_rows};
+// One sweep: the rows that leave, and the others kept together in their order. Which rows leave a closure says, as the original's
+// retain_entries has it; what it captures is then part of the loop, which stays small.
+ghost use Rattle.std.specs.Prelude.{◌≡◌, Bool, cond, false, ◌+◌, ◌*◌, ◌≤◌, ◌<◌, length};
+ghost use Rattle.std.specs.Fn.{FnReturnsAt};
+ghost use Rattle.rules.specs.Rows.{in_main, weigh_rows, main_weight};
 ghost use Rattle.rules.specs.Memory.{view_rows};
 ghost use Rattle.rules.specs.Layout.{head_size, row_size};
-ghost use Rattle.rules.specs.Records.{max_rows};
-ghost use Rattle.memory.specs.Edits.{OnlyRows};
-ghost use Rattle.retention.specs.Sweep.{sweep_test, kept_rows, kept_down, PathFit, PathsFit};
+ghost use Rattle.rules.specs.Records.{Row as RowSeen, max_rows};
+ghost use Rattle.retention.specs.Sweep.{kept_rows, kept_down, OnlyKept, PathFit, PathsFit, Swept, Tests};
 
 use memory::codes;
-use types::node_addr::NodeAddr;
-
-// What a sweep looks for.
-pub const EXPIRED: u8 = 0;
-
-pub const VIA_NODE: u8 = 1;
-
-pub const OTHER_ROOT: u8 = 2;
-
-pub const SET_ASIDE: u8 = 3;
-
-// Whether row i matches.
-fn row_matches(state: &[u8], n: usize, i: usize, kind: u8, time: u64, addr: NodeAddr) -> bool
-    requires { (i < n) × (head_size + n * row_size ≤ length state.now) × PathFit (row_at i (view_rows n state.now).rows) }
-    ensures { result ≡ sweep_test kind time addr (row_at i (view_rows n state.now).rows) }
-{
-    if kind == EXPIRED {
-        return entries::times::is_expired(state, n, i, time);
-    }
-    if kind == VIA_NODE {
-        return entries::path::path_contains(state, n, i, addr);
-    }
-    if kind == OTHER_ROOT {
-        return !entries::path::root_is(state, n, i, addr);
-    }
-    memory::row::place(state, n, i) == codes::ASIDE
-}
+use memory::row::{Row, Rows, row_at};
 
 // Row i goes down to place j.
 fn keep_row(state: &mut [u8], n: usize, i: usize, j: usize)
@@ -47,47 +21,29 @@ fn keep_row(state: &mut [u8], n: usize, i: usize, j: usize)
     }
 }
 
-// Row i leaves, or goes down to place j; the place of the next row.
-fn pass_row(
-    state: &mut [u8],
-    n: usize,
-    i: usize,
-    j: usize,
-    kind: u8,
-    time: u64,
-    addr: NodeAddr,
-) -> usize
-    requires { (j ≤ i) × (i < n) × (head_size + n * row_size ≤ length state.old) × PathFit (row_at i (view_rows n state.old).rows) }
-    ensures { (result ≡ cond (sweep_test kind time addr (row_at i (view_rows n state.old).rows)) j (j + 1)) × (state.new ≡ cond (sweep_test kind time addr (row_at i (view_rows n state.old).rows)) state.old (kept_down i j state.old)) }
+// The rows that do not leave come first, in their order; how many they are.
+fn keep_rows<F: Fn(&Row<'_>) -> bool>(state: &mut [u8], n: usize, leaves: &F) -> usize
+    requires rows { (head_size + n * row_size ≤ length state.old) × PathsFit (view_rows n state.old).rows }
+    requires callable { (row : _) → PathFit row.now → F.pre leaves.now row }
+    ensures { OnlyKept (FnReturnsAt F.Fn leaves.now) n result state.old state.new }
 {
-    if row_matches(state, n, i, kind, time, addr) {
-        return j;
-    }
-    keep_row(state, n, i, j);
-    j + 1
-}
-
-// The rows that do not match come first, in their order; how many they are.
-fn keep_rows(state: &mut [u8], n: usize, kind: u8, time: u64, addr: NodeAddr) -> usize
-    requires { (head_size + n * row_size ≤ length state.old) × PathsFit (view_rows n state.old).rows }
-    ensures { (result ≤ n) × (result ≡ length (kept_rows kind time addr (view_rows n state.old).rows)) × OnlyRows n result (kept_rows kind time addr (view_rows n state.old).rows) state.old state.new }
-{
-    let mut i = 0;
     let mut j = 0;
-    while i < n {
-        j = pass_row(state, n, i, j, kind, time, addr);
-        i += 1;
+    for i in 0..n {
+        if leaves(&row_at(state, n, i)) {
+            continue;
+        }
+        keep_row(state, n, i, j);
+        j += 1;
     }
     j
 }
 
-// What row i adds to the stored weight.
-fn weight_in_main(state: &[u8], n: usize, i: usize) -> u64
-    requires { (i < n) × (head_size + n * row_size ≤ length state.now) }
-    ensures { (result ≡ cond (in_main (row_at i (view_rows n state.now).rows)) (row_at i (view_rows n state.now).rows).weight 0) × (result < 256) }
+// What a row adds to the stored weight.
+fn weight_in_main(row: &Row<'_>) -> u64
+    ensures { (result ≡ cond (in_main row.now) row.now.weight 0) × (result < 256) }
 {
-    if memory::row::place(state, n, i) < codes::PROBATION {
-        raw::numbers::wide(memory::row::weight(state, n, i))
+    if row.place() < codes::PROBATION {
+        raw::numbers::wide(row.weight())
     } else {
         0
     }
@@ -99,94 +55,48 @@ fn weight_of(state: &[u8], n: usize) -> u64
     ensures { result ≡ weigh_rows in_main (view_rows n state.now).rows }
 {
     let mut sum: u64 = 0;
-    let mut i = 0;
-    while i < n {
-        sum += weight_in_main(state, n, i);
-        i += 1;
+    for row in Rows::of(state, n) {
+        sum += weight_in_main(&row);
     }
     sum
 }
 
-// Whether a row is expired. It stands apart from the others, so that its loop stays small.
-fn any_expired(state: &[u8], n: usize, time: u64) -> bool
-    requires { head_size + n * row_size ≤ length state.now }
-    ensures { result ≡ false → (a : Address) → kept_rows 0 time a (view_rows n state.now).rows ≡ (view_rows n state.now).rows }
+// Whether a row leaves.
+fn any_leaves<F: Fn(&Row<'_>) -> bool>(state: &[u8], n: usize, leaves: &F) -> bool
+    requires rows { (head_size + n * row_size ≤ length state.now) × PathsFit (view_rows n state.now).rows }
+    requires callable { (row : _) → PathFit row.now → F.pre leaves.now row }
+    ensures { result ≡ false → (test : RowSeen → Bool) → Tests (FnReturnsAt F.Fn leaves.now) test → kept_rows test (view_rows n state.now).rows ≡ (view_rows n state.now).rows }
 {
-    let mut i = 0;
-    while i < n {
-        if entries::times::is_expired(state, n, i, time) {
+    for row in Rows::of(state, n) {
+        if leaves(&row) {
             return true;
         }
-        i += 1;
     }
     false
-}
-
-// Whether a path has another root; apart for the same reason.
-fn any_other_root(state: &[u8], n: usize, addr: NodeAddr) -> bool
-    requires { (head_size + n * row_size ≤ length state.now) × PathsFit (view_rows n state.now).rows }
-    ensures { result ≡ false → (t : ℕ) → kept_rows 2 t addr (view_rows n state.now).rows ≡ (view_rows n state.now).rows }
-{
-    let mut i = 0;
-    while i < n {
-        if !entries::path::root_is(state, n, i, addr) {
-            return true;
-        }
-        i += 1;
-    }
-    false
-}
-
-// Whether a path contains the address.
-fn any_via_node(state: &[u8], n: usize, addr: NodeAddr) -> bool
-    requires { (head_size + n * row_size ≤ length state.now) × PathsFit (view_rows n state.now).rows }
-    ensures { result ≡ false → (t : ℕ) → kept_rows 1 t addr (view_rows n state.now).rows ≡ (view_rows n state.now).rows }
-{
-    let mut i = 0;
-    while i < n {
-        if entries::path::path_contains(state, n, i, addr) {
-            return true;
-        }
-        i += 1;
-    }
-    false
-}
-
-// Whether a row may match; of rows set aside it is not asked.
-fn any_matches(state: &[u8], n: usize, kind: u8, time: u64, addr: NodeAddr) -> bool
-    requires { (head_size + n * row_size ≤ length state.now) × PathsFit (view_rows n state.now).rows }
-    ensures { result ≡ false → kept_rows kind time addr (view_rows n state.now).rows ≡ (view_rows n state.now).rows }
-{
-    if kind == EXPIRED {
-        return any_expired(state, n, time);
-    }
-    if kind == VIA_NODE {
-        return any_via_node(state, n, addr);
-    }
-    if kind == OTHER_ROOT {
-        return any_other_root(state, n, addr);
-    }
-    true
 }
 
 // One sweep over n rows; how many stay.
-pub fn retain_rows(state: &mut [u8], n: usize, kind: u8, time: u64, addr: NodeAddr) -> usize
-    requires { (n ≤ max_rows) × (head_size + n * row_size ≤ length state.old) × PathsFit (view_rows n state.old).rows }
-    ensures { (result ≤ n) × (result ≡ length (kept_rows kind time addr (view_rows n state.old).rows)) × (view_rows result state.new ≡ with_only_rows (kept_rows kind time addr (view_rows n state.old).rows) (view_rows n state.old)) }
+pub fn retain_rows<F: Fn(&Row<'_>) -> bool>(state: &mut [u8], n: usize, leaves: F) -> usize
+    requires rows { (n ≤ max_rows) × (head_size + n * row_size ≤ length state.old) × PathsFit (view_rows n state.old).rows }
+    requires callable { (row : _) → PathFit row.now → F.pre leaves row }
+    ensures few { result ≤ n }
+    ensures swept { (test : RowSeen → Bool) → Tests (FnReturnsAt F.Fn leaves) test → Swept test n result state.old state.new }
 {
-    let kept = keep_rows(state, n, kind, time, addr);
+    let kept = keep_rows(state, n, &leaves);
     let stored = weight_of(state, kept);
     memory::rows::shrink(state, n, kept, stored);
     kept
 }
 
-// The same on a state that counts its rows and stores their weight: where no row matches, nothing is written.
-pub fn retain_entries(state: &mut [u8], n: usize, kind: u8, time: u64, addr: NodeAddr) -> usize
-    requires { (n ≤ max_rows) × (head_size + n * row_size ≤ length state.old) × PathsFit (view_rows n state.old).rows × ((view_rows n state.old).row_count ≡ n) × ((view_rows n state.old).stored_weight ≡ main_weight (view_rows n state.old)) }
-    ensures { (result ≤ n) × (result ≡ length (kept_rows kind time addr (view_rows n state.old).rows)) × (view_rows result state.new ≡ with_only_rows (kept_rows kind time addr (view_rows n state.old).rows) (view_rows n state.old)) }
+// The same on a state that counts its rows and stores their weight: where no row leaves, nothing is written.
+pub fn retain_entries<F: Fn(&Row<'_>) -> bool>(state: &mut [u8], n: usize, leaves: F) -> usize
+    requires rows { (n ≤ max_rows) × (head_size + n * row_size ≤ length state.old) × PathsFit (view_rows n state.old).rows × ((view_rows n state.old).row_count ≡ n) × ((view_rows n state.old).stored_weight ≡ main_weight (view_rows n state.old)) }
+    requires callable { (row : _) → PathFit row.now → F.pre leaves row }
+    ensures few { result ≤ n }
+    ensures swept { (test : RowSeen → Bool) → Tests (FnReturnsAt F.Fn leaves) test → Swept test n result state.old state.new }
 {
-    if any_matches(state, n, kind, time, addr) {
-        return retain_rows(state, n, kind, time, addr);
+    if any_leaves(state, n, &leaves) {
+        return retain_rows(state, n, leaves);
     }
     n
 }

@@ -1,12 +1,12 @@
--- The closed form of room, from the last row down, and bounds of a sound state.
+-- The closed form of room, and bounds of a sound state.
 use mathlib.Core.Path.{◌≡◌, refl, sym, ◌∙◌, subst}
-use Prim.Native.Nat.{ℕ, ◌+◌, ◌*◌, ◌-◌, ◌≤◌, ◌<◌, min}
+use Prim.Native.Nat.{ℕ, ◌+◌, ◌*◌, ◌≤◌, ◌<◌, min}
 use native.Mathlib.Omega.{arith}
 use mathlib.Core.List.{List, [], ◌∷◌}
 use Rattle.std.specs.Prelude.{Option, None, Some}
 use mathlib.Core.Bool.{Bool, true, false, cond, ◌&&◌}
 use lib.Dec.{ltb, leb}
-use lib.ListN.{length, drop}
+use lib.ListN.{length}
 use Rattle.types.specs.declared.node_addr.NodeAddr.{NodeAddr}
 use Rattle.rules.specs.Cases.{maybe}
 use Rattle.rules.specs.Records.{Row, State, weight_bound, by_use, parked, probation, max_rows, weight_limit}
@@ -20,7 +20,6 @@ use Rattle.rules.proofs.RowLists.{find_at, total_without}
 use Rattle.rules.proofs.SoundTest.{sound_is}
 use Rattle.rules.proofs.Sizes.{few_rows, light}
 use Rattle.memory.proofs.Fields.{same_head}
-use Rattle.stamps.proofs.RowTotals.{sum_down, sum_none}
 
 -- ---- a sound head's numbers
 
@@ -55,58 +54,47 @@ room_asks {n = n} {l = l} b h = (omega (arith, b.max, (sound_small (capacity l) 
 
 -- ---- the closed form of room
 
--- of n rows those from i on that are verified in main were counted and weighed
-pub record Weighed (now n i c w : ℕ) (rs : List Row) : Type 0 where
+-- of n rows all but those left were seen, and the ones verified in main counted and weighed
+pub record Weighed (now n c w : ℕ) (left rs : List Row) : Type 0 where
   pub long : length rs ≡ n
-  pub within : i ≤ n
-  pub few : c + i ≤ n
-  pub light : w + 255 * i ≤ 255 * n
-  pub count : c ≡ count_rows (verified_in_main now) (drop i rs)
-  pub weight : w ≡ weigh_rows (verified_in_main now) (drop i rs)
+  pub few : c + length left ≤ n
+  pub light : w + 255 * length left ≤ 255 * n
+  pub count : c + count_rows (verified_in_main now) left ≡ count_rows (verified_in_main now) rs
+  pub weight : w + weigh_rows (verified_in_main now) left ≡ weigh_rows (verified_in_main now) rs
 
-pub weighed_start : {now n : ℕ} {rs : List Row} → length rs ≡ n → Weighed now n n 0 0 rs
-weighed_start {now} {n} {rs} h =
-    record {
-      long = h;
-      within = omega arith;
-      few = omega arith;
-      light = omega arith;
-      count = sym (sum_none (λ r. cond (verified_in_main now r) 1 0) n rs (omega arith));
-      weight = sym (sum_none (λ r. cond (verified_in_main now r) r.weight 0) n rs (omega arith));
-    }
+pub weighed_start : {now n : ℕ} {rs : List Row} → length rs ≡ n → Weighed now n 0 0 rs rs
+weighed_start h = record { long = h; few = omega arith; light = omega arith; count = omega arith; weight = omega arith }
 
-module _ {now n i c w : ℕ} {rs : List Row} (t : Weighed now n i c w rs) where
-  -- row i - 1 brings a to the count and x to the weight
-  brings : (a x d v : ℕ) → 0 < i → a ≤ 1 → x ≤ 255 → d ≡ c + a → v ≡ w + x → cond (verified_in_main now (row_at (i - 1) rs)) 1 0 ≡ a →
-      cond (verified_in_main now (row_at (i - 1) rs)) (row_at (i - 1) rs).weight 0 ≡ x → Weighed now n (i - 1) d v rs
-  brings a x d v z h k ed ev ea ex =
-      let g : i - 1 < length rs = omega (arith, t.long, t.within) in
+module _ {now n c w : ℕ} {left rs : List Row} (r : Row) (t : Weighed now n c w (r ∷ left) rs) where
+  -- row r brings a to the count and x to the weight
+  brings : (a x d v : ℕ) → a ≤ 1 → x ≤ 255 → d ≡ c + a → v ≡ w + x → cond (verified_in_main now r) 1 0 ≡ a → cond (verified_in_main now r) r.weight 0 ≡ x → Weighed now n d v left rs
+  unfolding total
+  brings a x d v h k ed ev ea ex =
       record {
         long = t.long;
-        within = omega (arith, t.within);
         few = omega (arith, t.few);
         light = omega (arith, t.light);
-        count = omega (arith, t.count, sum_down (λ r. cond (verified_in_main now r) 1 0) i (i - 1) rs (omega arith) g);
-        weight = omega (arith, t.weight, sum_down (λ r. cond (verified_in_main now r) r.weight 0) i (i - 1) rs (omega arith) g);
+        count = omega (arith, t.count);
+        weight = omega (arith, t.weight);
       }
 
-  pub weighed_in : {b : Bool} {v x : ℕ} → 0 < i → b ≡ verified_in_main now (row_at (i - 1) rs) → b ≡ true → v ≡ (row_at (i - 1) rs).weight → (x ≡ v) × (x < 256) →
-      Weighed now n (i - 1) (c + 1) (w + x) rs
-  weighed_in {x = x} z h f e q = let k = sym h ∙ f in brings 1 x (c + 1) (w + x) z (omega arith) (omega (arith, q.1)) refl refl (rw k) (rw (k, q.0, e))
+  pub weighed_in : {b : Bool} {v x : ℕ} → b ≡ verified_in_main now r → b ≡ true → v ≡ r.weight → (x ≡ v) × (x < 256) → Weighed now n (c + 1) (w + x) left rs
+  weighed_in {x = x} h f e q = let k = sym h ∙ f in brings 1 x (c + 1) (w + x) (omega arith) (omega (arith, q.1)) refl refl (rw k) (rw (k, q.0, e))
 
-  pub weighed_past : {b : Bool} → 0 < i → b ≡ verified_in_main now (row_at (i - 1) rs) → b ≡ false → Weighed now n (i - 1) c w rs
-  weighed_past z h f = let k = sym h ∙ f in brings 0 0 c w z (omega arith) (omega arith) (omega arith) (omega arith) (rw k) (rw k)
+  pub weighed_past : {b : Bool} → b ≡ verified_in_main now r → b ≡ false → Weighed now n c w left rs
+  weighed_past h f = let k = sym h ∙ f in brings 0 0 c w (omega arith) (omega arith) (omega arith) (omega arith) (rw k) (rw k)
 
-module _ {now n i c w u m x : ℕ} {l : List ℕ} (b : Bounds u m x n l) (t : Weighed now n i c w (view_rows n l).rows) where
-  pub weighed_small : w ≤ max_rows * 255
+module _ {now n c w u m x : ℕ} {left : List Row} {l : List ℕ} (b : Bounds u m x n l) (t : Weighed now n c w left (view_rows n l).rows) where
+  pub weighed_small : w + 255 * length left ≤ max_rows * 255
   weighed_small = omega (arith, t.light, t.long, (sound_small (capacity l) (view_rows n l) b.sound).rows)
 
-  pub weighed_end : {r : Bool} → i ≤ 0 → r ≡ ltb c m && leb (w + x) (weight_bound m) → r ≡ room_can_be_made now u (view_rows n l)
-  unfolding room_can_be_made
-  weighed_end z h =
-      let e : i ≡ 0 = omega arith in
-      let k = subst (λ (j : ℕ). Weighed now n j c w (view_rows n l).rows) e t in
-      h ∙ rw (b.cut, b.max, k.count, k.weight)
+  pub weighed_end : {r : Bool} → left ≡ [] → r ≡ ltb c m && leb (w + x) (weight_bound m) → r ≡ room_can_be_made now u (view_rows n l)
+  unfolding room_can_be_made total
+  weighed_end e h =
+      let k = subst (λ (rs : List Row). Weighed now n c w rs (view_rows n l).rows) e t in
+      let a : c ≡ count_rows (verified_in_main now) (view_rows n l).rows = omega (arith, k.count) in
+      let d : w ≡ weigh_rows (verified_in_main now) (view_rows n l).rows = omega (arith, k.weight) in
+      h ∙ rw (b.cut, b.max, a, d)
 
 not_firm : (now : ℕ) (r : Row) → in_main r ≡ false → verified_in_main now r ≡ false
 unfolding verified_in_main

@@ -1,8 +1,8 @@
 // Main counted and weighed: whether it has room, which room::victims and verification ask; and the closed form, whether room can be made,
 // which is asked for number 4 alone.
-ghost use Rattle.std.specs.Prelude.{◌≡◌, ◌&&◌, true, ◌+◌, ◌*◌, ◌≤◌, ◌<◌, min, ltb, leb, length};
+ghost use Rattle.std.specs.Prelude.{◌≡◌, ◌&&◌, true, ◌+◌, ◌*◌, ◌≤◌, min, ltb, leb, length};
 ghost use Rattle.rules.specs.Records.{weight_bound, max_rows};
-ghost use Rattle.rules.specs.Rows.{row_at, main_count};
+ghost use Rattle.rules.specs.Rows.{main_count};
 ghost use Rattle.rules.specs.Sound.{sound};
 ghost use Rattle.rules.specs.Room.{verified_in_main, room_can_be_made};
 ghost use Rattle.rules.specs.Memory.{capacity, view_rows};
@@ -10,9 +10,10 @@ ghost use Rattle.rules.specs.Layout.{head_size, row_size};
 
 use entries::times::is_verified;
 use memory::codes::PROBATION;
+use memory::row::{Row, Rows, row_at};
 use types::coord::ADDRS_PER_ENTRY;
 
-// The rows of main.
+// The rows of main. Counted down by hand: as a sum over the rows the compiler makes bytes of them side by side, which is slower.
 pub fn main_len(state: &[u8], n: usize) -> u64
     requires { head_size + n * row_size ≤ length state.now }
     ensures { result ≡ main_count (view_rows n state.now) }
@@ -21,7 +22,7 @@ pub fn main_len(state: &[u8], n: usize) -> u64
     let mut i = n;
     while 0 < i {
         i -= 1;
-        count += (memory::row::place(state, n, i) < PROBATION) as u64;
+        count += (row_at(state, n, i).place() < PROBATION) as u64;
     }
     count
 }
@@ -31,8 +32,7 @@ pub fn cut_to_bound(w: u64, max: u64) -> u64
     requires { max ≤ max_rows }
     ensures { result ≡ min w (weight_bound max) }
 {
-    let bound = ADDRS_PER_ENTRY * max;
-    if w < bound { w } else { bound }
+    w.min(ADDRS_PER_ENTRY * max)
 }
 
 // Neither count ≥ max_entries nor stored + w > B.
@@ -43,11 +43,10 @@ pub fn has_room(max: u64, count: u64, stored: u64, w: u64) -> bool
     (count < max) & (stored + w <= ADDRS_PER_ENTRY * max)
 }
 
-fn is_verified_in_main(state: &[u8], n: usize, i: usize, time: u64) -> bool
-    requires { (i < n) × (head_size + n * row_size ≤ length state.now) }
-    ensures { result ≡ verified_in_main time (row_at i (view_rows n state.now).rows) }
+fn is_verified_in_main(row: &Row<'_>, time: u64) -> bool
+    ensures { result ≡ verified_in_main time row.now }
 {
-    (memory::row::place(state, n, i) < PROBATION) & is_verified(state, n, i, time)
+    (row.place() < PROBATION) & is_verified(row, time)
 }
 
 // The closed form, in one pass: what no walk at this time can take is counted and weighed.
@@ -59,12 +58,10 @@ pub fn room_can_be_made(state: &[u8], n: usize, w: u64, time: u64) -> bool
     let cut = cut_to_bound(w, max);
     let mut count: u64 = 0;
     let mut weight: u64 = 0;
-    let mut i = n;
-    while 0 < i {
-        i -= 1;
-        if is_verified_in_main(state, n, i, time) {
+    for row in Rows::of(state, n) {
+        if is_verified_in_main(&row, time) {
             count += 1;
-            weight += raw::numbers::wide(memory::row::weight(state, n, i));
+            weight += raw::numbers::wide(row.weight());
         }
     }
     has_room(max, count, weight, cut)

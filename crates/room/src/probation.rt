@@ -10,6 +10,7 @@ ghost use Rattle.room.specs.Rooms.{without_victim, Leaves};
 
 use memory::bounds::probation_bound;
 use memory::codes::PROBATION;
+use memory::row::row_at;
 use stamps::lowest::lowest_stamp;
 use stamps::row::{is_stale, restamp};
 
@@ -52,7 +53,7 @@ pub fn make_probation_room(state: &mut [u8], n: usize) -> ProbationRoom
             }
             Some(i) => {
                 examined += 1;
-                if is_stale(state, n, i) {
+                if is_stale(&row_at(state, n, i)) {
                     restamp(state, n, i);
                     let again = lowest_stamp(state, n, PROBATION);
                     victim = again.row;

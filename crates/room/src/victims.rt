@@ -13,10 +13,9 @@ ghost use Rattle.room.specs.Rooms.{chosen_of, room_of, SetAside, Leaves};
 
 use crate::closed_form::{cut_to_bound, has_room};
 use memory::codes::{ASIDE, BY_USE};
-use raw::layout::ADDRESS;
+use memory::row::row_at;
 use stamps::lowest::{LowestOfMain, lowest_of_main};
 use stamps::walk::next_victim;
-use types::node_addr::NodeAddr;
 
 // Whether enough victims were chosen; the main rows that are left and their weight; the row that was set aside last; the keys taken up.
 #[derive(Clone, Copy)]
@@ -45,8 +44,9 @@ fn set_place(state: &mut [u8], n: usize, i: usize, place: u8)
     requires { (i < n) × (head_size + n * row_size ≤ length state.old) }
     ensures { view_rows n state.new ≡ with_rows (change_row (at_new_place place) i (view_rows n state.old).rows) (view_rows n state.old) }
 {
-    let first = memory::row::stamp_first(state, n, i);
-    let seq = memory::row::stamp_seq(state, n, i);
+    let row = row_at(state, n, i);
+    let first = row.stamp_first();
+    let seq = row.stamp_seq();
     memory::row::set_stamp(state, n, i, place, first, seq);
 }
 
@@ -78,7 +78,7 @@ fn choose_victims(state: &mut [u8], n: usize, lowest: LowestOfMain, w: u64, time
             }
             Some(i) => {
                 left -= 1;
-                stored -= raw::numbers::wide(memory::row::weight(state, n, i));
+                stored -= raw::numbers::wide(row_at(state, n, i).weight());
                 set_place(state, n, i, ASIDE);
                 last = i;
                 if has_room(max, left, stored, w) {
@@ -101,7 +101,7 @@ fn put_row_back(state: &mut [u8], n: usize, i: usize)
     requires { (i < n) × (head_size + n * row_size ≤ length state.old) }
     ensures { view_rows n state.new ≡ with_rows (change_row put_back i (view_rows n state.old).rows) (view_rows n state.old) }
 {
-    if memory::row::place(state, n, i) == ASIDE {
+    if row_at(state, n, i).place() == ASIDE {
         set_place(state, n, i, BY_USE);
     }
 }
@@ -121,8 +121,7 @@ fn drop_aside(state: &mut [u8], n: usize) -> usize
     requires { (n ≤ max_rows) × (head_size + n * row_size ≤ length state.old) × PathsFit (view_rows n state.old).rows }
     ensures { (result ≤ n) × (view_rows result state.new ≡ with_only_rows (keep_rows (λ x. not (at_place aside x)) (view_rows n state.old).rows) (view_rows n state.old)) }
 {
-    let none = NodeAddr([0u8; ADDRESS]);
-    retention::rows::retain_rows(state, n, retention::rows::SET_ASIDE, 0, none)
+    retention::rows::retain_rows(state, n, |row| row.place() == ASIDE)
 }
 
 // There is room: no victim is sought.

@@ -36,7 +36,7 @@ abbrev lowest_from : ℕ → ℕ → List Row → Option ℕ
 lowest_from p i rs = from i (lowest_stamp p (drop i rs))
 
 -- row i is searched too
-lower : (p n k i : ℕ) (rs : List Row) (b : Best) → k ≡ suc i → i < length rs → i < n → Down p n k rs b → Down p n i rs (lower_row n p i rs b)
+lower : (p n k i : ℕ) (rs : List Row) (b : Best) → k ≡ suc i → i < length rs → i < n → Down p n k rs b → Down p n i rs (lower_row n p i (row_at i rs) b)
 unfolding lower_row lower_best best_row better stamp_before
 lower p n k i rs b ek h hn d = go (at_place p r) (lowest_down p i rs h) (subst (λ (x : ℕ). lowest_from p x rs ≡ best_row n b) ek d.row)
   where
@@ -66,7 +66,7 @@ lower p n k i rs b ek h hn d = go (at_place p r) (lowest_down p i rs h) (subst (
             pick true u = record { row = u ∙ rw q; stamp = d.stamp }
             pick false u = taken u
 
-pub down_row : {q : Row → Bool} {p n i c : ℕ} {rs : List Row} {b x : Best} → Counted q n i c rs → 0 < i → x ≡ lower_row n p (i - 1) rs b → Down p n i rs b →
+pub down_row : {q : Row → Bool} {p n i c : ℕ} {rs : List Row} {b x : Best} → Counted q n i c rs → 0 < i → x ≡ lower_row n p (i - 1) (row_at (i - 1) rs) b → Down p n i rs b →
     Down p n (i - 1) rs x
 down_row {p = p} {n = n} {i = i} {rs = rs} {b = b} t z e d =
     rw e (lower p n i (i - 1) rs b (omega arith) (omega (arith, t.long, t.within)) (omega (arith, t.within)) d)

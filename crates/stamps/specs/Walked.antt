@@ -1,7 +1,7 @@
 -- The code's answers in the rules' terms.
 use Rattle.std.specs.Prelude.{ℕ, List, cond, ◌&&◌, ◌||◌, ltb, eqb, ◌≡◌, Option, None, Some}
 use Rattle.rules.specs.Records.{Row, State, by_use, parked}
-use Rattle.rules.specs.Rows.{row_at, at_place, in_main, lowest_stamp, count_rows}
+use Rattle.rules.specs.Rows.{at_place, in_main, lowest_stamp, count_rows}
 use Rattle.rules.specs.Room.{Walk, Sought}
 use Rattle.stamps.specs.declared.lowest.Best.{Best}
 use Rattle.stamps.specs.declared.lowest.LowestStamp.{LowestStamp}
@@ -27,9 +27,9 @@ best_row n b = cond (ltb b.row n) (Some b.row) None
 unfoldable pub lower_best : ℕ → Best → ℕ → ℕ → ℕ → Best
 lower_best n b i f q = cond (ltb b.row n && (ltb b.first f || (eqb b.first f && ltb b.seq q))) b (record { row = i; first = f; seq = q })
 
--- row i against the best so far, if it is at place p
-unfoldable pub lower_row : ℕ → ℕ → ℕ → List Row → Best → Best
-lower_row n p i rs b = cond (at_place p (row_at i rs)) (lower_best n b i (row_at i rs).stamp_first (row_at i rs).stamp_seq) b
+-- row r, which stands at i, against the best so far, if it is at place p
+unfoldable pub lower_row : ℕ → ℕ → ℕ → Row → Best → Best
+lower_row n p i r b = cond (at_place p r) (lower_best n b i r.stamp_first r.stamp_seq) b
 
 -- ---- what one pass finds
 

@@ -5,6 +5,7 @@ ghost use Rattle.rules.specs.Layout.{head_size, row_size};
 ghost use Rattle.stamps.specs.Walked.{no_row, lower_best, lower_row, best_row, LowestIs, MainIs};
 
 use memory::codes::{BY_USE, PARKED, PROBATION};
+use memory::row::{Row, row_at};
 
 // The row with the lowest stamp so far, and that stamp; a row past the last where there is none. An enum is slow to copy for each row.
 #[derive(Clone, Copy)]
@@ -59,15 +60,14 @@ fn row_of(best: Best, n: usize) -> Option<usize>
 }
 
 // Row i against the best so far, if it is at this place.
-fn lower_row(state: &[u8], n: usize, i: usize, place: u8, best: Best) -> Best
-    requires { (i < n) × (head_size + n * row_size ≤ length state.now) }
-    ensures { result ≡ lower_row n place i (view_rows n state.now).rows best }
+fn lower_row(row: &Row<'_>, n: usize, i: usize, place: u8, best: Best) -> Best
+    ensures { result ≡ lower_row n place i row.now best }
 {
-    if memory::row::place(state, n, i) != place {
+    if row.place() != place {
         return best;
     }
-    let first = memory::row::stamp_first(state, n, i);
-    let seq = memory::row::stamp_seq(state, n, i);
+    let first = row.stamp_first();
+    let seq = row.stamp_seq();
     lower_of(best, n, i, first, seq)
 }
 
@@ -78,11 +78,10 @@ pub fn lowest_stamp(state: &[u8], n: usize, place: u8) -> LowestStamp
 {
     let mut best = no_row(n);
     let mut count: u64 = 0;
-    let mut i = n;
-    while 0 < i {
-        i -= 1;
-        best = lower_row(state, n, i, place, best);
-        count += (memory::row::place(state, n, i) == place) as u64;
+    for i in (0..n).rev() {
+        let row = row_at(state, n, i);
+        best = lower_row(&row, n, i, place, best);
+        count += (row.place() == place) as u64;
     }
     LowestStamp {
         row: row_of(best, n),
@@ -98,12 +97,11 @@ pub fn lowest_of_main(state: &[u8], n: usize) -> LowestOfMain
     let mut parked = no_row(n);
     let mut by_use = no_row(n);
     let mut count: u64 = 0;
-    let mut i = n;
-    while 0 < i {
-        i -= 1;
-        parked = lower_row(state, n, i, PARKED, parked);
-        by_use = lower_row(state, n, i, BY_USE, by_use);
-        count += (memory::row::place(state, n, i) < PROBATION) as u64;
+    for i in (0..n).rev() {
+        let row = row_at(state, n, i);
+        parked = lower_row(&row, n, i, PARKED, parked);
+        by_use = lower_row(&row, n, i, BY_USE, by_use);
+        count += (row.place() < PROBATION) as u64;
     }
     LowestOfMain {
         parked: row_of(parked, n),

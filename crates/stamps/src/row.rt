@@ -1,7 +1,6 @@
 // The stamp of one row.
 ghost use Rattle.std.specs.Prelude.{◌≡◌, cond, ◌+◌, ◌*◌, ◌≤◌, ◌<◌, ltb, length};
 ghost use Rattle.rules.specs.Records.{probation, by_use};
-ghost use Rattle.rules.specs.Rows.{row_at};
 ghost use Rattle.rules.specs.Room.{stale, stamp, restamp, park};
 ghost use Rattle.rules.specs.Memory.{view_rows};
 ghost use Rattle.rules.specs.Layout.{head_size, row_size};
@@ -9,13 +8,13 @@ ghost use Rattle.memory.specs.Edits.{stamped_as};
 ghost use Rattle.types.specs.Values.{largest_number};
 
 use memory::codes::{BY_USE, PARKED, PROBATION};
+use memory::row::{Row, row_at};
 
 // first ≠ last_used
-pub fn is_stale(state: &[u8], n: usize, i: usize) -> bool
-    requires { (i < n) × (head_size + n * row_size ≤ length state.now) }
-    ensures { result ≡ stale (row_at i (view_rows n state.now).rows) }
+pub fn is_stale(row: &Row<'_>) -> bool
+    ensures { result ≡ stale row.now }
 {
-    memory::row::stamp_first(state, n, i) != memory::row::last_used(state, n, i)
+    row.stamp_first() != row.last_used()
 }
 
 // Row i gets a place and a new stamp.
@@ -39,8 +38,9 @@ pub fn restamp(state: &mut [u8], n: usize, i: usize)
     requires { (i < n) × (head_size + n * row_size ≤ length state.old) × ((view_rows n state.old).seq < largest_number) }
     ensures { view_rows n state.new ≡ restamp i (view_rows n state.old) }
 {
-    let place = filed_place(memory::row::place(state, n, i));
-    let used = memory::row::last_used(state, n, i);
+    let row = row_at(state, n, i);
+    let place = filed_place(row.place());
+    let used = row.last_used();
     draw_stamp(state, n, i, place, used);
 }
 
@@ -49,6 +49,6 @@ pub(crate) fn park(state: &mut [u8], n: usize, i: usize)
     requires { (i < n) × (head_size + n * row_size ≤ length state.old) × ((view_rows n state.old).seq < largest_number) }
     ensures { view_rows n state.new ≡ park i (view_rows n state.old) }
 {
-    let until = memory::row::verified_until(state, n, i);
+    let until = row_at(state, n, i).verified_until();
     draw_stamp(state, n, i, PARKED, until);
 }

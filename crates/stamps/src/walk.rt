@@ -11,6 +11,7 @@ use crate::lowest::{LowestOfMain, lowest_of_main, lowest_stamp};
 use crate::row::{is_stale, park, restamp};
 use entries::times::is_verified;
 use memory::codes::BY_USE;
+use memory::row::row_at;
 
 // How many parked rows returned, and the row that the walk takes up next, if any.
 #[derive(Clone, Copy)]
@@ -39,7 +40,7 @@ fn return_lapsed(state: &mut [u8], n: usize, time: u64, lowest: LowestOfMain) ->
         match parked {
             None => return Returned { rows, next },
             Some(i) => {
-                if time <= memory::row::stamp_first(state, n, i) {
+                if time <= row_at(state, n, i).stamp_first() {
                     return Returned { rows, next };
                 }
                 restamp(state, n, i);
@@ -66,11 +67,12 @@ pub fn next_victim(state: &mut [u8], n: usize, time: u64, lowest: LowestOfMain) 
             None => break None,
             Some(i) => {
                 examined += 1;
-                if is_stale(state, n, i) {
+                let row = row_at(state, n, i);
+                if is_stale(&row) {
                     restamp(state, n, i);
                     let again = lowest_stamp(state, n, BY_USE);
                     next = again.row;
-                } else if is_verified(state, n, i, time) {
+                } else if is_verified(&row, time) {
                     park(state, n, i);
                     let again = lowest_stamp(state, n, BY_USE);
                     next = again.row;

@@ -8,6 +8,7 @@ ghost use Rattle.state.specs.Parts.{tallied, rows_sound};
 use crate::key::key_rises;
 use crate::row::row_is_sound;
 use memory::codes::PROBATION;
+use memory::row::row_at;
 
 // Over the rows passed: main rows, probation rows, the weight of the main rows.
 #[derive(Clone, Copy)]
@@ -55,18 +56,17 @@ pub fn rows_are_sound(
         probation: 0,
         weight: 0,
     };
-    let mut i = 0;
-    while i < n {
-        if !row_is_sound(state, n, i, seq) {
+    for i in 0..n {
+        let row = row_at(state, n, i);
+        if !row_is_sound(&row, seq) {
             return false;
         }
         if !key_rises(state, n, i) {
             return false;
         }
-        let place = memory::row::place(state, n, i);
-        let weight = memory::row::weight(state, n, i);
+        let place = row.place();
+        let weight = row.weight();
         t = counted(t, place, weight);
-        i += 1;
     }
     (t.main <= main) & ((t.probation <= probation) & (stored == t.weight))
 }

@@ -1,12 +1,10 @@
 // What is asked of a row by itself.
-ghost use Rattle.std.specs.Prelude.{◌≡◌, ◌+◌, ◌*◌, ◌≤◌, ◌<◌, max, length};
+ghost use Rattle.std.specs.Prelude.{◌≡◌, max};
 ghost use Rattle.types.specs.Paths.{addrs_per_entry};
-ghost use Rattle.rules.specs.Rows.{row_at};
 ghost use Rattle.rules.specs.Sound.{row_sound};
-ghost use Rattle.rules.specs.Memory.{view_rows};
-ghost use Rattle.rules.specs.Layout.{head_size, row_size};
 
 use memory::codes::{HINT, PARKED, PROBATION, SOME_MTU, VERIFIED};
+use memory::row::Row;
 use types::coord::{ADDRS_PER_ENTRY, PLACES};
 
 // The most elements of a path, and the most that a row weighs, as the bytes of a row have them.
@@ -24,18 +22,17 @@ fn path_weight(len: u8) -> u8
 }
 
 // One expression with no branch, in the order of the rules; seq is the head's.
-pub fn row_is_sound(state: &[u8], n: usize, i: usize, seq: u64) -> bool
-    requires { (i < n) × (head_size + n * row_size ≤ length state.now) }
-    ensures { result ≡ row_sound seq (row_at i (view_rows n state.now).rows) }
+pub fn row_is_sound(row: &Row<'_>, seq: u64) -> bool
+    ensures { result ≡ row_sound seq row.now }
 {
-    let place = memory::row::place(state, n, i);
-    let source = memory::row::source(state, n, i);
-    let mark = memory::row::mtu_mark(state, n, i);
-    let len = memory::row::path_len(state, n, i);
-    let weight = memory::row::weight(state, n, i);
-    let stamp = memory::row::stamp_seq(state, n, i);
-    let until = memory::row::verified_until(state, n, i);
-    let first = memory::row::stamp_first(state, n, i);
+    let place = row.place();
+    let source = row.source();
+    let mark = row.mtu_mark();
+    let len = row.path_len();
+    let weight = row.weight();
+    let stamp = row.stamp_seq();
+    let until = row.verified_until();
+    let first = row.stamp_first();
     let least = path_weight(len);
     let legal = (place <= PROBATION)
         & ((source <= HINT) & ((mark <= SOME_MTU) & ((1 <= len) & (len <= LONGEST))));

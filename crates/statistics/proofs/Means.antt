@@ -2,20 +2,16 @@
 use mathlib.Core.Path.{◌≡◌, refl, sym, ap, ◌∙◌, subst}
 use Prim.Native.Nat.{ℕ, zero, suc, ◌+◌, ◌*◌, ◌-◌, ◌/◌, ◌%◌, ◌≤◌, ◌<◌, min}
 use native.Mathlib.Omega.{arith}
-use native.Mathlib.Numerals.{add-one}
 use native.Mathlib.Nat.{mul_comm, mul_assoc, div-add-mod', mul-add-div_right, div-le_of_le-mul}
-use mathlib.Core.List.{List}
-use lib.ListN.{length, drop, drop_of_length-le}
-use lib.Seq.{drop-cons}
+use mathlib.Core.List.{List, [], ◌∷◌, map}
+use Rattle.std.proofs.Common.{Some, None}
+use Rattle.std.specs.List.{fold, reduce}
 use Rattle.rules.specs.Records.{Row, max_rows}
-use Rattle.rules.specs.Rows.{row_at, blank_row, total}
-use Rattle.rules.specs.Memory.{rows_of, view_rows}
+use Rattle.rules.specs.Rows.{total}
 use Rattle.rules.specs.Cases.{maybe}
 use Rattle.rules.specs.Statistics.{total_age, mean, next_expiry}
-use Rattle.rules.proofs.Foreign.{view_length}
 use Rattle.rules.specs.Layout.{number_limit}
-use Rattle.std.specs.Prelude.{Option, None, Some}
-use Rattle.memory.proofs.RowSums.{total_next, total_end}
+use Rattle.std.specs.Prelude.{Option, None, Some, option_map}
 use Rattle.types.specs.Values.{largest_number}
 
 -- ---- the exact mean: high and low halves, summed apart
@@ -89,47 +85,45 @@ mean_end (suc n) q r T m =
     let o = over (suc n) q r in
     sym (mul-add-div_right m.some_rows (q / suc n * half) (q % suc n * half + r)) ∙ ap (λ (x : ℕ). x / suc n) (omega (arith, m.exact, o))
 
--- ---- the ages of n rows
+-- ---- the ages of rows
 
-abbrev age : ℕ → Row → ℕ
+abbrev pub age : ℕ → Row → ℕ
 age time x = time - x.entry.created_at
 
--- the ages of the first i rows were summed
-abbrev pub Ages : List ℕ → ℕ → ℕ → ℕ → ℕ → ℕ → Type 0
-Ages l n time i q r = Mean n i q r (total (age time) (drop i (view_rows n l).rows)) (total (age time) (view_rows n l).rows)
+-- of the ages of rs those of `seen` rows were summed, and those of `left` were not
+abbrev pub Ages : List Row → ℕ → ℕ → ℕ → List Row → ℕ → ℕ → Type 0
+Ages rs n time seen left q r = Mean n seen q r (total (age time) left) (total (age time) rs)
 
-module _ (l : List ℕ) (n time i q r : ℕ) (m : Ages l n time i q r) where
-  pub age_turn : (a : ℕ) → n ≤ max_rows → i < n → time < number_limit → a ≡ time - (row_at i (view_rows n l).rows).entry.created_at
-      → Ages l n time (i + 1) (q + a / half) (r + a % half)
-  age_turn a k h b e =
-      let rs = (view_rows n l).rows in
-      let t : total (age time) (drop i rs) ≡ a + total (age time) (drop (i + 1) rs) =
-      total_next (age time) i rs (omega (arith, view_length n l)) ∙ ap (λ (x : ℕ). x + total (age time) (drop (i + 1) rs)) (sym e) in
-      mean_turn m a (total (age time) (drop (i + 1) rs)) k h (omega arith) t
+module _ (rs : List Row) (n time seen : ℕ) {q r : ℕ} (x : Row) (left : List Row) (m : Ages rs n time seen (x ∷ left) q r) where
+  pub age_turn : (a : ℕ) → n ≤ max_rows → seen < n → time < number_limit → a ≡ time - x.entry.created_at → Ages rs n time (seen + 1) left (q + a / half) (r + a % half)
+  unfolding total
+  age_turn a k h b e = mean_turn m a (total (age time) left) k h (omega arith) (ap (λ (y : ℕ). y + total (age time) left) (sym e))
 
-  pub ages_end : i ≡ n → q / n * half + (q % n * half + r) / n ≡ mean (total_age time (view_rows n l).rows) n
-  unfolding total_age
-  ages_end e =
-      let rs = (view_rows n l).rows in
-      let w : Ages l n time n q r = subst (λ (x : ℕ). Ages l n time x q r) e m in
-      mean_end n q r (total (age time) rs) (subst (λ (x : ℕ). Mean n n q r x (total (age time) rs)) (total_end (age time) n rs (omega (arith, view_length n l))) w)
+pub ages_end : (rs : List Row) (n time seen q r : ℕ) → Ages rs n time seen [] q r → seen ≡ n → q / n * half + (q % n * half + r) / n ≡ mean (total_age time rs) n
+unfolding total_age total
+ages_end rs n time seen q r m e = mean_end n q r (total (age time) rs) (subst (λ (x : ℕ). Mean n x q r 0 (total (age time) rs)) e m)
 
 -- ---- the smallest expiry
 
-pub expiry_none : (l : List ℕ) → next_expiry (view_rows 0 l).rows ≡ None
-unfolding view_rows rows_of next_expiry
-expiry_none l = refl
+abbrev pub expiry : Row → ℕ
+expiry x = x.entry.expires_at
 
-expiry_next : (i : ℕ) (rs : List Row) → i < length rs → next_expiry (drop i rs) ≡ Some (maybe (next_expiry (drop (i + 1) rs)) (row_at i rs).entry.expires_at (min (row_at i rs).entry.expires_at))
+expiry_fold : (e : ℕ) (rs : List Row) → fold min e (map expiry rs) ≡ maybe (next_expiry rs) e (min e)
 unfolding next_expiry
-expiry_next i rs h = rw (add-one, drop-cons rs i blank_row h)
+expiry_fold e [] = refl
+expiry_fold e (y ∷ ys) = expiry_fold (min e y.entry.expires_at) ys ∙ here (next_expiry ys)
+  where
+    here : (o : Option ℕ) → maybe o (min e y.entry.expires_at) (min (min e y.entry.expires_at)) ≡ min e (maybe o y.entry.expires_at (min y.entry.expires_at))
+    here None = refl
+    here (Some t) = omega arith
 
-no_expiry : (k : ℕ) (rs : List Row) → length rs ≤ k → next_expiry (drop k rs) ≡ None
+-- the least of what the rows give
+pub expiry_least : (rs : List Row) → reduce min (map expiry rs) ≡ next_expiry rs
 unfolding next_expiry
-no_expiry k rs h = rw (drop_of_length-le rs h)
+expiry_least [] = refl
+expiry_least (x ∷ xs) = ap Some (expiry_fold (expiry x) xs)
 
-pub expiry_last : (i : ℕ) (rs : List Row) → length rs ≡ i + 1 → next_expiry (drop i rs) ≡ Some (row_at i rs).entry.expires_at
-expiry_last i rs h = expiry_next i rs (omega arith) ∙ ap (λ (o : Option ℕ). Some (maybe o (row_at i rs).entry.expires_at (min (row_at i rs).entry.expires_at))) (no_expiry (i + 1) rs (omega arith))
+pub whole : (o : Option ℕ) → o ≡ option_map (λ y. y) o
+whole None = refl
+whole (Some t) = refl
 
-pub expiry_turn : (i t : ℕ) (rs : List Row) → i < length rs → next_expiry (drop (i + 1) rs) ≡ Some t → next_expiry (drop i rs) ≡ Some (min (row_at i rs).entry.expires_at t)
-expiry_turn i t rs h e = expiry_next i rs h ∙ ap (λ (o : Option ℕ). Some (maybe o (row_at i rs).entry.expires_at (min (row_at i rs).entry.expires_at))) e

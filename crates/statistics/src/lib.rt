@@ -1,8 +1,8 @@
 // stats, and the next expiry.
 #![tactic(auto)]
 
-ghost use Rattle.std.specs.Prelude.{◌≡◌, true, ◌+◌, ◌*◌, ◌-◌, ◌≤◌, ◌<◌, length};
-ghost use Rattle.rules.specs.Rows.{row_at, count_rows};
+ghost use Rattle.std.specs.Prelude.{◌≡◌, true, ◌+◌, ◌*◌, ◌-◌, ◌≤◌, length};
+ghost use Rattle.rules.specs.Rows.{count_rows};
 ghost use Rattle.rules.specs.Entries.{expired};
 ghost use Rattle.rules.specs.Statistics.{total_age, mean, stats, next_expiry};
 ghost use Rattle.rules.specs.Sound.{sound};
@@ -13,30 +13,27 @@ ghost use Rattle.rules.specs.Answers.{said};
 ghost use Rattle.rules.specs.Layout.{head_size, row_size};
 ghost use Rattle.rules.specs.Records.{max_rows};
 
+use entries::times::is_expired;
+use memory::row::{Row, Rows};
 use state::check::check_sound;
 use types::refusal::Refusal;
 use types::stats::CacheStats;
 
+// Each row adds 0 or 1, so that no branch hangs on it.
 fn count_expired(state: &[u8], n: usize, time: u64) -> u64
-    requires { (n ≤ max_rows) × (head_size + n * row_size ≤ length state.now) }
+    requires { head_size + n * row_size ≤ length state.now }
     ensures { result ≡ count_rows (λ x. expired time x.entry) (view_rows n state.now).rows }
 {
-    let mut count: u64 = 0;
-    let mut i = 0;
-    while i < n {
-        count += entries::times::is_expired(state, n, i, time) as u64;
-        i += 1;
-    }
-    count
+    Rows::of(state, n)
+        .map(|row| is_expired(&row, time) as u64)
+        .sum()
 }
 
 // max(now − created_at, 0)
-fn age(state: &[u8], n: usize, i: usize, time: u64) -> u64
-    requires { (i < n) × (head_size + n * row_size ≤ length state.now) }
-    ensures { result ≡ time - (row_at i (view_rows n state.now).rows).entry.created_at }
+fn age(row: &Row<'_>, time: u64) -> u64
+    ensures { result ≡ time - row.now.entry.created_at }
 {
-    let created = memory::row::created_at(state, n, i);
-    if created < time { time - created } else { 0 }
+    time.saturating_sub(row.created_at())
 }
 
 // Two to the 32nd.
@@ -53,12 +50,10 @@ fn mean_age(state: &[u8], n: usize, time: u64) -> u64
     let count = n as u64;
     let mut high: u64 = 0;
     let mut low: u64 = 0;
-    let mut i = 0;
-    while i < n {
-        let a = age(state, n, i, time);
+    for row in Rows::of(state, n) {
+        let a = age(&row, time);
         high += a / HALF;
         low += a % HALF;
-        i += 1;
     }
     let rest = high % count * HALF + low;
     high / count * HALF + rest / count
@@ -80,21 +75,12 @@ fn stats_of(state: &[u8], n: usize, time: u64) -> CacheStats
     }
 }
 
-// The smallest expires_at of n rows, from the last row to the first.
+// The smallest expires_at of n rows.
 fn next_expiry_of(state: &[u8], n: usize) -> Option<u64>
     requires { head_size + n * row_size ≤ length state.now }
     ensures { result ≡ next_expiry (view_rows n state.now).rows }
 {
-    if n == 0 {
-        return None;
-    }
-    let mut i = n - 1;
-    let mut soonest = memory::row::expires_at(state, n, i);
-    while 0 < i {
-        i -= 1;
-        soonest = memory::row::expires_at(state, n, i).min(soonest);
-    }
-    Some(soonest)
+    Rows::of(state, n).map(|row| row.expires_at()).min()
 }
 
 pub fn stats_unchecked(state: &[u8], time: u64) -> CacheStats

@@ -9,11 +9,11 @@ use lib.ListN.{length}
 use Rattle.types.specs.Addresses.{same_addr}
 use Rattle.types.specs.Paths.{contains, root_of}
 use Rattle.rules.specs.Entries.{expired}
-use Rattle.rules.specs.Rows.{keep_rows, main_weight}
+use Rattle.rules.specs.Rows.{main_weight}
 use Rattle.types.specs.declared.node_addr.NodeAddr.{NodeAddr}
 use Rattle.rules.specs.Cases.{Every}
 use Rattle.rules.specs.Records.{Entry, Row, State, max_rows}
-use Rattle.rules.specs.Rows.{total, in_main, weigh_rows, with_only_rows}
+use Rattle.rules.specs.Rows.{total, in_main, weigh_rows}
 use Rattle.rules.specs.Sound.{sound}
 use Rattle.rules.specs.Lookups.{sweep, matching}
 use Rattle.rules.specs.Calls.{Call, Clear, PurgeExpired, InvalidateViaNode, InvalidateOtherRoots, Done, RowsRemoved, path_given, verified_write, draws_stamps}
@@ -27,7 +27,7 @@ use Rattle.rules.proofs.Foreign.{view_length}
 use Rattle.memory.specs.Edits.{OnlyRows, shrunk}
 use Rattle.memory.proofs.RowLaws.{only_shrunk}
 use Rattle.refusals.proofs.SoundCalls.{done_rows, not_refused}
-use Rattle.retention.specs.Sweep.{sweep_test, kept_rows, PathFit, PathsFit}
+use Rattle.retention.specs.Sweep.{kept_rows, PathFit, PathsFit, Swept}
 use Rattle.retention.proofs.KeptRows.{left_out}
 
 -- ---- the calls
@@ -42,36 +42,33 @@ sweepable l n h e =
     let s = sound_memory l n h e in
     (s.few, s.long, fit_rows (view_rows n l).seq (view_rows n l).rows s.sound.each, s.sound.counted ∙ s.rows, s.sound.stored_weight)
 
--- call q sweeps the entries of test p, which is the code's test of this kind, time and address
-pub record Sweeps (q : Call) (p : Entry → Bool) (kind time : ℕ) (a : NodeAddr) : Type 0 where
+-- call q sweeps the entries of test p
+pub record Sweeps (q : Call) (p : Entry → Bool) : Type 0 where
   pub does : (s : State) → perform s q ≡ sweeps p s
-  pub keeps : (rs : List Row) → kept_rows kind time a rs ≡ keep_rows (λ r. not (p r.entry)) rs
   pub allowed : (l : List ℕ) → sound (capacity l) (view l) ≡ true → refusal (capacity l) (view l) (Asked q) ≡ None
 
-pub purge_sweeps : (time : ℕ) (a : NodeAddr) → Sweeps (PurgeExpired time) (expired time) 0 time a
-unfolding perform kept_rows sweep_test path_given verified_write draws_stamps
-purge_sweeps time a = record { does = λ s. refl; keeps = λ rs. refl; allowed = λ l h. not_refused l (PurgeExpired time) h refl refl refl }
+pub purge_sweeps : (time : ℕ) → Sweeps (PurgeExpired time) (expired time)
+unfolding perform path_given verified_write draws_stamps
+purge_sweeps time = record { does = λ s. refl; allowed = λ l h. not_refused l (PurgeExpired time) h refl refl refl }
 
-pub via_sweeps : (time : ℕ) (a : NodeAddr) → Sweeps (InvalidateViaNode a) (λ e. contains a e.path) 1 time a
-unfolding perform kept_rows sweep_test path_given verified_write draws_stamps
-via_sweeps time a = record { does = λ s. refl; keeps = λ rs. refl; allowed = λ l h. not_refused l (InvalidateViaNode a) h refl refl refl }
+pub via_sweeps : (a : NodeAddr) → Sweeps (InvalidateViaNode a) (λ e. contains a e.path)
+unfolding perform path_given verified_write draws_stamps
+via_sweeps a = record { does = λ s. refl; allowed = λ l h. not_refused l (InvalidateViaNode a) h refl refl refl }
 
-pub roots_sweeps : (time : ℕ) (a : NodeAddr) → Sweeps (InvalidateOtherRoots a) (λ e. not (same_addr (root_of e.path) a)) 2 time a
-unfolding perform kept_rows sweep_test path_given verified_write draws_stamps
-roots_sweeps time a = record { does = λ s. refl; keeps = λ rs. refl; allowed = λ l h. not_refused l (InvalidateOtherRoots a) h refl refl refl }
+pub roots_sweeps : (a : NodeAddr) → Sweeps (InvalidateOtherRoots a) (λ e. not (same_addr (root_of e.path) a))
+unfolding perform path_given verified_write draws_stamps
+roots_sweeps a = record { does = λ s. refl; allowed = λ l h. not_refused l (InvalidateOtherRoots a) h refl refl refl }
 
 -- j of n rows stay
-pub sweep_done : {q : Call} {p : Entry → Bool} {kind time : ℕ} {a : NodeAddr} → Sweeps q p kind time a → (l : List ℕ) (n j : ℕ) (m : List ℕ)
-    → sound (capacity l) (view l) ≡ true → n ≡ (view_rows 0 l).row_count → Bytes m → length m ≡ length l
-    → (j ≤ n) × (j ≡ length (kept_rows kind time a (view_rows n l).rows)) × (view_rows j m ≡ with_only_rows (kept_rows kind time a (view_rows n l).rows) (view_rows n l))
+pub sweep_done : {q : Call} {p : Entry → Bool} → Sweeps q p → (l : List ℕ) (n j : ℕ) (m : List ℕ)
+    → sound (capacity l) (view l) ≡ true → n ≡ (view_rows 0 l).row_count → Bytes m → length m ≡ length l → Swept (λ r. p r.entry) n j l m
     → (RowsRemoved (n - j) ≡ (call l q).answer) × (m ≡ (call l q).memory)
-unfolding matching sweep sweeps gives
+unfolding matching sweep sweeps gives kept_rows
 sweep_done {q} {p} u l n j m h e b z w =
     let s = view_rows n l in
-    let k = u.keeps s.rows in
-    let v : view_rows j m ≡ (perform s q).state = w.2 ∙ ap (λ (x : List Row). with_only_rows x s) k ∙ ap (λ (x : Step). x.state) (sym (u.does s)) in
+    let v : view_rows j m ≡ (perform s q).state = w.1 ∙ ap (λ (x : Step). x.state) (sym (u.does s)) in
     let d = done_rows (sound_memory l n h e) q m j (u.allowed l h) b z v in
-    let r : n - j ≡ matching p s = omega (arith, left_out (λ x. p x.entry) s.rows, view_length n l, w.1 ∙ ap length k) in
+    let r : n - j ≡ matching p s = omega (arith, left_out (λ x. p x.entry) s.rows, view_length n l, w.0) in
     (ap RowsRemoved r ∙ ap (λ (x : Step). x.answer) (sym (u.does s)) ∙ d.answer, d.memory)
 
 -- ---- clear

@@ -8,8 +8,11 @@ ghost use Rattle.rules.specs.Answers.{said, done};
 ghost use Rattle.rules.specs.Memory.{capacity, view};
 ghost use Rattle.rules.specs.Lent.{call};
 
+use entries::path::{path_contains, root_is};
+use entries::times::is_expired;
+use retention::rows::retain_entries;
 use state::check::check_sound;
-use types::node_addr::{ADDRESS_BYTES, NodeAddr};
+use types::node_addr::NodeAddr;
 use types::refusal::Refusal;
 
 pub fn clear_unchecked(state: &mut [u8])
@@ -25,8 +28,7 @@ pub fn purge_expired_unchecked(state: &mut [u8], time: u64) -> u64
     ensures { (RowsRemoved result ≡ (call state.old (PurgeExpired time)).answer) × (state.new ≡ (call state.old (PurgeExpired time)).memory) }
 {
     let n = memory::head::row_count(state) as usize;
-    let none = NodeAddr([0u8; ADDRESS_BYTES]);
-    let kept = retention::rows::retain_entries(state, n, retention::rows::EXPIRED, time, none);
+    let kept = retain_entries(state, n, |row| is_expired(row, time));
     (n - kept) as u64
 }
 
@@ -35,7 +37,7 @@ pub fn invalidate_via_node_unchecked(state: &mut [u8], addr: NodeAddr) -> u64
     ensures { (RowsRemoved result ≡ (call state.old (InvalidateViaNode addr)).answer) × (state.new ≡ (call state.old (InvalidateViaNode addr)).memory) }
 {
     let n = memory::head::row_count(state) as usize;
-    let kept = retention::rows::retain_entries(state, n, retention::rows::VIA_NODE, 0, addr);
+    let kept = retain_entries(state, n, |row| path_contains(row, addr));
     (n - kept) as u64
 }
 
@@ -44,7 +46,7 @@ pub fn invalidate_other_roots_unchecked(state: &mut [u8], addr: NodeAddr) -> u64
     ensures { (RowsRemoved result ≡ (call state.old (InvalidateOtherRoots addr)).answer) × (state.new ≡ (call state.old (InvalidateOtherRoots addr)).memory) }
 {
     let n = memory::head::row_count(state) as usize;
-    let kept = retention::rows::retain_entries(state, n, retention::rows::OTHER_ROOT, 0, addr);
+    let kept = retain_entries(state, n, |row| !root_is(row, addr));
     (n - kept) as u64
 }
 

@@ -50,7 +50,7 @@ fn stored_without(state: &[u8], n: usize, i: usize) -> u64
     ensures { result ≡ weigh_rows in_main (without_row i (view_rows n state.now).rows) }
 {
     let stored = head::stored_weight(state);
-    let own = raw::numbers::wide(row::weight(state, n, i));
+    let own = raw::numbers::wide(row::row_at(state, n, i).weight());
     stored - own
 }
 
@@ -71,7 +71,7 @@ pub fn has_room_without(state: &[u8], n: usize, i: usize, w: u64) -> bool
     requires { (sound (capacity state.now) (view_rows n state.now) ≡ true) × (i < n) }
     ensures { result ≡ in_main (row_at i (view_rows n state.now).rows) && has_room (min w (weight_bound (view_rows n state.now).max_entries)) (take_out i (view_rows n state.now)) }
 {
-    if PROBATION <= row::place(state, n, i) {
+    if PROBATION <= row::row_at(state, n, i).place() {
         return false;
     }
     let max = head::max_entries(state);

@@ -16,6 +16,7 @@ use crate::in_place::{has_room_without, verify_in_place};
 use entries::new_entry::{NewEntry, new_entry, updated_entry, verified_entry, with_mtu};
 use filing::in_room::file_in_room;
 use memory::codes::BY_USE;
+use memory::row::row_at;
 use memory::rows::remove_row;
 use room::victims::make_room;
 use search::keys::search;
@@ -30,7 +31,7 @@ fn plain_entry(state: &[u8], n: usize, at: Result<usize, usize>, path: Path, tim
 {
     let ttl = memory::head::default_ttl(state);
     match at {
-        Ok(i) => verified_entry(updated_entry(state, n, i, path, time, ttl), time),
+        Ok(i) => verified_entry(updated_entry(&row_at(state, n, i), path, time, ttl), time),
         Err(_) => verified_entry(new_entry(path, time, ttl), time),
     }
 }

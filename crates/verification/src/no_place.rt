@@ -8,6 +8,7 @@ ghost use Rattle.rules.specs.Memory.{capacity, view_rows};
 use memory::bounds::probation_bound;
 use memory::codes::PROBATION;
 use memory::head;
+use memory::row::row_at;
 use room::closed_form::{main_len, room_can_be_made};
 use search::keys::search;
 use types::coord::Path;
@@ -19,7 +20,7 @@ fn key_in_main(state: &[u8], n: usize, key: NodeAddr) -> bool
 {
     let at = search(state, n, key);
     match at {
-        Ok(i) => memory::row::place(state, n, i) < PROBATION,
+        Ok(i) => row_at(state, n, i).place() < PROBATION,
         Err(_) => false,
     }
 }

@@ -1,30 +1,31 @@
--- The count plus the expired rows from i on is the whole number, and the count is at most i.
-use mathlib.Core.Bool.{cond}
+-- The sum of a 1 for each row that passes is their number, and at most n.
+use mathlib.Core.Path.{◌∙◌}
+use mir.Val.{bool_byte}
 use Prim.Native.Nat.{ℕ}
 use native.Mathlib.Omega.{arith}
+use Rattle.std.proofs.Common.{rules, tests, of_calls}
+use Rattle.std.proofs.lemmas.Iterator.{YieldsList-from_map}
+use Rattle.std.proofs.lemmas.Iterator.Consumers.{sum_from_yields_List, fits_from_yields_list, YieldsList-from_first, YieldsList-at}
 use Rattle.rules.specs.Records.{Row}
 use Rattle.rules.specs.Entries.{expired}
 use Rattle.rules.specs.Memory.{view_rows}
 use Rattle.rules.proofs.Foreign.{view_length}
-use Rattle.memory.proofs.RowSums.{total_end, one_at_most, count_turn}
+use Rattle.memory.proofs.RowSums.{sum_count, count_few}
 use Rattle.statistics.proofs.count_expired.Goals as goal
 
-abbrev one : ℕ → Row → ℕ
-one time x = cond (expired time x.entry) 1 0
-
-pub overflow_add-count : goal.overflow_add-count
-overflow_add-count c =
-    let h = c.loop-i.invariant.1 in
-    omega (arith, one_at_most c.is_expired.result, c.requires.0)
-
-pub loop-i-preserved : goal.loop-i-preserved
-loop-i-preserved c =
-    let v = c.loop-i.invariant in
+pub sum-requires : goal.sum-requires
+sum-requires c =
+    let passes : Row → _ = λ r. expired c.args.time r.entry in
+    let one : Row → ℕ = λ r. bool_byte (passes r) in
     let rs = (view_rows c.args.n c.args.state.now).rows in
-    let w = count_turn (λ x. expired c.args.time x.entry) c.loop-i.i _ _ _ rs (omega (arith, view_length c.args.n c.args.state.now)) c.is_expired.ensures v.2 in
-    (omega arith, omega (arith, v.1, one_at_most c.is_expired.result), w)
+    record {
+      can = search of_calls;
+      finite = search of_calls;
+      fits = fits_from_yields_list c.map.result _ (YieldsList-from_map _ one (YieldsList-at c.map.ensures.source (YieldsList-from_first (λ x. x) (λ s. s) _ c.of.ensures.rows)) c.map.ensures.closure (λ x r q k. search (rules, tests))) (omega (arith, sum_count passes rs, count_few passes rs, view_length c.args.n c.args.state.now, c.ranges.n.fits));
+    }
 
 pub returns : goal.returns
 returns c =
-    let v = c.loop-i in
-    omega (arith, v.invariant.2, total_end (one c.args.time) v.i (view_rows c.args.n c.args.state.now).rows (omega (arith, view_length c.args.n c.args.state.now)))
+    let passes : Row → _ = λ r. expired c.args.time r.entry in
+    let one : Row → ℕ = λ r. bool_byte (passes r) in
+    sum_from_yields_List c.map.result _ c.sum.ensures.ran (YieldsList-from_map _ one (YieldsList-at c.map.ensures.source (YieldsList-from_first (λ x. x) (λ s. s) _ c.of.ensures.rows)) c.map.ensures.closure (λ x r q k. search (rules, tests))) ∙ sum_count passes _

@@ -1,4 +1,9 @@
--- Kind OTHER_ROOT keeps the rows whose root is the address, as the rule does, and n - kept counts the others.
+-- Sound rows have paths of 1 to 32 elements, so each has a root; a row leaves where that is another.
+use mathlib.Core.Bool.{Bool, not}
+use Rattle.std.proofs.Common.{rules, tests}
+use Rattle.types.specs.Addresses.{same_addr}
+use Rattle.types.specs.Paths.{root_of}
+use Rattle.rules.specs.Records.{Row}
 use Rattle.rules.proofs.MemoryLaws.{all_bytes}
 use Rattle.refusals.proofs.SoundCalls.{head_there}
 use Rattle.sweeps.proofs.SweepCalls.{sweepable, sweep_done, roots_sweeps}
@@ -8,9 +13,10 @@ pub row_count-n-requires : goal.row_count-n-requires
 row_count-n-requires c = head_there _ c.requires
 
 pub retain_entries-kept-requires : goal.retain_entries-kept-requires
-retain_entries-kept-requires c = sweepable _ _ c.requires c.row_count-n.ensures
+retain_entries-kept-requires c = record { rows = sweepable _ _ c.requires c.row_count-n.ensures; callable = λ y f. search rules }
 
 pub returns : goal.returns
 returns c =
     let r = c.retain_entries-kept in
-    sweep_done (roots_sweeps _ c.args.addr) _ _ _ _ c.requires c.row_count-n.ensures (all_bytes r.new.state (λ i. (c.slice_known-2-1.given i).fits)) r.auto.state r.ensures
+    let test : Row → Bool = λ r. not (same_addr (root_of r.entry.path) c.args.addr) in
+    sweep_done (roots_sweeps c.args.addr) _ _ _ _ c.requires c.row_count-n.ensures (all_bytes r.new.state (λ i. (c.slice_known-2-1.given i).fits)) r.auto.state (r.ensures.swept test (λ x b f k. search (rules, tests)))

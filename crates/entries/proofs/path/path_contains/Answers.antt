@@ -4,7 +4,7 @@ use native.Mathlib.Omega.{arith}
 use borrow.Author.Rules.{rules}
 use Rattle.types.specs.Paths.{elements, contains}
 use Rattle.types.proofs.PathLaws.{among_end}
-use Rattle.entries.proofs.PathElements.{row_path, elements_length, search_hit, search_miss}
+use Rattle.entries.proofs.PathElements.{elements_length, search_hit, search_miss}
 use Rattle.entries.proofs.path.path_contains.Goals as goal
 
 pub loop-k-init : goal.loop-k-init
@@ -12,10 +12,10 @@ unfolding contains
 loop-k-init c = search rules
 
 pub returns-then-addr_at : goal.returns-then-addr_at
-returns-then-addr_at c = sym (c.loop-k.invariant.1 ∙ search_hit c.args.n c.args.i c.args.state.now c.requires.0 c.args.a c.loop-k.k c.requires.2 (omega arith) (sym c.addr_at.ensures ∙ c.if-addr_at.true))
+returns-then-addr_at c = sym (c.loop-k.invariant ∙ search_hit _ _ c.bytes-bytes.ensures.row c.args.a c.loop-k.k c.requires (omega (arith, c.path_len-len.ensures)) (sym c.addr_at.ensures ∙ c.if-addr_at.true))
 
 pub loop-k-preserved : goal.loop-k-preserved
-loop-k-preserved c = (omega arith, c.loop-k.invariant.1 ∙ search_miss c.args.n c.args.i c.args.state.now c.requires.0 c.args.a c.loop-k.k c.requires.2 (omega arith) (sym c.addr_at.ensures ∙ c.if-addr_at.false))
+loop-k-preserved c = c.loop-k.invariant ∙ search_miss _ _ c.bytes-bytes.ensures.row c.args.a c.loop-k.k c.requires (omega (arith, c.path_len-len.ensures)) (sym c.addr_at.ensures ∙ c.if-addr_at.false)
 
 pub returns : goal.returns
-returns c = sym (c.loop-k.invariant.1 ∙ among_end c.args.a (elements (row_path c.args.n c.args.i c.args.state.now)) c.loop-k.k (omega (arith, elements_length c.args.n c.args.i c.args.state.now c.requires.0 c.requires.2)))
+returns c = sym (c.loop-k.invariant ∙ among_end c.args.a (elements c.args.row.now.entry.path) c.loop-k.k (omega (arith, c.path_len-len.ensures, elements_length _ _ c.bytes-bytes.ensures.row c.requires)))

@@ -5,4 +5,4 @@ use Rattle.entries.proofs.PathElements.{root_place}
 use Rattle.entries.proofs.path.root_is.Goals as goal
 
 pub returns : goal.returns
-returns c = rw (root_place c.args.n c.args.i c.args.state.now c.requires.0 c.requires.2 c.requires.3, ← c.path_len-len.ensures) (c.addr_at.ensures ∙ same_sym c.args.a _)
+returns c = rw (root_place _ _ c.bytes.ensures.row c.requires.0 c.requires.1, ← c.path_len-len.ensures) (c.addr_at.ensures ∙ same_sym c.args.a _)

@@ -3,6 +3,8 @@ use Rattle.rules.proofs.MemoryLaws.{all_bytes}
 use Rattle.refusals.proofs.SoundCalls.{head_there, searchable}
 use Rattle.refusals.proofs.SearchedKeys.{Searched, held, absent, row_asked, removal_asked}
 use Rattle.lookups.proofs.RemovedRows.{removed_at, removed_absent}
+use mathlib.Core.Path.{ap, ◌∙◌}
+use Rattle.rules.specs.Records.{Row, entry_value}
 use Rattle.lookups.proofs.remove.remove_unchecked.Goals as goal
 
 pub row_count-n-requires : goal.row_count-n-requires
@@ -11,8 +13,8 @@ row_count-n-requires c = head_there _ c.requires
 pub search-at-requires : goal.search-at-requires
 search-at-requires c = searchable _ _ c.requires c.row_count-n.ensures
 
-pub load_entry-entry-requires : goal.load_entry-entry-requires
-load_entry-entry-requires c =
+pub row_at-requires : goal.row_at-requires
+row_at-requires c =
     let key_searched : Searched c.args.key c.row_count-n.result c.search-at.result c.args.state.now = record { sound = c.requires; counted = c.row_count-n.ensures; outcome = c.search-at.ensures } in
     row_asked (held key_searched c.in-Ok.is)
 
@@ -25,7 +27,7 @@ pub returns-in-Ok : goal.returns-in-Ok
 returns-in-Ok c =
     let key_searched : Searched c.args.key c.row_count-n.result c.search-at.result c.args.state.now = record { sound = c.requires; counted = c.row_count-n.ensures; outcome = c.search-at.ensures } in
     let bytes = all_bytes c.remove_row.new.state (λ i. (c.slice_known-in-Ok-1.given i).fits) in
-    removed_at (held key_searched c.in-Ok.is) _ _ bytes c.remove_row.auto.state c.load_entry-entry.ensures c.remove_row.ensures
+    removed_at (held key_searched c.in-Ok.is) _ _ bytes c.remove_row.auto.state (c.load_entry-entry.ensures ∙ ap (λ (r : Row). entry_value r.entry) c.row_at.ensures) c.remove_row.ensures
 
 pub returns-in-Err : goal.returns-in-Err
 returns-in-Err c =

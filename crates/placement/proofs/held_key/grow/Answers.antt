@@ -1,5 +1,5 @@
 -- The row taken out leaves main below M, so there is a row to file in; the saved bytes are row i, and unmade room leaves no victim.
-use mathlib.Core.Path.{refl}
+use mathlib.Core.Path.{refl, ap, ◌∙◌}
 use Prim.Native.Nat.{◌-◌}
 use Rattle.rules.specs.Placement.{place_result, rejected, grow}
 use Rattle.room.specs.Rooms.{room_of}
@@ -7,10 +7,12 @@ use Rattle.room.proofs.LeftVictims.{without_none}
 use Rattle.filing.proofs.FiledInRoom.{rows_there}
 use Rattle.filing.proofs.RoomSought.{Sought, sought_for}
 use Rattle.placement.proofs.HeldKeys.{Out, row_there, out_asks, out_room_asks, out_takes, unmade, room_there, saved_row}
+use Rattle.rules.specs.Records.{Row}
+use Rattle.rules.specs.Entries.{update}
 use Rattle.placement.proofs.held_key.grow.Goals as goal
 
-pub updated_entry-e-requires : goal.updated_entry-e-requires
-updated_entry-e-requires c = search row_there
+pub row_at-requires : goal.row_at-requires
+row_at-requires c = search row_there
 
 pub save_row-saved-requires : goal.save_row-saved-requires
 save_row-saved-requires c = search row_there
@@ -34,7 +36,7 @@ unfolding grow place_result room_of
 returns-then-room-stated c =
     let out : (Out c.args.key c.args.n c.args.i c.args.state.now c.remove_row.new.state) = record { holds = c.requires.0.holds; size = c.remove_row.auto.state; state = c.remove_row.ensures } in
     let room : (Sought c.remove_row.new.state c.make_room-room.new.state (c.args.n - 1) c.args.time c.args.weight c.make_room-room.result) = sought_for c.wide-w.ensures.0 c.make_room-room.auto.state c.make_room-room.ensures in
-    rw (← (room_there out room), c.if-room-stated.true, ← c.requires.0.outcome, ← c.updated_entry-e.ensures.0, ← c.requires.1)
+    rw (← (room_there out room), c.if-room-stated.true, ← c.requires.0.outcome, ← (c.updated_entry-e.ensures.0 ∙ ap (λ (r : Row). update c.args.path c.args.time c.args.ttl r.entry) c.row_at.ensures), ← c.requires.1)
     (record { says = refl; state = c.file_in_room.ensures })
 
 pub file_unchanged-requires : goal.file_unchanged-requires

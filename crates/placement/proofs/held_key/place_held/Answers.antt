@@ -2,53 +2,49 @@
 use mathlib.Core.Path.{◌≡◌, refl, ap, ◌∙◌}
 use mathlib.Core.Bool.{Bool, true, false, cond}
 use Rattle.types.specs.declared.placed.HintOutcome.TheVariants.{Changed, Unchanged}
-use Rattle.rules.specs.Records.{Row}
 use Rattle.rules.specs.Rows.{in_main}
 use Rattle.rules.specs.Placement.{place_result, rejected, held_outcome, stays_verified, place_held}
 use Rattle.filing.proofs.FiledInRoom.{rows_there}
 use Rattle.placement.specs.Placements.{row_in, HeldHint}
 use Rattle.placement.proofs.HeldKeys.{row_there, stays_unstated, stays_same, goes_on, main_of, main_not}
+use Rattle.rules.specs.Entries.{verified}
+use Rattle.types.specs.Paths.{same_path}
+use Rattle.rules.specs.Records.{Row}
 use Rattle.placement.proofs.held_key.place_held.Goals as goal
 
-pub is_verified-verified-requires : goal.is_verified-verified-requires
-is_verified-verified-requires c = search row_there
+pub row_at-row-requires : goal.row_at-row-requires
+row_at-row-requires c = search row_there
 
 pub returns-then-verified-stated : goal.returns-then-verified-stated
 unfolding place_held rejected place_result
 returns-then-verified-stated c =
     let row : Row = row_in c.args.n c.args.i c.args.state.now in
-    rw (stays_unstated c.args.path c.args.time c.args.stated row c.is_verified-verified.ensures c.if-verified-stated.true)
+    rw (stays_unstated c.args.path c.args.time c.args.stated row (c.is_verified-verified.ensures ∙ ap (λ (r : Row). verified c.args.time r.entry) c.row_at-row.ensures) c.if-verified-stated.true)
     (record { says = c.reject.ensures; state = rows_there c.args.n _ _ refl })
-
-pub path_is-same-requires : goal.path_is-same-requires
-path_is-same-requires c = search row_there
 
 pub returns-then-verified-same : goal.returns-then-verified-same
 unfolding place_held rejected place_result
 returns-then-verified-same c =
     let row : Row = row_in c.args.n c.args.i c.args.state.now in
-    rw (stays_same c.args.path c.args.time c.args.stated row c.is_verified-verified.ensures c.path_is-same.ensures c.if-verified-same.true)
+    rw (stays_same c.args.path c.args.time c.args.stated row (c.is_verified-verified.ensures ∙ ap (λ (r : Row). verified c.args.time r.entry) c.row_at-row.ensures) (c.path_is-same.ensures ∙ ap (λ (r : Row). same_path r.entry.path c.args.path) c.row_at-row.ensures) c.if-verified-same.true)
     (record { says = c.reject-then-verified-same.ensures; state = rows_there c.args.n _ _ refl })
-
-pub place-requires : goal.place-requires
-place-requires c = search row_there
 
 pub place_main-requires : goal.place_main-requires
 unfolding held_outcome
 place_main-requires c =
     let row : Row = row_in c.args.n c.args.i c.args.state.now in
     let hint : (b : Bool)
-    → (in_main row ≡ b → HeldHint c.args.key c.args.path c.outcome_of-outcome.result b c.args.n c.args.i c.args.state.now) = λ b m. let o = c.outcome_of-outcome.ensures ∙ ap (λ (same : Bool). cond same Unchanged Changed) c.path_is-same.ensures in
+    → (in_main row ≡ b → HeldHint c.args.key c.args.path c.outcome_of-outcome.result b c.args.n c.args.i c.args.state.now) = λ b m. let o = c.outcome_of-outcome.ensures ∙ ap (λ (same : Bool). cond same Unchanged Changed) (c.path_is-same.ensures ∙ ap (λ (r : Row). same_path r.entry.path c.args.path) c.row_at-row.ensures) in
     record { holds = c.requires.0; path = c.requires.1; seq = c.requires.2; main = m; outcome = o } in
-    let in_main_lem : in_main row ≡ true = main_of row c.place.ensures c.if-place-lt-PROBATION.true in
+    let in_main_lem : in_main row ≡ true = main_of row (c.place.ensures ∙ ap (λ (r : Row). r.place) c.row_at-row.ensures) c.if-place-lt-PROBATION.true in
     hint true in_main_lem
 
 pub returns-then-place-lt-PROBATION : goal.returns-then-place-lt-PROBATION
 unfolding place_held
 returns-then-place-lt-PROBATION c =
     let row : Row = row_in c.args.n c.args.i c.args.state.now in
-    let goes : (stays_verified c.args.path c.args.time c.args.stated row ≡ false) = goes_on c.args.path c.args.time c.args.stated row c.is_verified-verified.ensures c.path_is-same.ensures c.if-verified-stated.false c.if-verified-same.false in
-    let in_main_lem : in_main row ≡ true = main_of row c.place.ensures c.if-place-lt-PROBATION.true in
+    let goes : (stays_verified c.args.path c.args.time c.args.stated row ≡ false) = goes_on c.args.path c.args.time c.args.stated row (c.is_verified-verified.ensures ∙ ap (λ (r : Row). verified c.args.time r.entry) c.row_at-row.ensures) (c.path_is-same.ensures ∙ ap (λ (r : Row). same_path r.entry.path c.args.path) c.row_at-row.ensures) c.if-verified-stated.false c.if-verified-same.false in
+    let in_main_lem : in_main row ≡ true = main_of row (c.place.ensures ∙ ap (λ (r : Row). r.place) c.row_at-row.ensures) c.if-place-lt-PROBATION.true in
     rw (goes, in_main_lem) c.place_main.ensures
 
 pub place_probation-requires : goal.place_probation-requires
@@ -56,15 +52,15 @@ unfolding held_outcome
 place_probation-requires c =
     let row : Row = row_in c.args.n c.args.i c.args.state.now in
     let hint : (b : Bool)
-    → (in_main row ≡ b → HeldHint c.args.key c.args.path c.outcome_of-outcome.result b c.args.n c.args.i c.args.state.now) = λ b m. let o = c.outcome_of-outcome.ensures ∙ ap (λ (same : Bool). cond same Unchanged Changed) c.path_is-same.ensures in
+    → (in_main row ≡ b → HeldHint c.args.key c.args.path c.outcome_of-outcome.result b c.args.n c.args.i c.args.state.now) = λ b m. let o = c.outcome_of-outcome.ensures ∙ ap (λ (same : Bool). cond same Unchanged Changed) (c.path_is-same.ensures ∙ ap (λ (r : Row). same_path r.entry.path c.args.path) c.row_at-row.ensures) in
     record { holds = c.requires.0; path = c.requires.1; seq = c.requires.2; main = m; outcome = o } in
-    let in_probation_lem : in_main row ≡ false = main_not row c.place.ensures c.if-place-lt-PROBATION.false in
+    let in_probation_lem : in_main row ≡ false = main_not row (c.place.ensures ∙ ap (λ (r : Row). r.place) c.row_at-row.ensures) c.if-place-lt-PROBATION.false in
     hint false in_probation_lem
 
 pub returns : goal.returns
 unfolding place_held
 returns c =
     let row : Row = row_in c.args.n c.args.i c.args.state.now in
-    let goes : (stays_verified c.args.path c.args.time c.args.stated row ≡ false) = goes_on c.args.path c.args.time c.args.stated row c.is_verified-verified.ensures c.path_is-same.ensures c.if-verified-stated.false c.if-verified-same.false in
-    let in_probation_lem : in_main row ≡ false = main_not row c.place.ensures c.if-place-lt-PROBATION.false in
+    let goes : (stays_verified c.args.path c.args.time c.args.stated row ≡ false) = goes_on c.args.path c.args.time c.args.stated row (c.is_verified-verified.ensures ∙ ap (λ (r : Row). verified c.args.time r.entry) c.row_at-row.ensures) (c.path_is-same.ensures ∙ ap (λ (r : Row). same_path r.entry.path c.args.path) c.row_at-row.ensures) c.if-verified-stated.false c.if-verified-same.false in
+    let in_probation_lem : in_main row ≡ false = main_not row (c.place.ensures ∙ ap (λ (r : Row). r.place) c.row_at-row.ensures) c.if-place-lt-PROBATION.false in
     rw (goes, in_probation_lem) c.place_probation.ensures

@@ -2,10 +2,13 @@
 use Prim.Native.Nat.{◌-◌}
 use Rattle.filing.proofs.RoomSought.{Sought, sought_for}
 use Rattle.placement.proofs.HeldKeys.{Out, row_there, out_asks, out_room_asks, out_takes, promoted_is}
+use mathlib.Core.Path.{ap, ◌∙◌}
+use Rattle.rules.specs.Records.{Row}
+use Rattle.rules.specs.Entries.{update}
 use Rattle.placement.proofs.held_key.promote.Goals as goal
 
-pub updated_entry-e-requires : goal.updated_entry-e-requires
-updated_entry-e-requires c = search row_there
+pub row_at-requires : goal.row_at-requires
+row_at-requires c = search row_there
 
 pub remove_row-requires : goal.remove_row-requires
 remove_row-requires c = search out_asks
@@ -25,5 +28,5 @@ pub returns : goal.returns
 returns c =
     let out : Out c.args.key c.args.n c.args.i c.args.state.now c.remove_row.new.state = record { holds = c.requires.holds; size = c.remove_row.auto.state; state = c.remove_row.ensures } in
     let room : (Sought c.remove_row.new.state c.make_room-room.new.state (c.args.n - 1) c.args.time c.args.weight c.make_room-room.result) = sought_for c.wide.ensures.0 c.make_room-room.auto.state c.make_room-room.ensures in
-    promoted_is out room c.requires _ _ c.updated_entry-e.ensures.0 c.place_for-place.ensures
+    promoted_is out room c.requires _ _ (c.updated_entry-e.ensures.0 ∙ ap (λ (r : Row). update c.args.path c.args.time c.args.ttl r.entry) c.row_at.ensures) c.place_for-place.ensures
     c.wide-2.ensures.0 c.promoted.ensures c.file_in_room.ensures

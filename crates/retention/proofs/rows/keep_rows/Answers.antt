@@ -1,19 +1,44 @@
 -- The first j rows are those kept of the first i, and the rows from i on are still as they were.
+use mathlib.Core.Path.{sym, subst, ◌∙◌}
 use native.Mathlib.Omega.{arith}
-use Rattle.retention.proofs.KeptRows.{kept_start, kept_turn, kept_end, row_fits}
+use mathlib.Core.Bool.{true, false}
+use Rattle.rules.specs.Records.{Row}
+use Rattle.std.proofs.iter.Next.{says_at}
+use Rattle.std.specs.Fn.{FnReturnsAt}
+use Rattle.retention.specs.Sweep.{PathFit}
+use Rattle.retention.proofs.KeptRows.{kept_start, kept_end, path_at, same_row, row_leaves, row_stays}
 use Rattle.retention.proofs.rows.keep_rows.Goals as goal
 
 pub loop-i-init : goal.loop-i-init
-loop-i-init c = kept_start
+loop-i-init g c = kept_start
 
-pub pass_row-j-requires : goal.pass_row-j-requires
-pass_row-j-requires c =
-    let p = c.requires in
+pub row_at-requires : goal.row_at-requires
+row_at-requires g c = (c.loop-i-test.true, omega (arith, c.loop-i.invariant.long, c.requires.rows.0))
+
+pub leaves-requires : goal.leaves-requires
+leaves-requires g c =
+    let h = c.loop-i-test.true in
+    let e = c.row_at.ensures ∙ same_row c.loop-i.invariant h in
+    c.requires.callable _ (subst PathFit (sym e) (path_at _ _ _ h c.requires.rows.1))
+
+pub loop-i-preserved-then-leaves : goal.loop-i-preserved-then-leaves
+loop-i-preserved-then-leaves g c =
+    let h = c.loop-i-test.true in
     let q = c.loop-i.invariant in
-    (q.below, c.loop-i-test.true, omega (arith, p.0, q.long), row_fits q c.loop-i-test.true p.1)
+    let s = says_at g.F.Fn c.leaves.ensures c.if-leaves.true in
+    row_leaves q h c.requires.rows.1 (subst (λ (r : Row). FnReturnsAt g.F.Fn c.args.leaves.now r true) (c.row_at.ensures ∙ same_row q h) s)
+
+pub keep_row-requires : goal.keep_row-requires
+keep_row-requires g c =
+    let q = c.loop-i.invariant in
+    (q.below, c.loop-i-test.true, omega (arith, q.long, c.requires.rows.0))
 
 pub loop-i-preserved : goal.loop-i-preserved
-loop-i-preserved c = kept_turn c.loop-i.invariant c.loop-i-test.true c.requires.0 c.pass_row-j.auto.state c.pass_row-j.ensures
+loop-i-preserved g c =
+    let h = c.loop-i-test.true in
+    let q = c.loop-i.invariant in
+    let s = says_at g.F.Fn c.leaves.ensures c.if-leaves.false in
+    row_stays q h c.requires.rows.1 c.requires.rows.0 c.keep_row.auto.state c.keep_row.ensures (subst (λ (r : Row). FnReturnsAt g.F.Fn c.args.leaves.now r false) (c.row_at.ensures ∙ same_row q h) s)
 
 pub returns : goal.returns
-returns c = kept_end c.loop-i.invariant c.loop-i-test.false
+returns g c = kept_end c.loop-i.invariant c.loop-i-test.false

@@ -1,6 +1,7 @@
--- Where no row matches, the rows kept are all rows, and the head's count and weight are theirs already.
+-- Where no row leaves, the rows kept are all rows, and the head's count and weight are theirs already.
+use native.Mathlib.Omega.{arith}
 use Rattle.retention.proofs.KeptRows.{unswept}
 use Rattle.retention.proofs.rows.retain_entries.Goals as goal
 
 pub returns : goal.returns
-returns c = unswept _ _ _ _ _ c.requires.3 c.requires.4 (c.any_matches.ensures c.if-any_matches.false)
+returns g c = record { few = omega arith; swept = λ test t. unswept test _ _ c.requires.rows.3 c.requires.rows.4 (c.any_leaves.ensures c.if-any_leaves.false test t) }

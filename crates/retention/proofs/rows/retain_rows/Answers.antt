@@ -3,4 +3,4 @@ use Rattle.retention.proofs.KeptRows.{swept}
 use Rattle.retention.proofs.rows.retain_rows.Goals as goal
 
 pub returns : goal.returns
-returns c = swept _ _ _ _ c.keep_rows-kept.ensures c.weight_of-stored.ensures c.shrink.ensures
+returns g c = record { few = c.keep_rows-kept.ensures.few; swept = swept _ c.keep_rows-kept.ensures c.weight_of-stored.ensures c.shrink.ensures }

@@ -1,5 +1,7 @@
 -- Restamping leaves probation at Q rows, its bound in a sound state, so without the first row not stale there is room.
+use mathlib.Core.Path.{ap, ◌∙◌}
 use native.Mathlib.Omega.{arith}
+use Rattle.rules.specs.Room.{stale}
 use Rattle.room.proofs.ProbationVictims.{Taken, Turned, room_free, evict_start, evict_ends, taken, key_fits, restamp_asks, stale_turn, fresh_yields}
 use Rattle.room.proofs.probation.make_probation_room.Goals as goal
 
@@ -21,8 +23,8 @@ overflow_add-examined c =
     let up : Taken c.args.n c.loop-victim.examined c.stored_weight-stored.result c.in-Some.i c.args.state.now c.loop-victim.state = let v = c.loop-victim.invariant in taken v.0 v.1 c.in-Some.is in
     omega (arith, key_fits up)
 
-pub is_stale-requires : goal.is_stale-requires
-is_stale-requires c =
+pub row_at-requires : goal.row_at-requires
+row_at-requires c =
     let up : Taken c.args.n c.loop-victim.examined c.stored_weight-stored.result c.in-Some.i c.args.state.now c.loop-victim.state = let v = c.loop-victim.invariant in taken v.0 v.1 c.in-Some.is in
     let u = up in (u.inside, u.going.size)
 
@@ -34,22 +36,22 @@ restamp-requires c =
 pub lowest_stamp-again-requires : goal.lowest_stamp-again-requires
 lowest_stamp-again-requires c =
     let up : Taken c.args.n c.loop-victim.examined c.stored_weight-stored.result c.in-Some.i c.args.state.now c.loop-victim.state = let v = c.loop-victim.invariant in taken v.0 v.1 c.in-Some.is in
-    let restamped : Turned c.args.n c.loop-victim.examined c.stored_weight-stored.result c.args.state.now c.loop-victim.state c.restamp.new.state = stale_turn up c.is_stale.ensures c.if-is_stale.true c.restamp.auto.state c.restamp.ensures in
+    let restamped : Turned c.args.n c.loop-victim.examined c.stored_weight-stored.result c.args.state.now c.loop-victim.state c.restamp.new.state = stale_turn up (c.is_stale.ensures ∙ ap stale c.row_at.ensures) c.if-is_stale.true c.restamp.auto.state c.restamp.ensures in
     restamped.going.size
 
 pub loop-victim-smaller : goal.loop-victim-smaller
 loop-victim-smaller c =
     let up : Taken c.args.n c.loop-victim.examined c.stored_weight-stored.result c.in-Some.i c.args.state.now c.loop-victim.state = let v = c.loop-victim.invariant in taken v.0 v.1 c.in-Some.is in
-    let restamped : Turned c.args.n c.loop-victim.examined c.stored_weight-stored.result c.args.state.now c.loop-victim.state c.restamp.new.state = stale_turn up c.is_stale.ensures c.if-is_stale.true c.restamp.auto.state c.restamp.ensures in
+    let restamped : Turned c.args.n c.loop-victim.examined c.stored_weight-stored.result c.args.state.now c.loop-victim.state c.restamp.new.state = stale_turn up (c.is_stale.ensures ∙ ap stale c.row_at.ensures) c.if-is_stale.true c.restamp.auto.state c.restamp.ensures in
     restamped.less
 
 pub loop-victim-preserved : goal.loop-victim-preserved
 loop-victim-preserved c =
     let up : Taken c.args.n c.loop-victim.examined c.stored_weight-stored.result c.in-Some.i c.args.state.now c.loop-victim.state = let v = c.loop-victim.invariant in taken v.0 v.1 c.in-Some.is in
-    let restamped : Turned c.args.n c.loop-victim.examined c.stored_weight-stored.result c.args.state.now c.loop-victim.state c.restamp.new.state = stale_turn up c.is_stale.ensures c.if-is_stale.true c.restamp.auto.state c.restamp.ensures in
+    let restamped : Turned c.args.n c.loop-victim.examined c.stored_weight-stored.result c.args.state.now c.loop-victim.state c.restamp.new.state = stale_turn up (c.is_stale.ensures ∙ ap stale c.row_at.ensures) c.if-is_stale.true c.restamp.auto.state c.restamp.ensures in
     (restamped.going, c.lowest_stamp-again.ensures.row)
 
 pub returns-else-is_stale : goal.returns-else-is_stale
 returns-else-is_stale c =
     let up : Taken c.args.n c.loop-victim.examined c.stored_weight-stored.result c.in-Some.i c.args.state.now c.loop-victim.state = let v = c.loop-victim.invariant in taken v.0 v.1 c.in-Some.is in
-    fresh_yields up c.is_stale.ensures c.if-is_stale.false
+    fresh_yields up (c.is_stale.ensures ∙ ap stale c.row_at.ensures) c.if-is_stale.false

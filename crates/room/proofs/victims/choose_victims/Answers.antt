@@ -1,7 +1,8 @@
 -- Each victim set aside takes 1 from the count and its weight from main's sum; what is still to choose stays the same.
-use mathlib.Core.Path.{refl, sym, ◌∙◌}
+use mathlib.Core.Path.{refl, sym, ap, ◌∙◌}
 use Prim.Native.Nat.{◌+◌, ◌-◌}
 use native.Mathlib.Omega.{arith}
+use Rattle.rules.specs.Records.{Row}
 use Rattle.rules.proofs.Addresses.{contradiction}
 use Rattle.room.specs.Rooms.{chosen_of}
 use Rattle.room.proofs.ChosenVictims.{Call, Choice, Victim, Came, choice_start, choice_asks, choice_seq, chosen_enough, set_aside_lem, came}
@@ -36,8 +37,8 @@ overflow_sub-left c =
     let victim : Victim call c.loop-i.left c.loop-i.stored (c.loop-i.examined + c.next_victim-sought.result.examined) c.in-Some.i c.next_victim-sought.new.state = step.victim c.in-Some.is in
     victim.some_left
 
-pub weight-requires : goal.weight-requires
-weight-requires c =
+pub row_at-requires : goal.row_at-requires
+row_at-requires c =
     let call : Call = record { now = c.args.time; w = c.args.w; n = c.args.n; memory = c.args.state.now; max = c.max_entries-max.result; mains = c.args.lowest.count } in
     let step : Came call c.loop-i.left c.loop-i.stored c.loop-i.examined c.next_victim-sought.new.state c.next_victim-sought.result = let v = c.loop-i.invariant in came v.0 v.2 c.next_victim-sought.auto.state c.next_victim-sought.ensures in
     let victim : Victim call c.loop-i.left c.loop-i.stored (c.loop-i.examined + c.next_victim-sought.result.examined) c.in-Some.i c.next_victim-sought.new.state = step.victim c.in-Some.is in
@@ -48,7 +49,7 @@ overflow_sub-stored c =
     let call : Call = record { now = c.args.time; w = c.args.w; n = c.args.n; memory = c.args.state.now; max = c.max_entries-max.result; mains = c.args.lowest.count } in
     let step : Came call c.loop-i.left c.loop-i.stored c.loop-i.examined c.next_victim-sought.new.state c.next_victim-sought.result = let v = c.loop-i.invariant in came v.0 v.2 c.next_victim-sought.auto.state c.next_victim-sought.ensures in
     let victim : Victim call c.loop-i.left c.loop-i.stored (c.loop-i.examined + c.next_victim-sought.result.examined) c.in-Some.i c.next_victim-sought.new.state = step.victim c.in-Some.is in
-    omega (arith, victim.enough, c.wide-stored.ensures.0 ∙ c.weight.ensures)
+    omega (arith, victim.enough, c.wide-stored.ensures.0 ∙ c.weight.ensures ∙ ap (λ (r : Row). r.weight) c.row_at.ensures)
 
 pub set_place-requires : goal.set_place-requires
 set_place-requires c =
@@ -63,7 +64,7 @@ has_room-requires c =
     let step : Came call c.loop-i.left c.loop-i.stored c.loop-i.examined c.next_victim-sought.new.state c.next_victim-sought.result = let v = c.loop-i.invariant in came v.0 v.2 c.next_victim-sought.auto.state c.next_victim-sought.ensures in
     let victim : Victim call c.loop-i.left c.loop-i.stored (c.loop-i.examined + c.next_victim-sought.result.examined) c.in-Some.i c.next_victim-sought.new.state = step.victim c.in-Some.is in
     let gone : let stored = c.loop-i.stored - c.wide-stored.result in
-    Choice call (c.loop-i.left - 1) stored c.in-Some.i (c.loop-i.examined + c.next_victim-sought.result.examined) c.set_place.new.state = victim.goes (c.wide-stored.ensures.0 ∙ c.weight.ensures) c.set_place.auto.state c.set_place.ensures in
+    Choice call (c.loop-i.left - 1) stored c.in-Some.i (c.loop-i.examined + c.next_victim-sought.result.examined) c.set_place.new.state = victim.goes (c.wide-stored.ensures.0 ∙ c.weight.ensures ∙ ap (λ (r : Row). r.weight) c.row_at.ensures) c.set_place.auto.state c.set_place.ensures in
     choice_asks gone
 
 pub returns-then-has_room : goal.returns-then-has_room
@@ -73,7 +74,7 @@ returns-then-has_room c =
     let step : Came call c.loop-i.left c.loop-i.stored c.loop-i.examined c.next_victim-sought.new.state c.next_victim-sought.result = let v = c.loop-i.invariant in came v.0 v.2 c.next_victim-sought.auto.state c.next_victim-sought.ensures in
     let victim : Victim call c.loop-i.left c.loop-i.stored (c.loop-i.examined + c.next_victim-sought.result.examined) c.in-Some.i c.next_victim-sought.new.state = step.victim c.in-Some.is in
     let gone : let stored = c.loop-i.stored - c.wide-stored.result in
-    Choice call (c.loop-i.left - 1) stored c.in-Some.i (c.loop-i.examined + c.next_victim-sought.result.examined) c.set_place.new.state = victim.goes (c.wide-stored.ensures.0 ∙ c.weight.ensures) c.set_place.auto.state c.set_place.ensures in
+    Choice call (c.loop-i.left - 1) stored c.in-Some.i (c.loop-i.examined + c.next_victim-sought.result.examined) c.set_place.new.state = victim.goes (c.wide-stored.ensures.0 ∙ c.weight.ensures ∙ ap (λ (r : Row). r.weight) c.row_at.ensures) c.set_place.auto.state c.set_place.ensures in
     let k = gone in (chosen_enough k c.has_room.ensures c.if-has_room.true, λ _. set_aside_lem k)
 
 pub lowest_of_main-main-requires : goal.lowest_of_main-main-requires
@@ -82,7 +83,7 @@ lowest_of_main-main-requires c =
     let step : Came call c.loop-i.left c.loop-i.stored c.loop-i.examined c.next_victim-sought.new.state c.next_victim-sought.result = let v = c.loop-i.invariant in came v.0 v.2 c.next_victim-sought.auto.state c.next_victim-sought.ensures in
     let victim : Victim call c.loop-i.left c.loop-i.stored (c.loop-i.examined + c.next_victim-sought.result.examined) c.in-Some.i c.next_victim-sought.new.state = step.victim c.in-Some.is in
     let gone : let stored = c.loop-i.stored - c.wide-stored.result in
-    Choice call (c.loop-i.left - 1) stored c.in-Some.i (c.loop-i.examined + c.next_victim-sought.result.examined) c.set_place.new.state = victim.goes (c.wide-stored.ensures.0 ∙ c.weight.ensures) c.set_place.auto.state c.set_place.ensures in
+    Choice call (c.loop-i.left - 1) stored c.in-Some.i (c.loop-i.examined + c.next_victim-sought.result.examined) c.set_place.new.state = victim.goes (c.wide-stored.ensures.0 ∙ c.weight.ensures ∙ ap (λ (r : Row). r.weight) c.row_at.ensures) c.set_place.auto.state c.set_place.ensures in
     gone.size
 
 pub loop-i-smaller : goal.loop-i-smaller
@@ -99,5 +100,5 @@ loop-i-preserved c =
     let step : Came call c.loop-i.left c.loop-i.stored c.loop-i.examined c.next_victim-sought.new.state c.next_victim-sought.result = let v = c.loop-i.invariant in came v.0 v.2 c.next_victim-sought.auto.state c.next_victim-sought.ensures in
     let victim : Victim call c.loop-i.left c.loop-i.stored (c.loop-i.examined + c.next_victim-sought.result.examined) c.in-Some.i c.next_victim-sought.new.state = step.victim c.in-Some.is in
     let gone : let stored = c.loop-i.stored - c.wide-stored.result in
-    Choice call (c.loop-i.left - 1) stored c.in-Some.i (c.loop-i.examined + c.next_victim-sought.result.examined) c.set_place.new.state = victim.goes (c.wide-stored.ensures.0 ∙ c.weight.ensures) c.set_place.auto.state c.set_place.ensures in
+    Choice call (c.loop-i.left - 1) stored c.in-Some.i (c.loop-i.examined + c.next_victim-sought.result.examined) c.set_place.new.state = victim.goes (c.wide-stored.ensures.0 ∙ c.weight.ensures ∙ ap (λ (r : Row). r.weight) c.row_at.ensures) c.set_place.auto.state c.set_place.ensures in
     (gone, c.lowest_of_main-main.ensures, sym c.has_room.ensures ∙ c.if-has_room.false)

@@ -1,8 +1,15 @@
--- For this kind sweep_test asks only whether the row is aside, so the sweep keeps exactly the others.
-use Rattle.retention.specs.Sweep.{sweep_test, kept_rows}
+-- A row leaves where it is aside, so the sweep keeps exactly the others.
+use Rattle.std.proofs.Common.{rules, tests}
+use Rattle.rules.specs.Records.{aside}
+use Rattle.rules.specs.Rows.{at_place}
+use Rattle.retention.specs.Sweep.{kept_rows}
 use Rattle.room.proofs.victims.drop_aside.Goals as goal
 
+pub retain_rows-requires : goal.retain_rows-requires
+retain_rows-requires c = record { rows = c.requires; callable = λ y f. search rules }
+
 pub returns : goal.returns
-unfolding kept_rows sweep_test
+unfolding kept_rows at_place
 returns c =
-    let r = c.retain_rows.ensures in (r.0, r.2)
+    let r = c.retain_rows.ensures in
+    (r.few, (r.swept (at_place aside) (λ x b f k. search (rules, tests))).1)

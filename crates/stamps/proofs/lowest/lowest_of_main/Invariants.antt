@@ -8,6 +8,3 @@ use Rattle.stamps.proofs.lowest.lowest_of_main.Given as goal
 
 abbrev pub invariant-loop-i : goal.invariant-loop-i
 invariant-loop-i l = Counted in_main l.n l.i l.count (view_rows l.n l.state).rows × Down parked l.n l.i (view_rows l.n l.state).rows l.parked × Down by_use l.n l.i (view_rows l.n l.state).rows l.by_use
-
-abbrev pub decreases-loop-i : goal.decreases-loop-i
-decreases-loop-i l = l.i

@@ -1,10 +1,12 @@
 -- The best row and the count are those of the rows from i on; a row that ties replaces the best, so the lower key wins.
 use mathlib.Core.Path.{ap, ◌∙◌}
-use Prim.Native.Nat.{ℕ}
+use Prim.Native.Nat.{ℕ, ◌-◌}
 use native.Mathlib.Omega.{arith}
 use lib.Dec.{eqb}
+use Rattle.rules.specs.Records.{Row}
 use Rattle.rules.specs.Rows.{at_place}
 use Rattle.memory.proofs.RowLaws.{view_length}
+use Rattle.stamps.specs.Walked.{lower_row}
 use Rattle.stamps.proofs.RowTotals.{one_at_most, counted_start, counted_turn, counted_end}
 use Rattle.stamps.proofs.LowestLaws.{down_start, down_row, down_end}
 use Rattle.stamps.proofs.lowest.lowest_stamp.Goals as goal
@@ -14,14 +16,6 @@ loop-i-init c =
     let e = view_length c.args.n c.args.state.now in
     (counted_start e, down_start e c.no_row-best.ensures)
 
-pub lower_row-best-requires : goal.lower_row-best-requires
-lower_row-best-requires c =
-    let h = c.loop-i.invariant.0.within in omega arith
-
-pub place-requires : goal.place-requires
-place-requires c =
-    let h = c.loop-i.invariant.0.within in omega arith
-
 pub overflow_add-count : goal.overflow_add-count
 overflow_add-count c = omega (arith, c.loop-i.invariant.0.few, one_at_most (eqb c.place.result c.args.place))
 
@@ -29,8 +23,10 @@ pub loop-i-preserved : goal.loop-i-preserved
 unfolding at_place
 loop-i-preserved c =
     let v = c.loop-i.invariant in
-    let q = ap (λ (x : ℕ). eqb x c.args.place) c.place.ensures in
-    (counted_turn v.0 c.loop-i-test.true q, down_row v.0 c.loop-i-test.true c.lower_row-best.ensures v.1)
+    let r = c.row_at-row.ensures in
+    let q = ap (λ (x : ℕ). eqb x c.args.place) (c.place.ensures ∙ ap (λ (x : Row). x.place) r) in
+    let best = c.lower_row-best.ensures ∙ ap (λ (x : Row). lower_row c.args.n c.args.place (c.loop-i.i - 1) x c.loop-i.best) r in
+    (counted_turn v.0 c.loop-i-test.true q, down_row v.0 c.loop-i-test.true best v.1)
 
 pub returns : goal.returns
 returns c =

@@ -7,6 +7,3 @@ use Rattle.stamps.proofs.lowest.lowest_stamp.Given as goal
 
 abbrev pub invariant-loop-i : goal.invariant-loop-i
 invariant-loop-i l = Counted (at_place l.place) l.n l.i l.count (view_rows l.n l.state).rows × Down l.place l.n l.i (view_rows l.n l.state).rows l.best
-
-abbrev pub decreases-loop-i : goal.decreases-loop-i
-decreases-loop-i l = l.i

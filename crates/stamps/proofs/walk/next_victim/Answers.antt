@@ -1,9 +1,11 @@
 -- A row restamped or parked leaves one visit fewer and the same victim to find; the visits left bound seq and examined.
-use mathlib.Core.Path.{sym, ◌∙◌}
+use mathlib.Core.Path.{ap, ◌∙◌, sym}
 use Prim.Native.Nat.{ℕ}
 use native.Mathlib.Omega.{arith}
 use mathlib.Core.List.{List}
-use Rattle.rules.specs.Records.{by_use}
+use Rattle.rules.specs.Records.{Row, by_use}
+use Rattle.rules.specs.Entries.{verified}
+use Rattle.rules.specs.Room.{stale}
 use Rattle.rules.proofs.Loops.{seeking}
 use Rattle.stamps.proofs.WalkLaws.{Found, Turned, found_row, seek_start, some_left, stale_turn, park_turn, none_yielded, yielded}
 use Rattle.stamps.proofs.walk.next_victim.Goals as goal
@@ -19,8 +21,8 @@ overflow_add-examined c =
     Found seeking by_use c.args.time c.args.n c.return_lapsed-returned.result.rows l.examined c.in-Some.i c.return_lapsed-returned.new.state l.state = let l = c.loop-next in found_row l.invariant.0 l.invariant.1 c.in-Some.is in
     let f = found in omega (arith, some_left f, f.going.keys)
 
-pub is_stale-requires : goal.is_stale-requires
-is_stale-requires c =
+pub row_at-row-requires : goal.row_at-row-requires
+row_at-row-requires c =
     let found : let l = c.loop-next in
     Found seeking by_use c.args.time c.args.n c.return_lapsed-returned.result.rows l.examined c.in-Some.i c.return_lapsed-returned.new.state l.state = let l = c.loop-next in found_row l.invariant.0 l.invariant.1 c.in-Some.is in
     let f = found in (f.inside, f.going.size)
@@ -37,7 +39,7 @@ lowest_stamp-again-requires c =
     Found seeking by_use c.args.time c.args.n c.return_lapsed-returned.result.rows l.examined c.in-Some.i c.return_lapsed-returned.new.state l.state = let l = c.loop-next in found_row l.invariant.0 l.invariant.1 c.in-Some.is in
     let Goes : List ℕ → Type 0 = λ x. let l = c.loop-next in
     Turned seeking c.args.time c.args.n c.return_lapsed-returned.result.rows l.examined c.return_lapsed-returned.new.state l.state x in
-    let restamped : Goes c.restamp.new.state = stale_turn found c.is_stale.ensures c.if-is_stale.true c.restamp.auto.state c.restamp.ensures in
+    let restamped : Goes c.restamp.new.state = stale_turn found (c.is_stale.ensures ∙ ap stale c.row_at-row.ensures) c.if-is_stale.true c.restamp.auto.state c.restamp.ensures in
     restamped.going.size
 
 pub loop-next-smaller-then-is_stale : goal.loop-next-smaller-then-is_stale
@@ -46,7 +48,7 @@ loop-next-smaller-then-is_stale c =
     Found seeking by_use c.args.time c.args.n c.return_lapsed-returned.result.rows l.examined c.in-Some.i c.return_lapsed-returned.new.state l.state = let l = c.loop-next in found_row l.invariant.0 l.invariant.1 c.in-Some.is in
     let Goes : List ℕ → Type 0 = λ x. let l = c.loop-next in
     Turned seeking c.args.time c.args.n c.return_lapsed-returned.result.rows l.examined c.return_lapsed-returned.new.state l.state x in
-    let restamped : Goes c.restamp.new.state = stale_turn found c.is_stale.ensures c.if-is_stale.true c.restamp.auto.state c.restamp.ensures in
+    let restamped : Goes c.restamp.new.state = stale_turn found (c.is_stale.ensures ∙ ap stale c.row_at-row.ensures) c.if-is_stale.true c.restamp.auto.state c.restamp.ensures in
     restamped.less
 
 pub loop-next-preserved-then-is_stale : goal.loop-next-preserved-then-is_stale
@@ -55,14 +57,8 @@ loop-next-preserved-then-is_stale c =
     Found seeking by_use c.args.time c.args.n c.return_lapsed-returned.result.rows l.examined c.in-Some.i c.return_lapsed-returned.new.state l.state = let l = c.loop-next in found_row l.invariant.0 l.invariant.1 c.in-Some.is in
     let Goes : List ℕ → Type 0 = λ x. let l = c.loop-next in
     Turned seeking c.args.time c.args.n c.return_lapsed-returned.result.rows l.examined c.return_lapsed-returned.new.state l.state x in
-    let restamped : Goes c.restamp.new.state = stale_turn found c.is_stale.ensures c.if-is_stale.true c.restamp.auto.state c.restamp.ensures in
+    let restamped : Goes c.restamp.new.state = stale_turn found (c.is_stale.ensures ∙ ap stale c.row_at-row.ensures) c.if-is_stale.true c.restamp.auto.state c.restamp.ensures in
     (restamped.going, c.lowest_stamp-again.ensures.row)
-
-pub is_verified-requires : goal.is_verified-requires
-is_verified-requires c =
-    let found : let l = c.loop-next in
-    Found seeking by_use c.args.time c.args.n c.return_lapsed-returned.result.rows l.examined c.in-Some.i c.return_lapsed-returned.new.state l.state = let l = c.loop-next in found_row l.invariant.0 l.invariant.1 c.in-Some.is in
-    let f = found in (f.inside, f.going.size)
 
 pub park-requires : goal.park-requires
 park-requires c =
@@ -76,7 +72,7 @@ lowest_stamp-again-requires-then-is_verified c =
     Found seeking by_use c.args.time c.args.n c.return_lapsed-returned.result.rows l.examined c.in-Some.i c.return_lapsed-returned.new.state l.state = let l = c.loop-next in found_row l.invariant.0 l.invariant.1 c.in-Some.is in
     let Goes : List ℕ → Type 0 = λ x. let l = c.loop-next in
     Turned seeking c.args.time c.args.n c.return_lapsed-returned.result.rows l.examined c.return_lapsed-returned.new.state l.state x in
-    let parked : Goes c.park.new.state = park_turn found c.is_stale.ensures c.if-is_stale.false c.is_verified.ensures c.if-is_verified.true c.park.auto.state c.park.ensures in
+    let parked : Goes c.park.new.state = park_turn found (c.is_stale.ensures ∙ ap stale c.row_at-row.ensures) c.if-is_stale.false (c.is_verified.ensures ∙ ap (λ (r : Row). verified c.args.time r.entry) c.row_at-row.ensures) c.if-is_verified.true c.park.auto.state c.park.ensures in
     parked.going.size
 
 pub loop-next-smaller : goal.loop-next-smaller
@@ -85,7 +81,7 @@ loop-next-smaller c =
     Found seeking by_use c.args.time c.args.n c.return_lapsed-returned.result.rows l.examined c.in-Some.i c.return_lapsed-returned.new.state l.state = let l = c.loop-next in found_row l.invariant.0 l.invariant.1 c.in-Some.is in
     let Goes : List ℕ → Type 0 = λ x. let l = c.loop-next in
     Turned seeking c.args.time c.args.n c.return_lapsed-returned.result.rows l.examined c.return_lapsed-returned.new.state l.state x in
-    let parked : Goes c.park.new.state = park_turn found c.is_stale.ensures c.if-is_stale.false c.is_verified.ensures c.if-is_verified.true c.park.auto.state c.park.ensures in
+    let parked : Goes c.park.new.state = park_turn found (c.is_stale.ensures ∙ ap stale c.row_at-row.ensures) c.if-is_stale.false (c.is_verified.ensures ∙ ap (λ (r : Row). verified c.args.time r.entry) c.row_at-row.ensures) c.if-is_verified.true c.park.auto.state c.park.ensures in
     parked.less
 
 pub loop-next-preserved : goal.loop-next-preserved
@@ -94,7 +90,7 @@ loop-next-preserved c =
     Found seeking by_use c.args.time c.args.n c.return_lapsed-returned.result.rows l.examined c.in-Some.i c.return_lapsed-returned.new.state l.state = let l = c.loop-next in found_row l.invariant.0 l.invariant.1 c.in-Some.is in
     let Goes : List ℕ → Type 0 = λ x. let l = c.loop-next in
     Turned seeking c.args.time c.args.n c.return_lapsed-returned.result.rows l.examined c.return_lapsed-returned.new.state l.state x in
-    let parked : Goes c.park.new.state = park_turn found c.is_stale.ensures c.if-is_stale.false c.is_verified.ensures c.if-is_verified.true c.park.auto.state c.park.ensures in
+    let parked : Goes c.park.new.state = park_turn found (c.is_stale.ensures ∙ ap stale c.row_at-row.ensures) c.if-is_stale.false (c.is_verified.ensures ∙ ap (λ (r : Row). verified c.args.time r.entry) c.row_at-row.ensures) c.if-is_verified.true c.park.auto.state c.park.ensures in
     (parked.going, c.lowest_stamp-again-then-is_verified.ensures.row)
 
 pub returns-in-None : goal.returns-in-None
@@ -105,4 +101,4 @@ returns-else-is_verified c =
     let found : let l = c.loop-next in
     Found seeking by_use c.args.time c.args.n c.return_lapsed-returned.result.rows l.examined c.in-Some.i c.return_lapsed-returned.new.state l.state = let l = c.loop-next in found_row l.invariant.0 l.invariant.1 c.in-Some.is in
     let r = c.return_lapsed-returned.ensures in
-    yielded found c.is_stale.ensures c.if-is_stale.false c.is_verified.ensures _ c.if-is_verified.false r.0
+    yielded found (c.is_stale.ensures ∙ ap stale c.row_at-row.ensures) c.if-is_stale.false (c.is_verified.ensures ∙ ap (λ (r : Row). verified c.args.time r.entry) c.row_at-row.ensures) _ c.if-is_verified.false r.0

@@ -1,11 +1,7 @@
 -- The loop has the rest of the rows still to check, and the totals are those of the rows passed.
-use Prim.Native.Nat.{◌-◌, ◌≤◌}
 use Rattle.rules.specs.Memory.{view_rows}
 use Rattle.state.proofs.PassLaws.{Passing}
 use Rattle.state.proofs.pass.rows_are_sound.Given as goal
 
 abbrev pub invariant-loop-i : goal.invariant-loop-i
-invariant-loop-i l = (l.i ≤ l.n) × Passing l.seq (view_rows l.n l.state).rows l.t l.i
-
-abbrev pub decreases-loop-i : goal.decreases-loop-i
-decreases-loop-i l = l.n - l.i
+invariant-loop-i l = Passing l.seq (view_rows l.n l.state).rows l.t l.i
