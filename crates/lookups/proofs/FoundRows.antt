@@ -84,7 +84,6 @@ part_from at bytes l p e = ap (λ (j : ℕ). cut at j l) (let z : at + bytes - a
 
 -- ---- get_and_touch
 
-
 -- the memory that a touch leaves is sound
 pub touch_sound : (l : List ℕ) (k : NodeAddr) (time : ℕ) (m : List ℕ) → Bytes l → Typed (GetAndTouch k time) → sound (capacity l) (view l) ≡ true
     → m ≡ (call l (GetAndTouch k time)).memory → sound (capacity m) (view m) ≡ true

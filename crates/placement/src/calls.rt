@@ -14,7 +14,12 @@ use types::node_addr::NodeAddr;
 use types::placed::{Funding, Placed};
 use types::refusal::Refusal;
 
-pub fn insert_unchecked(state: &mut [u8], key: NodeAddr, path: Path, time: u64) -> Result<Placed, Refusal>
+pub fn insert_unchecked(
+    state: &mut [u8],
+    key: NodeAddr,
+    path: Path,
+    time: u64,
+) -> Result<Placed, Refusal>
     requires { sound (capacity state.old) (view state.old) ≡ true }
     ensures { (said Hinted result ≡ (call state.old (Insert key path time)).answer) × (state.new ≡ (call state.old (Insert key path time)).memory) }
 {

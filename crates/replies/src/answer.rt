@@ -85,7 +85,13 @@ impl Told for CacheStats {
     ghost answer = { StatsGiven };
 
     fn reply(self) -> Reply {
-        says(self.entries, self.max_entries, self.expired, self.avg_age_ms, 0)
+        says(
+            self.entries,
+            self.max_entries,
+            self.expired,
+            self.avg_age_ms,
+            0,
+        )
     }
 }
 

@@ -10,7 +10,7 @@ ghost use Rattle.room.specs.Rooms.{without_victim, Leaves};
 
 use memory::bounds::probation_bound;
 use memory::codes::PROBATION;
-use stamps::lowest::{lowest_stamp};
+use stamps::lowest::lowest_stamp;
 use stamps::row::{is_stale, restamp};
 
 // Room in probation: the victim, left where it is, the weight that is stored without it, and the keys taken up.

@@ -17,7 +17,13 @@ use types::placed::VerifiedInsert;
 use types::refusal::Refusal;
 
 // Both forms: refused by 2, 3 or 4, or done.
-fn verify(state: &mut [u8], key: NodeAddr, path: Path, time: u64, mtu: Option<u16>) -> Result<VerifiedInsert, Refusal>
+fn verify(
+    state: &mut [u8],
+    key: NodeAddr,
+    path: Path,
+    time: u64,
+    mtu: Option<u16>,
+) -> Result<VerifiedInsert, Refusal>
     requires { sound (capacity state.old) (view state.old) ≡ true }
     ensures { (said VerifiedDone result ≡ (call state.old (verified_call key path time mtu)).answer) × (state.new ≡ (call state.old (verified_call key path time mtu)).memory) }
 {
@@ -41,7 +47,12 @@ pub fn insert_verified_unchecked(
     verify(state, key, path, time, None)
 }
 
-pub fn insert_verified(state: &mut [u8], key: NodeAddr, path: Path, time: u64) -> Result<VerifiedInsert, Refusal>
+pub fn insert_verified(
+    state: &mut [u8],
+    key: NodeAddr,
+    path: Path,
+    time: u64,
+) -> Result<VerifiedInsert, Refusal>
     ensures { (said VerifiedDone result ≡ (call state.old (InsertVerified key path time)).answer) × (state.new ≡ (call state.old (InsertVerified key path time)).memory) }
 {
     check_sound(state)?;
