@@ -21,12 +21,13 @@ pub struct Call {
 }
 
 impl Line {
-    // Numbers that are left out are 0. None where there is none at all: a comment, which goes from `#` to the line's end, or nothing.
-    pub fn parse(text: &str) -> Option<Line> {
-        let (text, _) = text.split_once('#').unwrap_or((text, ""));
-        let mut words = text
-            .split(|c: char| !c.is_ascii_digit())
-            .filter_map(|word| word.parse().ok());
+    // Numbers that are left out are 0, those past the seventh are dropped. None where there is none at all: a comment, which goes from `#`
+    // to the line's end, or nothing. Each number ends at a byte that is no digit, and `#` ends none.
+    pub fn parse(line: &[u8]) -> Option<Line> {
+        let mut words = numbered(line)
+            .split(|b| !b.is_ascii_digit())
+            .filter(|word| !word.is_empty())
+            .map(number);
         let list = words.next()?;
         let mut numbers = [0; 6];
         for (number, word) in numbers.iter_mut().zip(words) {
@@ -47,4 +48,25 @@ impl Line {
             last,
         }))
     }
+}
+
+// What stands in front of a comment, without a number that touches it.
+fn numbered(line: &[u8]) -> &[u8] {
+    let Some(end) = line.iter().position(|b| *b == b'#') else {
+        return line;
+    };
+    let text = &line[..end];
+    let digits = text.iter().rev().take_while(|b| b.is_ascii_digit()).count();
+    &text[..end - digits]
+}
+
+// Digits are bytes 30 to 39, in hex. Of a long number those behind the first sixteen are dropped.
+fn number(digits: &[u8]) -> u64 {
+    digits.iter().fold(0, |number: u64, digit| {
+        if number < 1000000000000000 {
+            number * 10 + u64::from(*digit % 16)
+        } else {
+            number
+        }
+    })
 }

@@ -12,7 +12,6 @@ ghost use Rattle.rules.specs.Layout.{memory_size};
 use line::{Call, Line};
 use memory::bounds::MAX_ROWS;
 use raw::layout::{HEAD, ROW, STAMP_SEQ};
-use std::io;
 
 const FEW: u64 = 24;
 
@@ -21,12 +20,12 @@ const SHORT: usize = HEAD + FEW as usize * ROW;
 const LONG: usize = HEAD + MAX_ROWS as usize * ROW;
 
 // Only the last line is printed.
-fn make(rt: &impl Print, memory: &mut [u8], call: Call) -> io::Result<()> {
+fn make(rt: &impl Print, memory: &mut [u8], call: Call) {
     for key in call.key..call.last {
         call.on(memory, key);
     }
     let reply = call.on(memory, call.key.max(call.last));
-    print::reply(rt, memory, call.list, reply)
+    print::reply(rt, memory, call.list, reply);
 }
 
 // The low byte of row 0's stamp, seq.
@@ -37,28 +36,29 @@ fn stamp(memory: &mut [u8], seq: u64) {
 }
 
 // Codes past 01's are no calls.
-fn take(rt: &impl Print, memory: &mut [u8], call: Call) -> io::Result<()> {
+fn take(rt: &impl Print, memory: &mut [u8], call: Call) {
     match call.code {
-        98 => print::row(rt, memory)?,
+        98 => print::row(rt, memory),
         99 => stamp(memory, call.key),
-        _ => make(rt, memory, call)?,
+        _ => make(rt, memory, call),
     }
-    Ok(())
 }
 
 // The lists, on a memory of so many rows.
-fn run(rt: &impl Print, text: &str, memory: &mut [u8], rows: u64) -> io::Result<()>
+fn run(rt: &impl Print, text: &[u8], memory: &mut [u8], rows: u64)
     requires { memory_size rows ≡ length memory.old }
 {
     let mut only = None;
-    for line in text.lines() {
+    let lines = text
+        .split_inclusive(|b| *b == b'\n')
+        .filter_map(|line| line.strip_suffix(b"\n"));
+    for line in lines {
         match Line::parse(line) {
             Some(Line::Only(for_rows)) => only = for_rows,
-            Some(Line::Call(call)) if only.unwrap_or(rows) == rows => take(rt, memory, call)?,
+            Some(Line::Call(call)) if only.unwrap_or(rows) == rows => take(rt, memory, call),
             _ => {}
         }
     }
-    Ok(())
 }
 
 // Behind a function, so that a proof sees a length in place of so many zeros.
@@ -68,10 +68,13 @@ fn zeroed<const N: usize>() -> [u8; N]
     [0; N]
 }
 
-fn main(rt: HostRuntime) -> io::Result<()> {
-    let text = io::read_to_string(rt.alloc(), rt.stdin())?;
+// What cannot be read is the end of the text, and what cannot be written is dropped.
+fn main(rt: HostRuntime) {
+    let mut space = io::large_buffer();
+    let n = io::read_full(0, &mut space);
+    let text = &space[..n];
     let mut few = zeroed::<SHORT>();
     let mut most = zeroed::<LONG>();
-    run(&rt, text.as_str(), &mut few, FEW)?;
-    run(&rt, text.as_str(), &mut most, MAX_ROWS)
+    run(&rt, text, &mut few, FEW);
+    run(&rt, text, &mut most, MAX_ROWS);
 }

@@ -4,26 +4,25 @@ use raw::layout::{
     STORED_WEIGHT, VERIFIED_UNTIL,
 };
 use raw::numbers::{read_u16, read_u64};
-use std::io;
 use types::reply::Reply;
 
 // The list of a call, its reply, and the head's rows held, seq and stored weight.
-pub fn reply(rt: &impl Print, memory: &[u8], list: u64, reply: Reply) -> io::Result<()> {
+pub fn reply(rt: &impl Print, memory: &[u8], list: u64, reply: Reply) {
     if memory.len() < HEAD {
-        return Ok(());
+        return;
     }
     let refusal = reply.refusal;
     let [a, b, c, d, e] = reply.values;
     let held = read_u64(memory, ROW_COUNT);
     let seq = read_u64(memory, SEQ);
     let stored = read_u64(memory, STORED_WEIGHT);
-    println!(rt; "{list} {refusal} {a} {b} {c} {d} {e} {held} {seq} {stored}")
+    let _ = println!(rt; "{list} {refusal} {a} {b} {c} {d} {e} {held} {seq} {stored}");
 }
 
 // Row 0's created_at, last_used, expires_at, MTU mark and value, source, verified_until.
-pub fn row(rt: &impl Print, memory: &[u8]) -> io::Result<()> {
+pub fn row(rt: &impl Print, memory: &[u8]) {
     if memory.len() < HEAD + ROW {
-        return Ok(());
+        return;
     }
     let row = &memory[HEAD..HEAD + ROW];
     let created = read_u64(row, CREATED_AT);
@@ -33,5 +32,5 @@ pub fn row(rt: &impl Print, memory: &[u8]) -> io::Result<()> {
     let mtu = read_u16(row, MTU);
     let source = row[SOURCE];
     let until = read_u64(row, VERIFIED_UNTIL);
-    println!(rt; "row {created} {used} {expires} {mark} {mtu} {source} {until}")
+    let _ = println!(rt; "row {created} {used} {expires} {mark} {mtu} {source} {until}");
 }

@@ -6,11 +6,12 @@ use raw::layout::{
 use raw::numbers::read_u64;
 use types::coord::PLACES;
 
-// Where in the output, of which `written` bytes count, the answer that stands from `at` on, a line, ends; none where another stands there.
-pub fn answer_end(answer: &str, output: &[u8], at: usize, written: usize) -> Option<usize> {
+// Where in the output, of which `written` bytes count, the answer that stands from `at` on ends; none where another stands there, or none.
+pub fn answer_end(answer: &[u8], output: &[u8], at: usize, written: usize) -> Option<usize> {
     let left = output.get(at..written)?;
-    let behind = left.strip_prefix(answer.as_bytes())?.strip_prefix(b"\n")?;
-    Some(written - behind.len())
+    let behind = left.strip_prefix(answer)?;
+    let end = written - behind.len();
+    (0 < end).then_some(end)
 }
 
 // The head's five numbers, in the order of the line.

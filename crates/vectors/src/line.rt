@@ -1,13 +1,13 @@
-// The lines of the recorded text.
+// The lines of the recorded text, each with its newline.
 
-// One that stands for something, by its first word. Bytes are in hex.
+// One that stands for something, by the byte that it begins with. Bytes are in hex: none where the line ends before they could begin.
 #[derive(Clone, Copy)]
 pub enum Line<'a> {
     Stream(Start),
-    In(&'a str),
-    Out(&'a str),
+    In(Option<&'a [u8]>),
+    Out(Option<&'a [u8]>),
     Head([u64; 5]),
-    Row(&'a str),
+    Row(Option<&'a [u8]>),
     End,
 }
 
@@ -20,39 +20,58 @@ pub struct Start {
 }
 
 impl<'a> Line<'a> {
-    pub fn parse(text: &'a str) -> Option<Line<'a>> {
-        let (word, rest) = text.split_once(' ').unwrap_or((text, ""));
-        match word {
-            "stream" => {
-                let [rows, max, ttl] = numbers::<3>(rest)?;
+    pub fn parse(line: &'a [u8]) -> Option<Line<'a>> {
+        match *line.first()? {
+            b's' => {
+                let [rows, max, ttl] = numbers::<3>(line);
                 Some(Line::Stream(Start { rows, max, ttl }))
             }
-            "in" => Some(Line::In(rest)),
-            "out" => Some(Line::Out(rest)),
-            "head" => Some(Line::Head(numbers(rest)?)),
-            "row" => Some(Line::Row(rest)),
-            "end" => Some(Line::End),
+            b'i' => Some(Line::In(line.get(3..))),
+            b'o' => Some(Line::Out(line.get(4..))),
+            b'h' => Some(Line::Head(numbers(line))),
+            b'r' => Some(Line::Row(line.get(4..))),
+            b'e' => Some(Line::End),
             _ => None,
         }
     }
 }
 
-// As many numbers, apart by spaces.
-fn numbers<const N: usize>(text: &str) -> Option<[u64; N]> {
-    let mut words = text.split(' ');
+// As many numbers, apart by spaces, behind the word that names the line; 0 for those left out.
+fn numbers<const N: usize>(line: &[u8]) -> [u64; N] {
+    let words = line.split(|b| *b == b' ').skip(1);
     let mut numbers = [0; N];
-    for number in &mut numbers {
-        *number = words.next()?.parse().ok()?;
+    for (place, word) in numbers.iter_mut().zip(words) {
+        *place = number(word);
     }
-    match words.next() {
-        Some(_) => None,
-        None => Some(numbers),
-    }
+    numbers
 }
 
-// The bytes of hex digits, at the front of a buffer.
-pub fn decode<'a>(digits: &str, buffer: &'a mut [u8]) -> Option<&'a [u8]> {
-    let bytes = buffer.get_mut(..digits.len() / 2)?;
-    hex::decode_to_slice(digits, bytes).ok()?;
-    Some(bytes)
+// Digits are bytes 30 to 39, in hex, and those below are dropped; nineteen digits at most count: no recorded head has a longer number.
+fn number(word: &[u8]) -> u64 {
+    word.iter().fold(0, |number: u64, b| {
+        if b'0' <= *b && number < 1000000000000000000 {
+            number * 10 + u64::from(*b % 16)
+        } else {
+            number
+        }
+    })
+}
+
+// The low half of a byte has what the digit says: 0 to 9 are bytes 30 to 39 in hex, a to f are 61 to 66.
+fn digit(b: u8) -> u8 {
+    if b < b'a' { b } else { b % 16 + 9 }
+}
+
+// The bytes of hex digits, at the front of a buffer: none where there is no room for all. A digit without another is left out.
+pub fn decode<'a>(digits: &[u8], buffer: &'a mut [u8]) -> &'a [u8] {
+    let pairs = digits.as_chunks::<2>().0;
+    match buffer.get_mut(..pairs.len()) {
+        Some(bytes) => {
+            for (byte, [high, low]) in bytes.iter_mut().zip(pairs) {
+                *byte = digit(*high) % 16 * 16 + digit(*low) % 16;
+            }
+            bytes
+        }
+        None => &[],
+    }
 }

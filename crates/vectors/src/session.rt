@@ -1,7 +1,7 @@
 // What the lines so far came to: of the stream that is being read, and of all.
 use crate::compare;
 use crate::line::Line;
-use std::{fmt, io};
+use std::fmt;
 
 // What a stream's first difference is in. Lines of the output and rows are counted from 1.
 #[derive(Clone, Copy)]
@@ -141,45 +141,43 @@ impl Session {
         }
     }
 
-    // The stream's commands were run, where they could be read.
-    pub fn run(&mut self, written: Option<usize>) {
-        self.expect(written.is_some(), Difference::Text);
-        self.stream.written = written.unwrap_or(0);
+    // The stream's commands were run.
+    pub fn run(&mut self, written: usize) {
+        self.stream.written = written;
     }
 
-    pub fn answer(&mut self, answer: &str, output: &[u8]) {
+    pub fn answer(&mut self, answer: Option<&[u8]>, output: &[u8]) {
         let stream = self.stream;
         let nth = stream.lines.saturating_add(1);
         self.stream.lines = nth;
         self.commands = self.commands.saturating_add(1);
-        match compare::answer_end(answer, output, stream.compared, stream.written) {
+        let end = answer.and_then(|answer| {
+            compare::answer_end(answer, output, stream.compared, stream.written)
+        });
+        match end {
             Some(end) => self.stream.compared = end,
             None => self.expect(false, Difference::Line(nth)),
         }
     }
 
-    pub fn row(&mut self, memory: &[u8], recorded: Option<&[u8]>) {
+    pub fn row(&mut self, memory: &[u8], recorded: &[u8]) {
         let n = self.stream.rows;
         let nth = n.saturating_add(1);
         self.stream.rows = nth;
-        let is_same = match recorded {
-            Some(recorded) => compare::same_row(memory, n, recorded),
-            None => false,
-        };
-        self.expect(is_same, Difference::Row(nth));
+        self.expect(compare::same_row(memory, n, recorded), Difference::Row(nth));
     }
 
     // A line of the output that was not recorded is a difference too.
-    pub fn end(&mut self, rt: &impl Print, memory: &[u8]) -> io::Result<()> {
+    pub fn end(&mut self, rt: &impl Print, memory: &[u8]) {
         let stream = self.stream;
         let nth = stream.lines.saturating_add(1);
         self.expect(stream.compared == stream.written, Difference::Line(nth));
         self.expect(compare::rest_is_zero(memory, stream.rows), Difference::Rest);
-        self.report(rt)
+        self.report(rt);
     }
 
-    // The line of the stream that has ended.
-    fn report(&mut self, rt: &impl Print) -> io::Result<()> {
+    // The line of the stream that has ended. A stream that ends twice is told twice, and differs once.
+    fn report(&mut self, rt: &impl Print) {
         let nth = self.streams;
         let Stream {
             lines,
@@ -188,23 +186,25 @@ impl Session {
             ..
         } = self.stream;
         match difference {
-            None => println!(rt; "stream {nth}: {lines} commands, {rows} rows, same"),
+            None => {
+                let _ = println!(rt; "stream {nth}: {lines} commands, {rows} rows, same");
+            }
             Some(difference) => {
-                self.differences = self.differences.saturating_add(1);
-                println!(rt; "stream {nth}: {difference} differs")
+                self.differences = self.differences.saturating_add(1).min(nth);
+                let _ = println!(rt; "stream {nth}: {difference} differs");
             }
         }
     }
 
     // The line of all streams. A text that ends inside a stream has a stream that differs.
-    pub fn close(mut self, rt: &impl Print) -> io::Result<()> {
+    pub fn close(mut self, rt: &impl Print) {
         if self.stage != Stage::Ended {
             self.expect(false, Difference::Text);
-            self.report(rt)?;
+            self.report(rt);
         }
         let streams = self.streams;
         let commands = self.commands;
         let differences = self.differences;
-        println!(rt; "{streams} streams, {commands} commands, {differences} differences")
+        let _ = println!(rt; "{streams} streams, {commands} commands, {differences} differences");
     }
 }
