@@ -126,4 +126,3 @@ expiry_least (x ∷ xs) = ap Some (expiry_fold (expiry x) xs)
 pub whole : (o : Option ℕ) → o ≡ option_map (λ y. y) o
 whole None = refl
 whole (Some t) = refl
-
