@@ -1,7 +1,7 @@
 // Operands as they come from another language, and replies as they go there.
 #![tactic(auto)]
 
-ghost use Rattle.std.specs.Prelude.{◌≡◌, min, true, ◌≤◌, Some};
+ghost use Rattle.std.specs.Prelude.{◌≡◌, true, ◌≤◌, Some};
 ghost use Rattle.rules.specs.Sound.{sound};
 ghost use Rattle.rules.specs.Memory.{capacity, view};
 ghost use Rattle.rules.specs.Lent.{AddrFits};
@@ -26,24 +26,16 @@ pub fn address(bytes: &[u8; ADDRESS]) -> NodeAddr
     owned(NodeAddr(*bytes))
 }
 
-fn lesser(a: usize, b: usize) -> usize
-    ensures { result ≡ min a b }
-{
-    if a < b { a } else { b }
-}
-
 // The elements that stand whole in the bytes.
 pub fn path_from(bytes: &[u8]) -> Path
     ensures { result ≡ path_from bytes.now }
 {
     let len = bytes.len() / ELEMENT;
-    let held = lesser(len, PLACES);
+    let held = len.min(PLACES);
     let zero = zero_entry();
     let mut entries = [zero; PLACES];
-    let mut k = 0;
-    while k < held {
+    for k in 0..held {
         entries[k] = entries::addr::load_coord_entry(bytes, k * ELEMENT);
-        k += 1;
     }
     Path { entries, len }
 }

@@ -118,12 +118,6 @@ fn promote(
     promoted(outcome, room.made, wide(weight), room.examined)
 }
 
-fn larger(a: u8, b: u8) -> u8
-    ensures { result ≡ max a b }
-{
-    if a < b { b } else { a }
-}
-
 // 4. In probation.
 fn place_probation(
     state: &mut [u8],
@@ -139,7 +133,7 @@ fn place_probation(
     requires { HeldHint key path outcome false n i state.old }
     ensures { Placing (place_probation key path time ttl funding i (view_rows n state.old)) result state.new }
 {
-    let w = larger(row_weight(path), row_at(state, n, i).weight());
+    let w = row_weight(path).max(row_at(state, n, i).weight());
     if !funding.covers(wide(w)) {
         return refile_held(state, n, i, path, time, ttl, w, Segment::Probation, outcome);
     }

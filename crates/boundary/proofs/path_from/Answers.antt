@@ -10,10 +10,10 @@ pub loop-k-init : goal.loop-k-init
 loop-k-init c = record { within = omega arith; part = ap (replicate path_places) c.zero_entry-zero.ensures; places = refl }
 
 pub load_coord_entry-requires : goal.load_coord_entry-requires
-load_coord_entry-requires c = omega (arith, c.lesser-held.ensures)
+load_coord_entry-requires c = omega (arith, c.min-held.ensures)
 
 pub loop-k-preserved : goal.loop-k-preserved
-loop-k-preserved c = copied_more c.loop-k.invariant (omega arith) (omega (arith, c.lesser-held.ensures)) c.load_coord_entry.ensures
+loop-k-preserved c = copied_more c.loop-k.invariant (omega arith) (omega (arith, c.min-held.ensures)) c.load_coord_entry.ensures
 
 pub returns : goal.returns
-returns c = path_made c.loop-k.invariant refl c.lesser-held.ensures (omega arith)
+returns c = path_made c.loop-k.invariant refl c.min-held.ensures (omega arith)

@@ -1,10 +1,6 @@
 -- Before each turn the first k places hold the bytes' first k elements and the rest are zeros; when k is the number held, that is the path.
-use Prim.Native.Nat.{◌-◌}
 use Rattle.boundary.proofs.Operands.{Copied}
 use Rattle.boundary.proofs.path_from.Given as goal
 
 abbrev pub invariant-loop-k : goal.invariant-loop-k
 invariant-loop-k l = Copied l.bytes l.held l.k l.entries
-
-abbrev pub decreases-loop-k : goal.decreases-loop-k
-decreases-loop-k l = l.held - l.k
