@@ -1,5 +1,5 @@
 //! Recorded vectors: a fixed list of streams with the original's lines and what it then holds, for programs that replay
-//! them without the original. crates/vectors does: its file `stdin` is what is written here.
+//! them without the original. crates/vectors does: its file `stdin` is what is written here, and it reads 65,536 bytes of it.
 use super::decode;
 use super::encode;
 use super::make;
