@@ -1,3 +1,4 @@
 pub mod Widths
 pub mod OnMemory
+pub mod Reading
 pub mod After

@@ -1,17 +1,15 @@
 -- One command on the lent memory: what Commands says of a state, said of its bytes (stream, OnStates.on_states).
-use Rattle.std.specs.Prelude.{ℕ, List, Result, cond, eqb}
+use Rattle.std.specs.Prelude.{ℕ, List, Result}
 use Rattle.types.specs.declared.sender.Sender.{Sender}
 use Rattle.types.specs.declared.coord.Path.{Path}
 use Rattle.types.specs.declared.refusal.Refusal.{Refusal}
 use Rattle.types.specs.Paths.{appended}
 use Rattle.types.specs.Senders.{with_element, emptied}
-use Rattle.types.specs.declared.placed.Funding.{Funding}
-use Rattle.types.specs.declared.placed.Funding.TheVariants.{Upto, Uncharged}
 use Rattle.types.specs.declared.reply.Reply.{Reply}
 use Rattle.types.specs.Values.{refuses}
 use Rattle.rules.specs.Cases.{maybe}
 use Rattle.rules.specs.Lent.{Lent, lent, call}
-use Rattle.rules.specs.Commands.{Command, Element, WithPath, Plain, decode, after_six, element_reply, kind_in, amount_in, reply}
+use Rattle.rules.specs.Commands.{Command, Element, WithPath, Plain, decode, after_six, element_reply, reply}
 
 -- the memory, and what the sender has
 pub record Session : Type 0 where
@@ -46,7 +44,3 @@ refused_six b s = record { reply = refuses 6; session = session s.memory (after_
 -- the command byte b with the bytes behind it
 unfoldable pub obey_byte : Session → ℕ → List ℕ → Obeyed
 obey_byte s b bs = maybe (decode b bs) (refused_six b s) (λ d. obey s d.command)
-
--- the funding that a legal kind names
-unfoldable pub funding_in : List ℕ → Funding
-funding_in o = cond (eqb (kind_in o) 0) Uncharged (Upto (amount_in o))

@@ -1,18 +1,24 @@
-// One command on a state. The command byte decides; its operands have fixed widths, little-endian, and stand in the
-// bytes behind it.
+// One command on a state: read, refused by 6 or 1, or obeyed; and what it leaves the sender.
 ghost use Rattle.std.specs.Prelude.{◌≡◌, ◌≤◌, length, drop};
 ghost use Rattle.rules.specs.Sound.{sound};
 ghost use Rattle.rules.specs.Memory.{capacity, view};
 ghost use Rattle.commands.specs.Widths.{width_of};
-ghost use Rattle.commands.specs.OnMemory.{obey_byte, session};
-ghost use Rattle.commands.specs.After.{Answers, refused_by};
+ghost use Rattle.rules.specs.Refusals.{Fresh};
+ghost use Rattle.rules.specs.Commands.{Plain, after_six};
+ghost use Rattle.commands.specs.OnMemory.{obey, obey_byte, session};
+ghost use Rattle.commands.specs.After.{Answers, Made, refused_by, after_element};
 ghost use Rattle.types.specs.Values.{refusal_code};
+ghost use Rattle.types.specs.Paths.{appended};
+ghost use Rattle.types.specs.Senders.{emptied};
+ghost use Rattle.commands.specs.Reading.{call_named, write_named};
 
-use crate::width::{FRESH, FRESH_TTL, KEY_TIME, WITH_FUNDING, WITH_MTU, WITH_TTL};
-use crate::{hint, lookup, stats, sweep, verified};
+use crate::call::{Call, Command, Write};
+use crate::decode::decode;
+use crate::obey::{obey, write};
+use crate::width::{FRESH, KEY_TIME, WITH_FUNDING, WITH_MTU, WITH_TTL};
 use raw::layout::{ADDRESS, ELEMENT, NUMBER};
-use raw::numbers::{read_u16, read_u64};
 use replies::answer::reply;
+use types::coord::CoordEntry;
 use types::refusal::Refusal;
 use types::reply::{Reply, says};
 use types::sender::Sender;
@@ -37,15 +43,10 @@ pub(crate) fn refused(refusal: Refusal, is_sound: bool, sender: Sender) -> After
 }
 
 // 00. Where it is done the state is sound; refused, it leaves all as it was.
-fn fresh(state: &mut [u8], is_sound: bool, sender: Sender, input: &[u8], at: usize) -> AfterCommand
-    requires { (is_sound ≡ sound (capacity state.old) (view state.old)) × (at ≤ length input.now) }
-    ensures { Answers (obey_byte (session state.old sender) 0x00 (drop at input.now)) result state.new }
+fn fresh(state: &mut [u8], is_sound: bool, sender: Sender, max: u64, ttl: u64) -> AfterCommand
+    requires { is_sound ≡ sound (capacity state.old) (view state.old) }
+    ensures { Answers (obey (session state.old sender) (Plain (Fresh max ttl))) result state.new }
 {
-    if input.len() - at < FRESH {
-        return refused(Refusal::BadCommand, is_sound, sender);
-    }
-    let max = read_u16(input, at) as u64;
-    let ttl = read_u64(input, at + FRESH_TTL);
     let answer = state::fresh::fresh(state, max, ttl);
     AfterCommand {
         reply: reply(answer),
@@ -55,21 +56,59 @@ fn fresh(state: &mut [u8], is_sound: bool, sender: Sender, input: &[u8], at: usi
 }
 
 // 01: an element onto the pending path; a 33rd is refused by 2 and dropped.
-fn element(state: &[u8], is_sound: bool, sender: Sender, input: &[u8], at: usize) -> AfterCommand
-    requires { (is_sound ≡ sound (capacity state.now) (view state.now)) × (at ≤ length input.now) }
-    ensures { Answers (obey_byte (session state.now sender) 0x01 (drop at input.now)) result state.now }
+fn element(is_sound: bool, sender: Sender, entry: CoordEntry) -> AfterCommand
+    ensures { result ≡ after_element (appended sender.pending entry) is_sound sender }
 {
-    if input.len() - at < ELEMENT {
-        return refused(Refusal::BadCommand, is_sound, sender);
-    }
     let pending = sender.pending;
-    match pending.append(entries::addr::load_coord_entry(input, at)) {
+    match pending.append(entry) {
         Ok(path) => AfterCommand {
             reply: says(path.len as u64, 0, 0, 0, 0),
             sender: sender.with_pending(path),
             sound: is_sound,
         },
         Err(refusal) => refused(refusal, is_sound, sender),
+    }
+}
+
+// No command. Codes 10 to 15 empty the pending path here too.
+#[tactic(auto, using(std::proofs::lemmas::Bool::Decides::nat_tests), unfolding(rules::specs::Commands::after_six, rules::specs::Commands::takes_path))]
+fn unread(code: u8, is_sound: bool, sender: Sender) -> AfterCommand
+    ensures { result ≡ refused_by 6 is_sound (after_six code sender) }
+{
+    match code {
+        0x10..=0x15 => refused(Refusal::BadCommand, is_sound, sender.emptied()),
+        _ => refused(Refusal::BadCommand, is_sound, sender),
+    }
+}
+
+// Codes 10 to 15 empty the pending path, refused or not.
+fn written(state: &mut [u8], is_sound: bool, sender: Sender, said: Write) -> AfterCommand
+    requires { is_sound ≡ sound (capacity state.old) (view state.old) }
+    ensures { Made is_sound state.old (write_named said sender.pending) (emptied sender) result state.new }
+{
+    if !is_sound {
+        return refused(Refusal::UnsoundState, is_sound, sender.emptied());
+    }
+    let pending = sender.pending;
+    AfterCommand {
+        reply: write(state, pending, said),
+        sender: sender.emptied(),
+        sound: is_sound,
+    }
+}
+
+// Every other call keeps it.
+fn called(state: &mut [u8], is_sound: bool, sender: Sender, call: Call) -> AfterCommand
+    requires { is_sound ≡ sound (capacity state.old) (view state.old) }
+    ensures { Made is_sound state.old (call_named call) sender result state.new }
+{
+    if !is_sound {
+        return refused(Refusal::UnsoundState, is_sound, sender);
+    }
+    AfterCommand {
+        reply: obey(state, call),
+        sender: sender,
+        sound: is_sound,
     }
 }
 
@@ -117,31 +156,12 @@ pub fn command_at(
     requires { (is_sound ≡ sound (capacity state.old) (view state.old)) × (at ≤ length input.now) }
     ensures { Answers (obey_byte (session state.old sender) code (drop at input.now)) result state.new }
 {
-    match code {
-        0x00 => fresh(state, is_sound, sender, input, at),
-        0x01 => element(state, is_sound, sender, input, at),
-        0x02..=0x0f => refused(Refusal::BadCommand, is_sound, sender),
-        0x10 => hint::insert(state, is_sound, sender, input, at),
-        0x11 => hint::insert_with_ttl(state, is_sound, sender, input, at),
-        0x12 => hint::insert_funded(state, is_sound, sender, input, at),
-        0x13 => hint::insert_stated(state, is_sound, sender, input, at),
-        0x14 => verified::insert_verified(state, is_sound, sender, input, at),
-        0x15 => verified::insert_verified_with_path_mtu(state, is_sound, sender, input, at),
-        0x16..=0x1f => refused(Refusal::BadCommand, is_sound, sender),
-        0x20 => lookup::get(state, is_sound, sender, input, at),
-        0x21 => lookup::touch(state, is_sound, sender, input, at),
-        0x22 => lookup::remove(state, is_sound, sender, input, at),
-        0x23 => lookup::demote(state, is_sound, sender, input, at),
-        0x24 => lookup::clear_path_mtu(state, is_sound, sender, input, at),
-        0x25..=0x2f => refused(Refusal::BadCommand, is_sound, sender),
-        0x30 => sweep::purge_expired(state, is_sound, sender, input, at),
-        0x31 => sweep::clear(state, is_sound, sender),
-        0x32 => sweep::invalidate_via_node(state, is_sound, sender, input, at),
-        0x33 => sweep::invalidate_other_roots(state, is_sound, sender, input, at),
-        0x34..=0x3f => refused(Refusal::BadCommand, is_sound, sender),
-        0x40 => stats::stats(state, is_sound, sender, input, at),
-        0x41 => stats::next_expiry(state, is_sound, sender),
-        0x42..=0xff => refused(Refusal::BadCommand, is_sound, sender),
+    match decode(code, input, at) {
+        None => unread(code, is_sound, sender),
+        Some(Command::Fresh { max, ttl }) => fresh(state, is_sound, sender, max, ttl),
+        Some(Command::Element(entry)) => element(is_sound, sender, entry),
+        Some(Command::Write(said)) => written(state, is_sound, sender, said),
+        Some(Command::Call(call)) => called(state, is_sound, sender, call),
     }
 }
 

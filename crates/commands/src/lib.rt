@@ -1,11 +1,9 @@
-// One command on a state: the command byte decides, and the codes stand in modules by the kind of their calls; widths of
-// operands by name.
+// One command on a state: its bytes are read as a command by value, whose call is made and replied to; widths of operands by
+// name.
 #![tactic(auto)]
 
+pub mod call;
 pub mod command;
-mod hint;
-mod lookup;
-mod stats;
-mod sweep;
-mod verified;
+mod decode;
+mod obey;
 mod width;
