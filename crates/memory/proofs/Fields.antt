@@ -48,45 +48,62 @@ row_key n i l h =
     ap (λ (r : Row). r.key.0) (row_at_lem n i l h) ∙ cut_cut (head_size + i * row_size) row_size key_offset address_size l (omega arith) ∙ ap (λ (k : ℕ). cut k address_size l) z
 
 -- w bytes at o of a row, as a number
-abbrev number_at : List ℕ → ℕ → ℕ → ℕ
+abbrev pub number_at : List ℕ → ℕ → ℕ → ℕ
 number_at c o w = le_number (cut o w c)
 
--- every number of a row, where its bytes have it
-pub record Numbers (c : List ℕ) (r : Row) : Type 0 where
-  pub path_length : number_at c entry_offset byte_size ≡ r.entry.path.len
-  pub created_at : number_at c created_at_in_row number_size ≡ r.entry.created_at
-  pub last_used : number_at c last_used_in_row number_size ≡ r.entry.last_used
-  pub expires_at : number_at c expires_at_in_row number_size ≡ r.entry.expires_at
-  pub mtu_mark : number_at c mtu_mark_in_row byte_size ≡ r.entry.mtu_mark
-  pub mtu : number_at c mtu_in_row mtu_size ≡ r.entry.mtu
-  pub source : number_at c source_in_row byte_size ≡ r.entry.source
-  pub verified_until : number_at c verified_until_in_row number_size ≡ r.entry.verified_until
-  pub place : number_at c place_offset byte_size ≡ r.place
-  pub stamp_first : number_at c stamp_first_offset number_size ≡ r.stamp_first
-  pub stamp_seq : number_at c stamp_seq_offset number_size ≡ r.stamp_seq
-  pub weight : number_at c weight_offset byte_size ≡ r.weight
+-- a number of an entry, where the row's bytes have it
+in_entry : (o w : ℕ) (c : List ℕ) → o + w ≤ entry_size → number_at c (entry_offset + o) w ≡ number_at (cut entry_offset entry_size c) o w
+in_entry o w c h = ap le_number (sym (cut_cut entry_offset entry_size o w c h))
 
-numbers_read : (c : List ℕ) → Numbers c (row_of c)
-unfolding row_of entry_of path_of
-numbers_read c =
-    let of_entry : (o w : ℕ) → o + w ≤ entry_size → number_at c (entry_offset + o) w ≡ le_number (cut o w (cut entry_offset entry_size c)) = λ o w h. ap le_number (sym (cut_cut entry_offset entry_size o w c h)) in
-    record {
-      path_length = of_entry length_offset byte_size (omega arith);
-      created_at = of_entry created_at_offset number_size (omega arith);
-      last_used = of_entry last_used_offset number_size (omega arith);
-      expires_at = of_entry expires_at_offset number_size (omega arith);
-      mtu_mark = of_entry mtu_mark_offset byte_size (omega arith);
-      mtu = of_entry mtu_offset mtu_size (omega arith);
-      source = of_entry source_offset byte_size (omega arith);
-      verified_until = of_entry verified_until_offset number_size (omega arith);
-      place = refl;
-      stamp_first = refl;
-      stamp_seq = refl;
-      weight = refl;
-    }
+-- every number of a row
+module _ (c : List ℕ) where
+  pub path_len_is : number_at c entry_offset byte_size ≡ (row_of c).entry.path.len
+  unfolding row_of entry_of path_of
+  path_len_is = in_entry length_offset byte_size c (omega arith)
 
-pub numbers : (c : List ℕ) (r : Row) → row_of c ≡ r → Numbers c r
-numbers c r e = rw (← e) (numbers_read c)
+  pub created_at_is : number_at c created_at_in_row number_size ≡ (row_of c).entry.created_at
+  unfolding row_of entry_of
+  created_at_is = in_entry created_at_offset number_size c (omega arith)
+
+  pub last_used_is : number_at c last_used_in_row number_size ≡ (row_of c).entry.last_used
+  unfolding row_of entry_of
+  last_used_is = in_entry last_used_offset number_size c (omega arith)
+
+  pub expires_at_is : number_at c expires_at_in_row number_size ≡ (row_of c).entry.expires_at
+  unfolding row_of entry_of
+  expires_at_is = in_entry expires_at_offset number_size c (omega arith)
+
+  pub mtu_mark_is : number_at c mtu_mark_in_row byte_size ≡ (row_of c).entry.mtu_mark
+  unfolding row_of entry_of
+  mtu_mark_is = in_entry mtu_mark_offset byte_size c (omega arith)
+
+  pub mtu_is : number_at c mtu_in_row mtu_size ≡ (row_of c).entry.mtu
+  unfolding row_of entry_of
+  mtu_is = in_entry mtu_offset mtu_size c (omega arith)
+
+  pub source_is : number_at c source_in_row byte_size ≡ (row_of c).entry.source
+  unfolding row_of entry_of
+  source_is = in_entry source_offset byte_size c (omega arith)
+
+  pub verified_until_is : number_at c verified_until_in_row number_size ≡ (row_of c).entry.verified_until
+  unfolding row_of entry_of
+  verified_until_is = in_entry verified_until_offset number_size c (omega arith)
+
+  pub place_is : number_at c place_offset byte_size ≡ (row_of c).place
+  unfolding row_of
+  place_is = refl
+
+  pub stamp_first_is : number_at c stamp_first_offset number_size ≡ (row_of c).stamp_first
+  unfolding row_of
+  stamp_first_is = refl
+
+  pub stamp_seq_is : number_at c stamp_seq_offset number_size ≡ (row_of c).stamp_seq
+  unfolding row_of
+  stamp_seq_is = refl
+
+  pub weight_is : number_at c weight_offset byte_size ≡ (row_of c).weight
+  unfolding row_of
+  weight_is = refl
 
 -- a row is before the others
 pub first_row : (n : ℕ) (l : List ℕ) → 0 < n → rows_of n l ≡ row_of (take row_size l) ∷ rows_of (n - 1) (drop row_size l)

@@ -6,6 +6,7 @@ use mathlib.Core.Logic.{inl}
 use mathlib.Core.Bool.{cond}
 use mathlib.Core.List.{List, [], ◌∷◌, ◌++◌, append_assoc}
 use lib.Dec.{ltb}
+use borrow.Author.Tests.{lt-ltb, le-ltb}
 use lib.ListN.{length, take, drop, replicate, length-append, length-drop, length-replicate}
 use lib.Seq.{sets, sets-eq, length-sets, slice, length-slice, length-take-le, take-take, take-append-le, take_at, take_all, drop-append-le, drop-append-add, drop_at, drop-drop}
 use Rattle.rules.specs.Records.{Row, State}
@@ -154,6 +155,15 @@ out_view n i l m h o = only_shrunk n (n - 1) (without_row i (view_rows n l).rows
 pub weight_out : (i : ℕ) (rs : List Row) → i < length rs → weigh_rows in_main (without_row i rs) + cond (ltb (row_at i rs).place 2) (row_at i rs).weight 0 ≡ weigh_rows in_main rs
 unfolding in_main
 weight_out i rs h = total_without (λ r. cond (ltb r.place 2) r.weight 0) i rs h
+
+pub main_leaves : (i : ℕ) (rs : List Row) → i < length rs → (row_at i rs).place < 2 → weigh_rows in_main (without_row i rs) + (row_at i rs).weight ≡ weigh_rows in_main rs
+main_leaves i rs h k = rw (lt-ltb _ _ k) at (weight_out i rs h)
+
+pub main_holds : (i : ℕ) (rs : List Row) → i < length rs → (row_at i rs).place < 2 → (row_at i rs).weight ≤ weigh_rows in_main rs
+main_holds i rs h k = omega (arith, main_leaves i rs h k)
+
+pub other_leaves : (i : ℕ) (rs : List Row) → i < length rs → 2 ≤ (row_at i rs).place → weigh_rows in_main (without_row i rs) ≡ weigh_rows in_main rs
+other_leaves i rs h k = omega (arith, rw (le-ltb _ _ k) at (weight_out i rs h))
 
 -- ---- fresh
 

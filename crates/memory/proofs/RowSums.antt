@@ -33,9 +33,6 @@ pub one_at_most : (b : Bool) → bool_byte b ≤ 1
 one_at_most true = omega arith
 one_at_most false = omega arith
 
-pub count_turn : (p : Row → Bool) (i c T : ℕ) (b : Bool) (rs : List Row) → i < length rs → b ≡ p (row_at i rs) → c + total (λ x. cond (p x) 1 0) (drop i rs) ≡ T → c + bool_byte b + total (λ x. cond (p x) 1 0) (drop (i + 1) rs) ≡ T
-count_turn p i c T b rs h e t = omega (arith, total_next (λ x. cond (p x) 1 0) i rs h, as_count b ∙ ap (λ (x : Bool). cond x 1 0) e)
-
 -- ---- a 1 for each row that passes a test, summed
 
 sum_from : (p : Row → Bool) (a : ℕ) (rs : List Row) → fold (λ s x. s + x) a (map (λ r. bool_byte (p r)) rs) ≡ a + total (λ r. cond (p r) 1 0) rs

@@ -1,4 +1,6 @@
 // The head's five numbers, and R.
+#![tactic(auto, unfolding(rules::specs::Memory::view_rows))]
+
 ghost use Rattle.std.specs.Prelude.{◌≡◌, ◌+◌, ◌≤◌, ◌<◌, length};
 ghost use Rattle.rules.specs.Memory.{capacity, view_rows};
 ghost use Rattle.rules.specs.Layout.{head_size};
@@ -10,6 +12,7 @@ use raw::layout;
 use raw::layout::{HEAD, ROW};
 
 // R: the rows that fit whole; 0 where the head doesn't fit.
+#[tactic(auto, unfolding(rules::specs::Memory::capacity))]
 pub fn rows_that_fit(state: &[u8]) -> usize
     ensures { result ≡ capacity state.now }
 {
@@ -55,6 +58,7 @@ pub fn row_count(state: &[u8]) -> u64
 }
 
 // Head numbers are set one at a time; n is any number of rows.
+#[tactic(auto, using(crate::proofs::Fields::head_store), unfolding(rules::specs::Records::with_seq, crate::proofs::Fields::with_head_number))]
 fn set_seq(state: &mut [u8], n: usize, v: u64)
     requires { head_size ≤ length state.old }
     ensures { view_rows n state.new ≡ with_seq v (view_rows n state.old) }
@@ -63,6 +67,7 @@ fn set_seq(state: &mut [u8], n: usize, v: u64)
 }
 
 // seq, raised by 1, for a new stamp.
+#[tactic(auto, using(crate::proofs::Fields::same_head))]
 pub fn next_key(state: &mut [u8], n: usize) -> u64
     requires { (head_size ≤ length state.old) × ((view_rows n state.old).seq < largest_number) }
     ensures { (result ≡ (view_rows n state.old).seq + 1) × (view_rows n state.new ≡ with_seq result (view_rows n state.old)) }
@@ -72,6 +77,7 @@ pub fn next_key(state: &mut [u8], n: usize) -> u64
     next
 }
 
+#[tactic(auto, using(crate::proofs::Fields::head_store), unfolding(crate::specs::Edits::with_stored_weight, crate::proofs::Fields::with_head_number))]
 pub fn set_stored_weight(state: &mut [u8], n: usize, v: u64)
     requires { head_size ≤ length state.old }
     ensures { view_rows n state.new ≡ with_stored_weight v (view_rows n state.old) }
@@ -79,6 +85,7 @@ pub fn set_stored_weight(state: &mut [u8], n: usize, v: u64)
     raw::numbers::write_u64(state, layout::STORED_WEIGHT, v);
 }
 
+#[tactic(auto, using(crate::proofs::Fields::head_store), unfolding(crate::specs::Edits::with_row_count, crate::proofs::Fields::with_head_number))]
 pub fn set_row_count(state: &mut [u8], n: usize, v: u64)
     requires { head_size ≤ length state.old }
     ensures { view_rows n state.new ≡ with_row_count v (view_rows n state.old) }

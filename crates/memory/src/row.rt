@@ -3,6 +3,7 @@
 ghost use Rattle.std.specs.Prelude.{◌≡◌, ◌+◌, ◌*◌, ◌≤◌, ◌<◌, length};
 ghost use Rattle.std.proofs.lemmas.List.Edits.{sets};
 ghost use Rattle.std.specs.Iterator.{YieldsFirst, item_count};
+ghost use Rattle.types.specs.Values.{source_code};
 ghost use Rattle.rules.specs.Records.{empty_entry, with_mtu, with_source, with_times};
 ghost use Rattle.rules.specs.Rows.{row_at, change_row, with_rows};
 ghost use Rattle.rules.specs.Entries.{mark_hint, drop_mtu};
@@ -12,10 +13,11 @@ ghost use Rattle.rules.specs.Lent.{Small};
 ghost use Rattle.rules.specs.Layout.{byte_size, head_size, number_size, row_size, source_in_row};
 ghost use Rattle.memory.specs.Edits.{stamped_as, with_weight};
 
-use crate::codes::{HINT, NO_MTU};
+use crate::codes::NO_MTU;
 use raw::layout;
 use raw::layout::{HEAD, ROW};
 use std::marker::Model;
+use types::entry::CoordSource;
 
 // A row, read where it stands.
 #[derive(Drop)]
@@ -56,72 +58,84 @@ impl<'a> Row<'a> {
         self.bytes
     }
 
+    #[tactic(auto, using(crate::proofs::Fields::path_len_is))]
     pub fn path_len(&self) -> u8
         ensures { result ≡ self.now.entry.path.len }
     {
         raw::numbers::read_u8(self.bytes, layout::ENTRY)
     }
 
+    #[tactic(auto, using(crate::proofs::Fields::created_at_is))]
     pub fn created_at(&self) -> u64
         ensures { result ≡ self.now.entry.created_at }
     {
         raw::numbers::read_u64(self.bytes, layout::CREATED_AT)
     }
 
+    #[tactic(auto, using(crate::proofs::Fields::last_used_is))]
     pub fn last_used(&self) -> u64
         ensures { result ≡ self.now.entry.last_used }
     {
         raw::numbers::read_u64(self.bytes, layout::LAST_USED)
     }
 
+    #[tactic(auto, using(crate::proofs::Fields::expires_at_is))]
     pub fn expires_at(&self) -> u64
         ensures { result ≡ self.now.entry.expires_at }
     {
         raw::numbers::read_u64(self.bytes, layout::EXPIRES_AT)
     }
 
+    #[tactic(auto, using(crate::proofs::Fields::mtu_mark_is))]
     pub fn mtu_mark(&self) -> u8
         ensures { result ≡ self.now.entry.mtu_mark }
     {
         raw::numbers::read_u8(self.bytes, layout::MTU_MARK)
     }
 
+    #[tactic(auto, using(crate::proofs::Fields::mtu_is))]
     pub fn mtu(&self) -> u16
         ensures { result ≡ self.now.entry.mtu }
     {
         raw::numbers::read_u16(self.bytes, layout::MTU)
     }
 
+    #[tactic(auto, using(crate::proofs::Fields::source_is))]
     pub fn source(&self) -> u8
         ensures { result ≡ self.now.entry.source }
     {
         raw::numbers::read_u8(self.bytes, layout::SOURCE)
     }
 
+    #[tactic(auto, using(crate::proofs::Fields::verified_until_is))]
     pub fn verified_until(&self) -> u64
         ensures { result ≡ self.now.entry.verified_until }
     {
         raw::numbers::read_u64(self.bytes, layout::VERIFIED_UNTIL)
     }
 
+    #[tactic(auto, using(crate::proofs::Fields::place_is))]
     pub fn place(&self) -> u8
         ensures { result ≡ self.now.place }
     {
         raw::numbers::read_u8(self.bytes, layout::PLACE)
     }
 
+    #[tactic(auto, using(crate::proofs::Fields::stamp_first_is))]
     pub fn stamp_first(&self) -> u64
         ensures { result ≡ self.now.stamp_first }
     {
         raw::numbers::read_u64(self.bytes, layout::STAMP_FIRST)
     }
 
+    #[tactic(auto, using(crate::proofs::Fields::stamp_seq_is))]
     pub fn stamp_seq(&self) -> u64
         ensures { result ≡ self.now.stamp_seq }
     {
         raw::numbers::read_u64(self.bytes, layout::STAMP_SEQ)
     }
 
+    #[tactic(auto, using(crate::proofs::Fields::weight_is))]
     pub fn weight(&self) -> u8
         ensures { result ≡ self.now.weight }
     {
@@ -182,16 +196,17 @@ impl<'a> Iterator for Rows<'a> {
 }
 
 // Source and verified_until of the row whose first byte is at `at`.
-pub fn write_source(s: &mut [u8], at: usize, source: u8, until: u64)
+pub fn write_source(s: &mut [u8], at: usize, source: CoordSource, until: u64)
     requires { at + row_size ≤ length s.old }
-    ensures s_after { s.new ≡ sets s.old (at + source_in_row) (source_bytes (with_source source until (empty_entry 0))) }
-    ensures small { Small byte_size source × Small number_size until }
+    ensures s_after { s.new ≡ sets s.old (at + source_in_row) (source_bytes (with_source (source_code source) until (empty_entry 0))) }
+    ensures small { Small byte_size (source_code source) × Small number_size until }
 {
-    raw::numbers::write_u8(s, at + layout::SOURCE, source);
+    raw::numbers::write_u8(s, at + layout::SOURCE, u8::from(source));
     raw::numbers::write_u64(s, at + layout::VERIFIED_UNTIL, until);
 }
 
 // last_used and expires_at, as a refresh sets them.
+#[tactic(auto, using(crate::proofs::Fields::times_store))]
 pub fn set_times(state: &mut [u8], n: usize, i: usize, used: u64, expires: u64)
     requires { (i < n) × (head_size + n * row_size ≤ length state.old) }
     ensures { view_rows n state.new ≡ rewrite (with_times used expires) i (view_rows n state.old) }
@@ -201,22 +216,25 @@ pub fn set_times(state: &mut [u8], n: usize, i: usize, used: u64, expires: u64)
 }
 
 // The entry's source and verified_until.
-pub fn set_source(state: &mut [u8], n: usize, i: usize, source: u8, until: u64)
+#[tactic(auto, using(crate::proofs::Fields::source_store))]
+pub fn set_source(state: &mut [u8], n: usize, i: usize, source: CoordSource, until: u64)
     requires { (i < n) × (head_size + n * row_size ≤ length state.old) }
-    ensures { view_rows n state.new ≡ rewrite (with_source source until) i (view_rows n state.old) }
+    ensures { view_rows n state.new ≡ rewrite (with_source (source_code source) until) i (view_rows n state.old) }
 {
     write_source(state, HEAD + i * ROW, source, until);
 }
 
 // The entry becomes a hint.
+#[tactic(auto, unfolding(rules::specs::Entries::mark_hint, types::specs::Values::source_code))]
 pub fn mark_hint(state: &mut [u8], n: usize, i: usize)
     requires { (i < n) × (head_size + n * row_size ≤ length state.old) }
     ensures { view_rows n state.new ≡ rewrite mark_hint i (view_rows n state.old) }
 {
-    set_source(state, n, i, HINT, 0);
+    set_source(state, n, i, CoordSource::Hint, 0);
 }
 
 // The entry's MTU, and the mark that it has one.
+#[tactic(auto, using(crate::proofs::Fields::mtu_store))]
 pub fn set_mtu(state: &mut [u8], n: usize, i: usize, mark: u8, mtu: u16)
     requires { (i < n) × (head_size + n * row_size ≤ length state.old) }
     ensures { view_rows n state.new ≡ rewrite (with_mtu mark mtu) i (view_rows n state.old) }
@@ -226,6 +244,7 @@ pub fn set_mtu(state: &mut [u8], n: usize, i: usize, mark: u8, mtu: u16)
 }
 
 // The entry's MTU goes.
+#[tactic(auto, unfolding(rules::specs::Entries::drop_mtu))]
 pub fn drop_mtu(state: &mut [u8], n: usize, i: usize)
     requires { (i < n) × (head_size + n * row_size ≤ length state.old) }
     ensures { view_rows n state.new ≡ rewrite drop_mtu i (view_rows n state.old) }

@@ -13,6 +13,7 @@ use crate::{head, row};
 use raw::layout::{HEAD, ROW};
 
 // The first j of n rows stay; the others become zero.
+#[tactic(auto, using(crate::proofs::RowLaws::zeroed_view))]
 pub fn shrink(state: &mut [u8], n: usize, j: usize, stored: u64)
     requires { (j ≤ n) × (head_size + n * row_size ≤ length state.old) }
     ensures { view_rows j state.new ≡ shrunk n j stored state.old }
@@ -31,6 +32,7 @@ fn close_gap(state: &mut [u8], n: usize, i: usize)
 }
 
 // The weight that is stored without row i.
+#[tactic(auto, using(crate::proofs::Fields::same_head, crate::proofs::RowLaws::view_length, crate::proofs::RowLaws::main_holds, crate::proofs::RowLaws::main_leaves, crate::proofs::RowLaws::other_leaves))]
 fn weight_without(state: &[u8], n: usize, i: usize) -> u64
     requires { (i < n) × (head_size + n * row_size ≤ length state.now) × ((view_rows n state.now).stored_weight ≡ main_weight (view_rows n state.now)) }
     ensures { result ≡ weigh_rows in_main (without_row i (view_rows n state.now).rows) }
@@ -45,6 +47,7 @@ fn weight_without(state: &[u8], n: usize, i: usize) -> u64
 }
 
 // Row i leaves; the row vacated at the end becomes zero.
+#[tactic(auto, using(crate::proofs::RowLaws::out_view))]
 pub fn remove_row(state: &mut [u8], n: usize, i: usize)
     requires { (i < n) × (head_size + n * row_size ≤ length state.old) × ((view_rows n state.old).stored_weight ≡ main_weight (view_rows n state.old)) }
     ensures { view_rows (n - 1) state.new ≡ take_out i (view_rows n state.old) }
@@ -65,6 +68,7 @@ pub fn copy_row(state: &mut [u8], n: usize, i: usize, j: usize)
 }
 
 // Both limits are set, and everything else up to the end of row R becomes zero.
+#[tactic(auto, using(crate::proofs::RowLaws::fresh_view))]
 pub fn make_fresh(state: &mut [u8], rows: usize, max: u64, ttl: u64)
     requires { head_size + rows * row_size ≤ length state.old }
     ensures { view_rows 0 state.new ≡ fresh rows max ttl (drop (head_size + rows * row_size) state.old) }

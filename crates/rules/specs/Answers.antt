@@ -14,7 +14,7 @@ said f (Err r) = Refused (refusal_code r)
 abbrev pub done : Unit {0} → Answer
 done u = Done
 
--- a refusal's number, 0 if done: the number lent beside the state where a lookup hands back a part
+-- a refusal's number, 0 if done: the number lent beside the state where a lookup hands back a part, and what fresh gives C
 unfoldable pub refusal_of : Answer → ℕ
 refusal_of (Refused n) = n
 refusal_of (Hinted p) = 0

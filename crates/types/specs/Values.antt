@@ -40,7 +40,7 @@ mtu_value_of (Some m) = m
 
 -- ---- refusals
 
--- the six numbers, in the order in which 01 gives their reasons
+-- the six numbers, in their own order; their reasons are asked in another
 abbrev pub refusal_code : Refusal → ℕ
 refusal_code UnsoundState = 1
 refusal_code PathLength = 2

@@ -1,6 +1,6 @@
 // What a hint brings, and what became of it.
 ghost use Rattle.std.specs.Prelude.{◌≡◌};
-ghost use Rattle.types.specs.Values.{covers, outcome_code, segment_code, placed_reply, verified_reply};
+ghost use Rattle.types.specs.Values.{covers, outcome_code, segment_code};
 
 // What the writer of a hint can pay, in units of weight.
 #[derive(Clone, Copy)]

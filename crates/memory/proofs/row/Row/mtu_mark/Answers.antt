@@ -1,7 +1,0 @@
--- The number at its offset in the bytes is the field of the row that they are.
-use mathlib.Core.Path.{◌∙◌}
-use Rattle.memory.proofs.Fields.{numbers}
-use Rattle.memory.proofs.row.Row.mtu_mark.Goals as goal
-
-pub returns : goal.returns
-returns c = c.read_u8.ensures ∙ (numbers _ _ c.self.view_is).mtu_mark
