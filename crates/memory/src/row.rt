@@ -196,6 +196,7 @@ impl<'a> Iterator for Rows<'a> {
 }
 
 // Source and verified_until of the row whose first byte is at `at`.
+#[tactic(auto, using(crate::proofs::StoreRuns::two_from, rules::proofs::MemoryLaws::length_le))]
 pub fn write_source(s: &mut [u8], at: usize, source: CoordSource, until: u64)
     requires { at + row_size ≤ length s.old }
     ensures s_after { s.new ≡ sets s.old (at + source_in_row) (source_bytes (with_source (source_code source) until (empty_entry 0))) }
