@@ -75,23 +75,23 @@ pub record Halved (k : NodeAddr) (rs : List Row) (lo hi : ℕ) : Type 0 where
 pub halved_start : (k : NodeAddr) (rs : List Row) (n : ℕ) → length rs ≡ n → Halved k rs 0 n
 halved_start k rs n e = record { ordered = omega arith; within = omega arith; before = below_none _; behind = λ j h l. absurd (let z : ⊥ = omega arith in z) }
 
--- row m, of those that are left
-module _ {k : NodeAddr} {rs : List Row} {lo hi : ℕ} (d : Halved k rs lo hi) (a : ascends rs ≡ true) (m : ℕ) (p : lo ≤ m) (q : m < hi) where
-  pub halved_less : order_of (row_at m rs).key k ≡ Less → Halved k rs (m + 1) hi
-  halved_less e =
-      let b = less_before (row_at m rs).key k e in
+-- r is row m, of those that are left
+module _ {k : NodeAddr} {rs : List Row} {lo hi : ℕ} (d : Halved k rs lo hi) (a : ascends rs ≡ true) (m : ℕ) (p : lo ≤ m) (q : m < hi) {r : Row} (e : r ≡ row_at m rs) where
+  pub halved_less : Less ≡ order_of r.key k → Halved k rs (m + 1) hi
+  halved_less o =
+      let b = less_before (row_at m rs).key k (rw e at (sym o)) in
       let lower : (j : ℕ) → j < m → addr_before (row_at j rs).key k ≡ true = λ j h. before_trans (row_at j rs).key (row_at m rs).key k (rising_at rs j m a h (omega arith)) b in
       record { ordered = omega arith; within = d.within; before = below_more _ m lower b; behind = d.behind }
 
-  pub halved_greater : order_of (row_at m rs).key k ≡ Greater → Halved k rs lo m
-  halved_greater e =
-      let b = greater_behind (row_at m rs).key k e in
+  pub halved_greater : Greater ≡ order_of r.key k → Halved k rs lo m
+  halved_greater o =
+      let b = greater_behind (row_at m rs).key k (rw e at (sym o)) in
       let higher : (j : ℕ) → m < j → j < length rs → addr_before k (row_at j rs).key ≡ true = λ j h l. before_trans k (row_at m rs).key (row_at j rs).key b (rising_at rs m j a h l) in
       record { ordered = p; within = omega arith; before = d.before; behind = λ j h l. ⊎_elim (λ u. rw u at b) (λ u. higher j u l) (eq-or-lt_of_le h) }
 
-  pub halved_equal : order_of (row_at m rs).key k ≡ Equal → Ok m ≡ searched k rs
+  pub halved_equal : Equal ≡ order_of r.key k → Ok m ≡ searched k rs
   unfolding searched
-  halved_equal e = rw (found_at k rs m a (omega arith) (equal_same (row_at m rs).key k e))
+  halved_equal o = rw (found_at k rs m a (omega arith) (equal_same (row_at m rs).key k (rw e at (sym o))))
 
 pub halved_end : {k : NodeAddr} {rs : List Row} {lo hi : ℕ} → Halved k rs lo hi → hi ≤ lo → Err lo ≡ searched k rs
 unfolding searched

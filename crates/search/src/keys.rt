@@ -1,13 +1,12 @@
 // Keys of the held rows, which ascend. A key is the first sixteen bytes of its row.
 ghost use Rattle.std.specs.Prelude.{◌≡◌, true, ◌+◌, ◌*◌, ◌≤◌, ◌<◌, length};
-ghost use Rattle.rules.specs.Rows.{row_at};
 ghost use Rattle.rules.specs.Sound.{ascends};
 ghost use Rattle.rules.specs.Memory.{cut, view_rows};
-ghost use Rattle.rules.specs.Layout.{address_size, head_size, row_size};
+ghost use Rattle.rules.specs.Layout.{head_size, row_size};
 ghost use Rattle.search.specs.BigEndian.{NumberOf};
 ghost use Rattle.search.specs.ByKey.{order_of, searched};
 
-use raw::layout::{HEAD, ROW};
+use memory::row::{Row, row_at};
 use raw::numbers::wide;
 use std::cmp::Ordering;
 use types::node_addr::NodeAddr;
@@ -29,55 +28,30 @@ fn be_u64(s: &[u8], at: usize) -> u64
             + wide(s[at + 7]))
 }
 
-// The address at `at` against an address: sixteen bytes against sixteen, as two numbers each, whose order is proved to be the bytes'.
-fn order_to(state: &[u8], at: usize, key: NodeAddr) -> Ordering
-    requires { at + address_size ≤ length state.now }
-    ensures { result ≡ order_of (record { 0 = cut at address_size state.now }) key }
+// The row's key against an address: sixteen bytes against sixteen, as two numbers each, whose order is proved to be the bytes'.
+#[tactic(auto, using(crate::proofs::KeyBytes::key_bytes, crate::proofs::KeyBytes::first_order, crate::proofs::KeyBytes::second_order))]
+fn order_to(row: &Row<'_>, key: NodeAddr) -> Ordering
+    ensures { result ≡ order_of row.now.key key }
 {
+    let held = row.bytes();
     let bytes = key.0;
-    let high = be_u64(state, at);
-    let key_high = be_u64(&bytes, 0);
-    if high < key_high {
-        return Ordering::Less;
+    match be_u64(held, 0).cmp(&be_u64(&bytes, 0)) {
+        Ordering::Equal => be_u64(held, 8).cmp(&be_u64(&bytes, 8)),
+        order => order,
     }
-    if key_high < high {
-        return Ordering::Greater;
-    }
-    let low = be_u64(state, at + 8);
-    let key_low = be_u64(&bytes, 8);
-    if low < key_low {
-        return Ordering::Less;
-    }
-    if key_low < low {
-        return Ordering::Greater;
-    }
-    Ordering::Equal
-}
-
-// The key of row i of n against an address.
-#[tactic(auto, using(crate::proofs::KeyBytes::key_bytes))]
-fn key_order(state: &[u8], n: usize, i: usize, key: NodeAddr) -> Ordering
-    requires { (i < n) × (head_size + n * row_size ≤ length state.now) }
-    ensures { result ≡ order_of (row_at i (view_rows n state.now).rows).key key }
-{
-    order_to(state, HEAD + i * ROW, key)
 }
 
 // How many of n rows stand between two keys so far apart, were keys spread evenly, as hashes are.
-fn rows_in(n: usize, gap: u64) -> usize
-    ensures { result < 65536 }
-{
+fn rows_in(n: usize, gap: u64) -> usize {
     let count = (n % 65536) as u64;
     (gap / 0x1_0000_0000 * count / 0x1_0000_0000) as usize
 }
 
-// A guess at the row of a key that begins with `key_high`, from what row i begins with. Nothing is promised of it.
-fn guess_from(state: &[u8], n: usize, i: usize, key_high: u64) -> usize
-    requires { (i < n) × (head_size + n * row_size ≤ length state.now) }
-{
-    let held = be_u64(state, HEAD + i * ROW);
+// A guess at the row of a key that begins with `key_high`, from what row i of n begins with. Nothing is promised of it.
+fn guess_from(row: &Row<'_>, n: usize, i: usize, key_high: u64) -> usize {
+    let held = be_u64(row.bytes(), 0);
     if held < key_high {
-        return i + rows_in(n, key_high - held);
+        return i.wrapping_add(rows_in(n, key_high - held));
     }
     let back = rows_in(n, held - key_high);
     if back < i { i - back } else { 0 }
@@ -113,8 +87,9 @@ pub fn search(state: &[u8], n: usize, key: NodeAddr) -> Result<usize, usize>
     let mut hi = n;
     while lo < hi {
         let mid = probe(lo, hi, guess, trust);
-        let order = key_order(state, n, mid, key);
-        guess = guess_from(state, n, mid, key_high);
+        let row = row_at(state, n, mid);
+        let order = order_to(&row, key);
+        guess = guess_from(&row, n, mid, key_high);
         trust = trust / 2;
         match order {
             Ordering::Less => {
