@@ -32,10 +32,6 @@ module _ (x l : List ℕ) (at i : ℕ) (hx : length x ≡ address_size) (hl : at
   pub addr_end : address_size ≤ i → same_bytes (drop i x) (drop i (cut at address_size l)) ≡ true
   addr_end h = same_end x (cut at address_size l) i (omega arith) (omega (arith, length_cut at address_size l hl))
 
--- what was compared, with one byte more
-pub addr_more : (t a b c : Bool) → t ≡ (a && b) → b ≡ c → t ≡ (a && c)
-addr_more t a b c e f = e ∙ ap (λ (x : Bool). a && x) f
-
 pub and_in : (a b c : Bool) → (a && (b && c)) ≡ ((a && b) && c)
 and_in a b c = sym (and_assoc a b c)
 

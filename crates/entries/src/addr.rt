@@ -11,6 +11,7 @@ use types::node_addr::NodeAddr;
 
 // Whether the sixteen bytes at an offset equal the address, byte by byte. No byte ends the loop early, so that the compiler compares
 // all sixteen at once.
+#[tactic(auto, using(crate::proofs::Bytes::addr_turn, crate::proofs::Bytes::addr_end, crate::proofs::Bytes::and_in), unfolding(types::specs::Addresses::same_addr))]
 pub(crate) fn addr_at(state: &[u8], at: usize, a: NodeAddr) -> bool
     requires { at + address_size ≤ length state.now }
     ensures { result ≡ same_addr a (record { 0 = cut at address_size state.now }) }
@@ -23,6 +24,7 @@ pub(crate) fn addr_at(state: &[u8], at: usize, a: NodeAddr) -> bool
 }
 
 // Whether the element at an offset is this one: every field counts.
+#[tactic(auto, using(crate::proofs::Bytes::element_same))]
 pub(crate) fn coord_entry_at(state: &[u8], at: usize, e: CoordEntry) -> bool
     requires { at + coord_entry_size ≤ length state.now }
     ensures { result ≡ same_entry (coord_entry_of (cut at coord_entry_size state.now)) e }
@@ -40,6 +42,7 @@ pub fn load_addr(state: &[u8], at: usize) -> NodeAddr
     NodeAddr(state[at..at + ADDRESS].try_into().unwrap())
 }
 
+#[tactic(auto, using(crate::proofs::Bytes::element_made))]
 pub fn load_coord_entry(state: &[u8], at: usize) -> CoordEntry
     requires { at + coord_entry_size ≤ length state.now }
     ensures { result ≡ coord_entry_of (cut at coord_entry_size state.now) }

@@ -1,4 +1,6 @@
 // The entry of a row, by value.
+#![tactic(auto, unfolding(rules::specs::Records::entry_value, types::specs::Values::source_of))]
+
 ghost use Rattle.std.specs.Prelude.{◌≡◌};
 ghost use Rattle.rules.specs.Records.{entry_value};
 

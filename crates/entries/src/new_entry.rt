@@ -1,12 +1,15 @@
 // An entry by value, as the calls make it (the original's entry.rs).
+#![tactic(auto, unfolding(crate::specs::NewEntries::entry_from, rules::specs::Entries::new_entry, rules::specs::Entries::update, rules::specs::Entries::mark_verified, rules::specs::Entries::set_mtu, types::specs::Values::source_code))]
+
 ghost use Rattle.std.specs.Prelude.{◌≡◌};
 ghost use Rattle.rules.specs.Entries.{new_entry, update, mark_verified, set_mtu};
 ghost use Rattle.entries.specs.NewEntries.{entry_from};
 
 use crate::times::{VERIFIED_TTL_MS, add_times};
-use memory::codes::{HINT, NO_MTU, SOME_MTU, VERIFIED};
+use memory::codes::{NO_MTU, SOME_MTU};
 use memory::row::Row;
 use types::coord::Path;
+use types::entry::CoordSource;
 
 #[derive(Clone, Copy)]
 pub struct NewEntry {
@@ -16,7 +19,7 @@ pub struct NewEntry {
     pub expires_at: u64,
     pub mtu_mark: u8,
     pub mtu: u16,
-    pub source: u8,
+    pub source: CoordSource,
     pub verified_until: u64,
 }
 
@@ -31,7 +34,7 @@ pub fn new_entry(path: Path, time: u64, ttl: u64) -> NewEntry
         expires_at: expires,
         mtu_mark: NO_MTU,
         mtu: 0,
-        source: HINT,
+        source: CoordSource::Hint,
         verified_until: 0,
     }
 }
@@ -51,7 +54,7 @@ pub fn updated_entry(row: &Row<'_>, path: Path, time: u64, ttl: u64) -> NewEntry
         expires_at: expires,
         mtu_mark: mark,
         mtu: mtu,
-        source: HINT,
+        source: CoordSource::Hint,
         verified_until: 0,
     }
 }
@@ -60,7 +63,7 @@ pub fn verified_entry(e: NewEntry, time: u64) -> NewEntry
     ensures { (entry_from result ≡ mark_verified time (entry_from e)) × (result.path ≡ e.path) }
 {
     let mut v = e;
-    v.source = VERIFIED;
+    v.source = CoordSource::Verified;
     v.verified_until = add_times(time, VERIFIED_TTL_MS);
     v
 }

@@ -20,6 +20,7 @@ pub struct PathPlace {
 }
 
 // Whether the row's path and this one are the same, element by element, where it stands.
+#[tactic(auto, using(crate::proofs::PathElements::elements_count, crate::proofs::PathElements::path_turn, types::proofs::PathLaws::entries_end, types::proofs::PathLaws::lengths_differ), unfolding(types::specs::Paths::same_path))]
 pub fn path_is(row: &Row<'_>, path: Path) -> bool
     ensures { result ≡ same_path row.now.entry.path path }
 {
@@ -39,6 +40,7 @@ pub fn path_is(row: &Row<'_>, path: Path) -> bool
 }
 
 // Whether an element up to the length has the address.
+#[tactic(auto, using(crate::proofs::PathElements::search_hit, crate::proofs::PathElements::search_miss, crate::proofs::PathElements::elements_length, types::proofs::PathLaws::among_end), unfolding(types::specs::Paths::contains))]
 pub fn path_contains(row: &Row<'_>, a: NodeAddr) -> bool
     requires { row.now.entry.path.len ≤ path_places }
     ensures { result ≡ contains a row.now.entry.path }
@@ -54,6 +56,7 @@ pub fn path_contains(row: &Row<'_>, a: NodeAddr) -> bool
 }
 
 // Whether the last element up to the length has the address.
+#[tactic(auto, using(crate::proofs::Bytes::same_sym, crate::proofs::PathElements::root_place))]
 pub fn root_is(row: &Row<'_>, a: NodeAddr) -> bool
     requires { (row.now.entry.path.len ≤ path_places) × (1 ≤ row.now.entry.path.len) }
     ensures { result ≡ same_addr (root_of row.now.entry.path) a }
@@ -75,6 +78,7 @@ pub fn path_place(state: &[u8], n: usize, i: usize) -> PathPlace
 }
 
 // All places and the length.
+#[tactic(auto, using(crate::proofs::PathElements::places_length, raw::proofs::CopyLaws::copied))]
 pub(crate) fn load_path(row: &Row<'_>) -> Path
     ensures { result ≡ row.now.entry.path }
 {

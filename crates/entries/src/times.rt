@@ -1,4 +1,6 @@
 // An entry where it stands in a row: whether it is expired, and whether it is verified; sums of times.
+#![tactic(auto, unfolding(rules::specs::Entries::expired, rules::specs::Entries::add_times, rules::specs::Entries::verified))]
+
 ghost use Rattle.std.specs.Prelude.{◌≡◌};
 ghost use Rattle.rules.specs.Entries.{expired, add_times, verified};
 

@@ -25,6 +25,7 @@ pub fn insert_row(state: &mut [u8], n: usize, i: usize, r: NewRow)
 }
 
 // Row i gets another path.
+#[tactic(auto, using(crate::proofs::PathLaws::path_view))]
 pub fn set_path(state: &mut [u8], n: usize, i: usize, p: Path)
     requires { (i < n) × (head_size + n * row_size ≤ length state.old) × (p.len ≤ path_places) }
     ensures { view_rows n state.new ≡ rewrite (with_path p) i (view_rows n state.old) }

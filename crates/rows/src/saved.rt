@@ -8,6 +8,7 @@ ghost use Rattle.rules.specs.Memory.{cut, row_of, view_rows};
 use memory::head;
 use raw::layout::{HEAD, ROW};
 
+#[tactic(auto, using(raw::proofs::StoreLaws::part_stored))]
 fn store_saved(s: &mut [u8], at: usize, row: [u8; ROW])
     requires { at + row_size ≤ length s.old }
     ensures s_after { s.new ≡ sets s.old at row }
@@ -17,6 +18,7 @@ fn store_saved(s: &mut [u8], at: usize, row: [u8; ROW])
 }
 
 // The rows from i on move up by a row, and row i has these bytes.
+#[tactic(auto, using(crate::proofs::InsertLaws::insert_view))]
 pub fn insert_saved(state: &mut [u8], n: usize, i: usize, row: [u8; ROW])
     requires { (i ≤ n) × (head_size + (n + 1) * row_size ≤ length state.old) }
     ensures { view_rows (n + 1) state.new ≡ inserted i (row_of row) (view_rows n state.old) }

@@ -18,6 +18,7 @@ pub(crate) fn store_addr(s: &mut [u8], at: usize, a: NodeAddr)
     s[at..at + ADDRESS].copy_from_slice(&a.0);
 }
 
+#[tactic(auto, using(memory::proofs::OwnedValues::owned_entry, memory::proofs::StoreRuns::three, rules::proofs::MemoryLaws::length_le, crate::proofs::RowImage::joined), unfolding(rules::specs::Memory::coord_entries_bytes))]
 fn store_coord_entry(s: &mut [u8], at: usize, e: CoordEntry)
     requires { at + coord_entry_size ≤ length s.old }
     ensures s_after { s.new ≡ sets s.old at (coord_entries_bytes (e ∷ [])) }

@@ -8,6 +8,7 @@ use lib.Dec.{ltb, eqb}
 use lib.ListN.{length, take, drop, get_or, length-drop, take-append-drop}
 use lib.Seq.{drop-drop, length-take-le, take-add, take_all}
 use borrow.Author.Tests.{eq-eqb, eqb-true, eqb-false, le-ltb, ltb-true, ltb-false}
+use Rattle.std.specs.Int.{w64, from_be_bytes}
 use Rattle.types.specs.Addresses.{bytes_before}
 use Rattle.rules.specs.Lent.{Bytes}
 use Rattle.rules.specs.Memory.{cut}
@@ -113,12 +114,10 @@ module _ {l m p q x y : List ℕ} {a b : ℕ} (i : TwiceEight l p x) (j : TwiceE
 
 -- ---- eight bytes, as the code reads them
 
-horner : (r0 r1 r2 r3 r4 r5 r6 r7 : ℕ) → r0 * 0x100_0000_0000_0000 + r1 * 0x1_0000_0000_0000 + r2 * 0x100_0000_0000 + r3 * 0x1_0000_0000 + r4 * 0x100_0000 + r5 * 0x1_0000 + r6 * 0x100 + r7
-    ≡ (((((((0 * 256 + r0) * 256 + r1) * 256 + r2) * 256 + r3) * 256 + r4) * 256 + r5) * 256 + r6) * 256 + r7
+horner : (r0 r1 r2 r3 r4 r5 r6 r7 : ℕ) → from_be_bytes w64 (r0 ∷ r1 ∷ r2 ∷ r3 ∷ r4 ∷ r5 ∷ r6 ∷ r7 ∷ []) ≡ (((((((0 * 256 + r0) * 256 + r1) * 256 + r2) * 256 + r3) * 256 + r4) * 256 + r5) * 256 + r6) * 256 + r7
 horner r0 r1 r2 r3 r4 r5 r6 r7 = omega arith
 
-pub eight_number : (l : List ℕ) (at : ℕ) → at + 8 ≤ length l → ((i : ℕ) → get_or l i 0 < 256)
-    → NumberOf (cut at 8 l) (get_or l at 0 * 0x100_0000_0000_0000 + get_or l (at + 1) 0 * 0x1_0000_0000_0000 + get_or l (at + 2) 0 * 0x100_0000_0000 + get_or l (at + 3) 0 * 0x1_0000_0000 + get_or l (at + 4) 0 * 0x100_0000 + get_or l (at + 5) 0 * 0x1_0000 + get_or l (at + 6) 0 * 0x100 + get_or l (at + 7) 0)
+pub eight_number : (l : List ℕ) (at : ℕ) → at + 8 ≤ length l → ((i : ℕ) → get_or l i 0 < 256) → NumberOf (cut at 8 l) (from_be_bytes w64 (cut at 8 l))
 unfolding goes_on
 eight_number l at h b =
     rw (eight_bytes l at h) (record { value = horner _ _ _ _ _ _ _ _; bytes = (b at, (b (at + 1), (b (at + 2), (b (at + 3), (b (at + 4), (b (at + 5), (b (at + 6), (b (at + 7), tt)))))))) })

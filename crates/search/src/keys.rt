@@ -7,25 +7,15 @@ ghost use Rattle.search.specs.BigEndian.{NumberOf};
 ghost use Rattle.search.specs.ByKey.{order_of, searched};
 
 use memory::row::{Row, row_at};
-use raw::numbers::wide;
 use std::cmp::Ordering;
 use types::node_addr::NodeAddr;
 
-// Eight bytes as a number, the first highest. Summed by fours, it compiles to one load and a reversal of its bytes.
-#[tactic(auto, using(crate::proofs::BigEndianLaws::eight_number))]
+// Eight bytes as a number, the first highest.
 fn be_u64(s: &[u8], at: usize) -> u64
     requires { at + 8 ≤ length s.now }
     ensures { NumberOf (cut at 8 s.now) result }
 {
-    (wide(s[at]) * 0x100_0000
-        + wide(s[at + 1]) * 0x1_0000
-        + wide(s[at + 2]) * 0x100
-        + wide(s[at + 3]))
-        * 0x1_0000_0000
-        + (wide(s[at + 4]) * 0x100_0000
-            + wide(s[at + 5]) * 0x1_0000
-            + wide(s[at + 6]) * 0x100
-            + wide(s[at + 7]))
+    u64::from_be_bytes(s[at..at + 8].try_into().unwrap())
 }
 
 // The row's key against an address: sixteen bytes against sixteen, as two numbers each, whose order is proved to be the bytes'.
