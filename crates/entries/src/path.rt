@@ -21,8 +21,8 @@ pub struct PathPlace {
 
 // Whether the row's path and this one are the same, element by element, where it stands.
 #[tactic(auto, using(crate::proofs::PathElements::elements_count, crate::proofs::PathElements::path_turn, types::proofs::PathLaws::entries_end, types::proofs::PathLaws::lengths_differ), unfolding(types::specs::Paths::same_path))]
-pub fn path_is(row: &Row<'_>, path: Path) -> bool
-    ensures { result ≡ same_path row.now.entry.path path }
+pub fn path_is(row: &Row<'_>, path: &Path) -> bool
+    ensures { result ≡ same_path row.now.entry.path path.now }
 {
     let bytes = row.bytes();
     // A length past the last place means all of them.

@@ -235,7 +235,7 @@ pub fn place_held(
     if verified & !stated {
         return reject(false, 0);
     }
-    let same = path_is(&row, path);
+    let same = path_is(&row, &path);
     if verified & same {
         return reject(false, 0);
     }

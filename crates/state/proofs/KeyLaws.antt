@@ -1,40 +1,37 @@
--- Two addresses in the memory, byte by byte; and the keys of two rows.
-use mathlib.Core.Path.{◌≡◌, sym, ◌∙◌}
-use Prim.Native.Nat.{ℕ, ◌+◌, ◌*◌, ◌≤◌, ◌<◌}
+-- The bytes of a row's key, and a row's key before those behind it.
+use mathlib.Core.Path.{◌≡◌, sym}
+use Prim.Native.Nat.{ℕ, ◌+◌, ◌≤◌, ◌<◌}
 use mathlib.Core.Bool.{true}
 use mathlib.Core.List.{List}
-use lib.Dec.{ltb}
+use native.Mathlib.Omega.{arith}
 use lib.ListN.{length, drop, get_or, drop_of_length-le}
-use Rattle.types.specs.Addresses.{bytes_before, addr_before}
-use Rattle.types.proofs.PathLaws.{uncons, before_stop, before_go}
+use Rattle.types.specs.Addresses.{addr_before}
+use Rattle.types.proofs.PathLaws.{uncons}
 use Rattle.rules.specs.Records.{Row}
 use Rattle.rules.specs.Rows.{row_at, blank_row}
 use Rattle.rules.specs.Sound.{leads}
-use Rattle.rules.specs.Memory.{cut, view_rows}
+use Rattle.rules.specs.Memory.{row_of}
 use Rattle.rules.proofs.MemoryLaws.{length_cut}
-use Rattle.rules.specs.Layout.{address_size, head_size, row_size}
+use Rattle.rules.specs.Layout.{address_size, row_size}
 use Rattle.raw.proofs.CopyLaws.{cut_byte}
-use Rattle.memory.proofs.Fields.{row_key}
 
--- a turn of the loop over the bytes of the addresses at a and b
-module _ (l : List ℕ) (a b i : ℕ) (ha : a + address_size ≤ length l) (hb : b + address_size ≤ length l) (h : i < address_size) where
-  pub bytes_differ : (get_or l (a + i) 0 ≡ get_or l (b + i) 0 → ⊥) → bytes_before (drop i (cut a address_size l)) (drop i (cut b address_size l)) ≡ ltb (get_or l (a + i) 0) (get_or l (b + i) 0)
-  bytes_differ n =
-      let x = sym (cut_byte a address_size i l h) in
-      let y = sym (cut_byte b address_size i l h) in
-      before_stop (cut a address_size l) (cut b address_size l) i (rw (length_cut a address_size l ha) h) (rw (length_cut b address_size l hb) h) (λ e. n (sym x ∙ e ∙ y)) ∙ rw (x, y)
+-- c are a row's bytes
+module _ (c : List ℕ) (r : Row) (e : row_of c ≡ r) where
+  pub key_length : row_size ≤ length c → length r.key.0 ≡ address_size
+  unfolding row_of
+  key_length h = rw (← e) (length_cut 0 address_size c (omega arith))
 
-  pub bytes_agree : get_or l (a + i) 0 ≡ get_or l (b + i) 0 → bytes_before (drop i (cut a address_size l)) (drop i (cut b address_size l)) ≡ bytes_before (drop (i + 1) (cut a address_size l)) (drop (i + 1) (cut b address_size l))
-  bytes_agree e = before_go (cut a address_size l) (cut b address_size l) i (rw (length_cut a address_size l ha) h) (rw (length_cut b address_size l hb) h) (sym (cut_byte a address_size i l h) ∙ e ∙ cut_byte b address_size i l h)
+  pub key_byte : (i : ℕ) → i < address_size → get_or r.key.0 i 0 ≡ get_or c i 0
+  unfolding row_of
+  key_byte i h =
+      let z : 0 + i ≡ i = omega arith in
+      rw (← e) (rw z at (sym (cut_byte 0 address_size i c h)))
 
-pub keys_before : (l : List ℕ) (n i j : ℕ) → i < n → j < n
-    → bytes_before (cut (head_size + i * row_size) address_size l) (cut (head_size + j * row_size) address_size l) ≡ addr_before (row_at i (view_rows n l).rows).key (row_at j (view_rows n l).rows).key
-unfolding addr_before
-keys_before l n i j hi hj = rw (row_key n i l hi, row_key n j l hj)
+-- ---- r is row i, and x the next
 
-pub leads_next : (r : Row) (rs : List Row) (i : ℕ) → i < length rs → leads r (drop i rs) ≡ addr_before r.key (row_at i rs).key
+pub leads_next : (rs : List Row) (i : ℕ) {r x : Row} → i + 1 < length rs → r ≡ row_at i rs → x ≡ row_at (i + 1) rs → addr_before r.key x.key ≡ leads (row_at i rs) (drop (i + 1) rs)
 unfolding leads
-leads_next r rs i h = rw (uncons rs i blank_row h)
+leads_next rs i h e f = rw (e, f, uncons rs (i + 1) blank_row h)
 
 pub leads_none : (r : Row) (rs : List Row) (i : ℕ) → length rs ≤ i → leads r (drop i rs) ≡ true
 unfolding leads

@@ -95,9 +95,9 @@ module _ (q : ℕ) (rs : List Row) (t : Totals) (i : ℕ) (p : Passing q rs t i)
         light = omega arith;
       }
 
-  pub passing_turn : {x y : Bool} {k w : ℕ} → x ≡ row_sound q (row_at i rs) → x ≡ true → y ≡ leads (row_at i rs) (drop (i + 1) rs) → y ≡ true
+  pub passing_turn : {x : Bool} {k w : ℕ} → x ≡ row_sound q (row_at i rs) → x ≡ true → leads (row_at i rs) (drop (i + 1) rs) ≡ true
       → k ≡ (row_at i rs).place → w ≡ (row_at i rs).weight → w < 256 → Passing q rs (tallied t k w) (i + 1)
-  passing_turn {x} {y} {k} {w} a a1 b b1 ek ew z = rw (ek, ew) (turn (sym a ∙ a1) (sym b ∙ b1) (omega arith))
+  passing_turn {x} {k} {w} a a1 b ek ew z = rw (ek, ew) (turn (sym a ∙ a1) b (omega arith))
 
 pub passing_end : (q M Q w : ℕ) (rs : List Row) (t : Totals) (i : ℕ) → Passing q rs t i → length rs ≤ i
     → (leb t.main M && (leb t.probation Q && eqb w t.weight)) ≡ rows_sound M Q q w rs

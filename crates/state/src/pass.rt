@@ -61,7 +61,8 @@ pub fn rows_are_sound(
         if !row_is_sound(&row, seq) {
             return false;
         }
-        if !key_rises(state, n, i) {
+        let j = i + 1;
+        if j < n && !key_rises(&row, &row_at(state, n, j)) {
             return false;
         }
         let place = row.place();
