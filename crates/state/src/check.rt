@@ -11,6 +11,7 @@ use memory::bounds::probation_bound;
 use types::refusal::Refusal;
 
 // No head is trusted: no row is read before its number is known to fit.
+#[tactic(auto, using(crate::proofs::PassLaws::head_facts, crate::proofs::PassLaws::none_sound, crate::proofs::PassLaws::head_stops, crate::proofs::PassLaws::rows_decide), unfolding(rules::specs::Memory::capacity))]
 pub fn is_sound(state: &[u8]) -> bool
     ensures { result ≡ sound (capacity state.now) (view state.now) }
 {
@@ -30,7 +31,7 @@ pub fn is_sound(state: &[u8]) -> bool
     rows_are_sound(state, count as usize, seq, rows - q, q, stored)
 }
 
-// The refusal of every call but fresh that comes before all others.
+// Number 1, of every call but fresh. It comes before 2, 3 and 4; before it comes 6 alone, where a command or a funding's kind is read.
 pub fn check_sound(state: &[u8]) -> Result<(), Refusal>
     ensures { result ≡ cond (sound (capacity state.now) (view state.now)) (Ok tt) (Err UnsoundState) }
 {

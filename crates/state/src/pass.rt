@@ -18,6 +18,7 @@ pub struct Totals {
     pub weight: u64,
 }
 
+#[tactic(auto, unfolding(crate::specs::Parts::tallied))]
 fn counted(t: Totals, place: u8, weight: u8) -> Totals
     requires { (t.main < 2 ^ 32) × ((t.probation < 2 ^ 32) × (t.weight < 2 ^ 32)) }
     ensures { result ≡ tallied t place weight }
@@ -40,6 +41,7 @@ fn counted(t: Totals, place: u8, weight: u8) -> Totals
 }
 
 // At most 1,024 rows, so the totals stay small. main and probation are the bounds M and Q; seq and stored are the head's.
+#[tactic(auto, using(rules::proofs::Foreign::view_length, crate::proofs::PassLaws::passing_end))]
 pub fn rows_are_sound(
     state: &[u8],
     n: usize,

@@ -22,6 +22,7 @@ fn path_weight(len: u8) -> u8
 }
 
 // One expression with no branch, in the order of the rules; seq is the head's.
+#[tactic(auto, unfolding(rules::specs::Sound::row_sound, rules::specs::Sound::legal, rules::specs::Sound::weighed, rules::specs::Sound::sourced, rules::specs::Rows::at_place, types::specs::Paths::path_weight))]
 pub fn row_is_sound(row: &Row<'_>, seq: u64) -> bool
     ensures { result ≡ row_sound seq row.now }
 {

@@ -1,16 +1,10 @@
--- Refusal 5 is the negation of head_sound for no row; where it does not apply, the memory has the rows that make_fresh writes.
-use mathlib.Core.Bool.{true, false}
+-- Where refusal 5 does not apply, the memory has the rows that make_fresh writes.
+use mathlib.Core.Bool.{true}
 use mathlib.Core.Path.{sym}
 use Rattle.rules.proofs.MemoryLaws.{all_bytes}
-use Rattle.rules.proofs.Public.{fresh_refused, fresh_is_done}
+use Rattle.rules.proofs.Public.{fresh_is_done}
 use Rattle.state.proofs.FreshSizes.{rows_there, size_said}
 use Rattle.state.proofs.fresh.fresh.Goals as goal
-
-pub returns-then-not-head_is_sound : goal.returns-then-not-head_is_sound
-returns-then-not-head_is_sound c =
-    let h = size_said c.args.state.now c.args.max c.rows_that_fit-rows.result c.head_is_sound.result false c.rows_that_fit-rows.ensures c.head_is_sound.ensures c.if-not-head_is_sound.true in
-    let f = fresh_refused c.args.state.now c.args.max c.args.ttl h in
-    (sym f.answer, sym f.memory)
 
 pub make_fresh-requires : goal.make_fresh-requires
 make_fresh-requires c =

@@ -1,6 +1,6 @@
 -- The loop has the rest of the rows still to check, and the totals are those of the rows passed.
 use mathlib.Core.Path.{◌≡◌, ap, sym, ◌∙◌}
-use Prim.Native.Nat.{◌+◌, ◌≤◌, ◌<◌}
+use Prim.Native.Nat.{◌+◌, ◌<◌}
 use native.Mathlib.Omega.{arith}
 use mathlib.Core.Bool.{true}
 use lib.ListN.{length, drop}
@@ -10,7 +10,7 @@ use Rattle.rules.specs.Rows.{row_at}
 use Rattle.rules.specs.Sound.{leads, row_sound}
 use Rattle.rules.specs.Memory.{view_rows}
 use Rattle.rules.proofs.Foreign.{view_length}
-use Rattle.state.proofs.PassLaws.{passing_start, passing_turn, passing_end, row_stops, key_stops}
+use Rattle.state.proofs.PassLaws.{passing_start, passing_turn, row_stops, key_stops}
 use Rattle.state.proofs.KeyLaws.{leads_next, leads_none}
 use Rattle.state.proofs.pass.rows_are_sound.Goals.{else-j-n-via-then-j-n+else-not-key_rises, else-j-n-via-else-j-n}
 use Rattle.state.proofs.pass.rows_are_sound.Goals as goal
@@ -40,9 +40,3 @@ loop-i-preserved c =
       | else-j-n-via-else-j-n w ↦ leads_none (row_at c.loop-i.i rs) rs (c.loop-i.i + 1) (omega (arith, n, w.if-j-n.false))
     ] in
     rw c.counted-t.ensures (passing_turn c.args.seq rs c.loop-i.t c.loop-i.i c.loop-i.invariant (omega (arith, n)) (c.row_is_sound.ensures ∙ ap (row_sound c.args.seq) r) c.if-not-row_is_sound.false leads_on (c.place-place.ensures ∙ ap (λ (x : Row). x.place) r) (c.weight-weight.ensures ∙ ap (λ (x : Row). x.weight) r) (search rules))
-
-pub returns : goal.returns
-returns c =
-    let rs = (view_rows c.args.n c.args.state.now).rows in
-    let h : length rs ≤ c.loop-i.i = rw view_length (omega arith) in
-    passing_end c.args.seq c.args.main c.args.probation c.args.stored rs c.loop-i.t c.loop-i.i c.loop-i.invariant h
