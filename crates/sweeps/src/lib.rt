@@ -1,5 +1,5 @@
 // The calls that sweep: purge_expired, invalidate_via_node, invalidate_other_roots, clear.
-#![tactic(auto)]
+#![tactic(auto, using(refusals::proofs::SoundCalls::head_there))]
 
 ghost use Rattle.std.specs.Prelude.{◌≡◌, true, ◌-◌};
 ghost use Rattle.rules.specs.Sound.{sound};

@@ -5,15 +5,11 @@ use Rattle.types.specs.Addresses.{same_addr}
 use Rattle.types.specs.Paths.{root_of}
 use Rattle.rules.specs.Records.{Row}
 use Rattle.rules.proofs.MemoryLaws.{all_bytes}
-use Rattle.refusals.proofs.SoundCalls.{head_there}
 use Rattle.sweeps.proofs.SweepCalls.{sweepable, sweep_done, roots_sweeps}
 use Rattle.sweeps.proofs.invalidate_other_roots_unchecked.Goals as goal
 
-pub row_count-n-requires : goal.row_count-n-requires
-row_count-n-requires c = head_there _ c.requires
-
-pub retain_entries-kept-requires : goal.retain_entries-kept-requires
-retain_entries-kept-requires c = record { rows = sweepable _ _ c.requires c.row_count-n.ensures; callable = λ y f. search rules }
+pub retain_entries-kept-requires-clause-rows : goal.retain_entries-kept-requires-clause-rows
+retain_entries-kept-requires-clause-rows c = sweepable _ _ c.requires c.row_count-n.ensures
 
 pub returns : goal.returns
 returns c =

@@ -4,15 +4,11 @@ use Rattle.std.proofs.Common.{rules, tests}
 use Rattle.rules.specs.Records.{Row}
 use Rattle.rules.specs.Entries.{expired}
 use Rattle.rules.proofs.MemoryLaws.{all_bytes}
-use Rattle.refusals.proofs.SoundCalls.{head_there}
 use Rattle.sweeps.proofs.SweepCalls.{sweepable, sweep_done, purge_sweeps}
 use Rattle.sweeps.proofs.purge_expired_unchecked.Goals as goal
 
-pub row_count-n-requires : goal.row_count-n-requires
-row_count-n-requires c = head_there _ c.requires
-
-pub retain_entries-kept-requires : goal.retain_entries-kept-requires
-retain_entries-kept-requires c = record { rows = sweepable _ _ c.requires c.row_count-n.ensures; callable = λ y f. search rules }
+pub retain_entries-kept-requires-clause-rows : goal.retain_entries-kept-requires-clause-rows
+retain_entries-kept-requires-clause-rows c = sweepable _ _ c.requires c.row_count-n.ensures
 
 pub returns : goal.returns
 returns c =
