@@ -1,12 +1,13 @@
 -- Paths from bytes, and the bytes of the row that a removal takes out.
 use mathlib.Core.Path.{◌≡◌, sym, ap, ◌∙◌, subst}
-use Prim.Native.Nat.{ℕ, zero, suc, ◌+◌, ◌*◌, ◌-◌, ◌/◌, ◌≤◌, ◌<◌, min}
+use Prim.Native.Nat.{ℕ, ◌+◌, ◌*◌, ◌-◌, ◌/◌, ◌≤◌, ◌<◌, min}
 use native.Mathlib.Omega.{arith}
 use mathlib.Core.List.{List, ◌++◌}
 use Rattle.std.specs.Prelude.{Option, None, Some, Result, Ok, Err}
 use mathlib.Core.Bool.{true, false}
 use lib.ListN.{length, take, drop, get_or, set, replicate, length-set}
 use lib.Seq.{take_all}
+use Rattle.std.proofs.lemmas.List.{drop-replicate}
 use Rattle.types.specs.declared.node_addr.NodeAddr.{NodeAddr}
 use Rattle.types.specs.declared.coord.CoordEntry.{CoordEntry}
 use Rattle.types.specs.Paths.{zero_entry, path_places}
@@ -24,11 +25,6 @@ use Rattle.entries.proofs.PathElements.{entries_at}
 use Rattle.boundary.specs.Exported.{path_from, row_held, row_taken}
 
 -- ---- a path
-
-drop_replicate : {A : Type 0} (k n : ℕ) (x : A) → drop k (replicate n x) ≡ replicate (n - k) x
-drop_replicate zero n x = ap (λ (j : ℕ). replicate j x) (let z : n ≡ n - 0 = omega arith in z)
-drop_replicate (suc k) zero x = ap (λ (j : ℕ). replicate j x) (let z : 0 ≡ 0 - suc k = omega arith in z)
-drop_replicate (suc k) (suc n) x = drop_replicate k n x ∙ ap (λ (j : ℕ). replicate j x) (let z : n - k ≡ suc n - suc k = omega arith in z)
 
 -- k of the elements that are held have been copied over the zeros
 pub record Copied (bs : List ℕ) (held k : ℕ) (entries : List CoordEntry) : Type 0 where
@@ -55,7 +51,7 @@ unfolding path_from
 path_made {bs} {n} {held} {k} {entries} i e h g =
     let a : take k (coord_entries_of held bs) ≡ coord_entries_of held bs = take_all k (coord_entries_of held bs) (omega (arith, elements_of_length held bs)) in
     let b : drop k (replicate path_places zero_entry) ≡ replicate (path_places - held) zero_entry =
-    drop_replicate k path_places zero_entry ∙ ap (λ (j : ℕ). replicate (path_places - j) zero_entry) g in
+    drop-replicate k path_places zero_entry ∙ ap (λ (j : ℕ). replicate (path_places - j) zero_entry) g in
     let c : entries ≡ coord_entries_of held bs ++ replicate (path_places - held) zero_entry = i.part ∙ cc (a, b) in
     let d : held ≡ min (length bs / coord_entry_size) path_places = h ∙ ap (λ (j : ℕ). min j path_places) e in
     cc (e, c)

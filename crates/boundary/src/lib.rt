@@ -27,6 +27,7 @@ pub fn address(bytes: &[u8; ADDRESS]) -> NodeAddr
 }
 
 // The elements that stand whole in the bytes.
+#[tactic(auto, using(crate::proofs::Operands::copied_more, crate::proofs::Operands::path_made))]
 pub fn path_from(bytes: &[u8]) -> Path
     ensures { result ≡ path_from bytes.now }
 {
@@ -50,6 +51,7 @@ pub fn tell(reply: Reply, values: &mut [u64; 5]) -> u8
 }
 
 // Kind 0 Uncharged, 1 Upto.
+#[tactic(auto, using(std::proofs::lemmas::Bool::Decides::nat_tests), unfolding(crate::specs::Exported::funding_from))]
 pub fn funding(kind: u8, amount: u64) -> Funding
     requires { kind ≤ 1 }
     ensures { funding_from kind amount ≡ Some result }
@@ -62,6 +64,7 @@ pub fn funding(kind: u8, amount: u64) -> Funding
 }
 
 // The bytes of the key's row, where it has one.
+#[tactic(auto, using(refusals::proofs::SoundCalls::head_there, crate::proofs::Operands::row_inside, crate::proofs::Operands::row_taken_lem, crate::proofs::Operands::row_left))]
 pub fn take_row(state: &[u8], key: NodeAddr, row: &mut [u8; ROW])
     requires { sound (capacity state.now) (view state.now) ≡ true }
     ensures { row.new ≡ row_taken key state.now row.old }

@@ -20,7 +20,7 @@ use Rattle.types.specs.Senders.{emptied}
 use Rattle.types.specs.Values.{refuses}
 use Rattle.rules.specs.Cases.{maybe}
 use Rattle.rules.specs.Sound.{sound}
-use Rattle.rules.specs.Calls.{Call, Answer}
+use Rattle.rules.specs.Calls.{Call}
 use Rattle.rules.specs.Refusals.{Fresh, Asked, perform_request, gives}
 use Rattle.rules.specs.Answers.{refusal_of, said, done as done_as}
 use Rattle.rules.specs.Memory.{capacity, view}
@@ -103,10 +103,6 @@ makes_typed plain t = t
 obeyed_is : {b : ℕ} {bs : List ℕ} {x : Command} (s : Session) → Reads codes b bs x → obey_byte s b bs ≡ obey s x
 unfolding obey_byte
 obeyed_is s r = rw (decoded r)
-
--- the call that was made: its answer is w, and leaves the memory m
-pub does : (l : List ℕ) {q u : Call} {w : Answer} {r : Reply} {m : List ℕ} → q ≡ u → r ≡ reply w → (w ≡ (call l u).answer) × (m ≡ (call l u).memory) → Does l q r m
-does l e a s = rw e (record { says = a ∙ ap reply s.0; leaves = s.1 })
 
 -- refused by 1 where the state is not sound
 pub made_unsound : (l : List ℕ) (q : Call) {f : Bool} {k k' : Sender} {r : AfterCommand} → f ≡ false → k' ≡ k → r ≡ refused_by 1 f k' → Made f l q k r l

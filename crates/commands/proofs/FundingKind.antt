@@ -1,12 +1,10 @@
 -- The funding kind among the operands of 12 and 13: 0 and 1 name a funding, and one over 1 makes no command.
 use mathlib.Core.Path.{◌≡◌, refl}
-use Prim.Native.Nat.{ℕ, ◌<◌}
-use native.Mathlib.Omega.{arith}
+use Prim.Native.Nat.{ℕ}
 use mathlib.Core.List.{List}
 use Rattle.std.specs.Prelude.{None, Some}
 use mathlib.Core.Bool.{Bool, true, false, cond}
 use lib.Dec.{eqb}
-use borrow.Author.Tests.{ne_eqb}
 use Rattle.types.specs.declared.sender.Sender.{Sender}
 use Rattle.types.specs.declared.placed.Funding.{Funding}
 use Rattle.types.specs.declared.placed.Funding.TheVariants.{Upto, Uncharged}
@@ -25,19 +23,3 @@ funded_is o f = go (eqb (kind_in o) 0) (eqb (kind_in o) 1)
     go true b = refl
     go false true = refl
     go false false = refl
-
--- ---- the funding, as it is read
-
-pub uncharged : (o : List ℕ) → kind_in o ≡ 0 → Some Uncharged ≡ funding_in o
-unfolding funding_in
-uncharged o e = rw e
-
-pub upto : (o : List ℕ) (n : ℕ) → kind_in o ≡ 1 → n ≡ amount_in o → Some (Upto n) ≡ funding_in o
-unfolding funding_in
-upto o n k e = rw (k, e)
-
-pub no_funding : (o : List ℕ) → 1 < kind_in o → None ≡ funding_in o
-unfolding funding_in
-no_funding o h =
-    let k = kind_in o in
-    rw (ne_eqb k 0 (λ e. let z : ⊥ = omega arith in z), ne_eqb k 1 (λ e. let z : ⊥ = omega arith in z))

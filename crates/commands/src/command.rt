@@ -82,6 +82,7 @@ fn unread(code: u8, is_sound: bool, sender: Sender) -> AfterCommand
 }
 
 // Codes 10 to 15 empty the pending path, refused or not.
+#[tactic(auto, using(crate::proofs::CommandLaws::made_unsound, crate::proofs::CommandLaws::made_sound))]
 fn written(state: &mut [u8], is_sound: bool, sender: Sender, said: Write) -> AfterCommand
     requires { is_sound ≡ sound (capacity state.old) (view state.old) }
     ensures { Made is_sound state.old (write_named said sender.pending) (emptied sender) result state.new }
@@ -98,6 +99,7 @@ fn written(state: &mut [u8], is_sound: bool, sender: Sender, said: Write) -> Aft
 }
 
 // Every other call keeps it.
+#[tactic(auto, using(crate::proofs::CommandLaws::made_unsound, crate::proofs::CommandLaws::made_sound))]
 fn called(state: &mut [u8], is_sound: bool, sender: Sender, call: Call) -> AfterCommand
     requires { is_sound ≡ sound (capacity state.old) (view state.old) }
     ensures { Made is_sound state.old (call_named call) sender result state.new }
@@ -113,6 +115,7 @@ fn called(state: &mut [u8], is_sound: bool, sender: Sender, call: Call) -> After
 }
 
 // The width of a command's operands, for whoever needs it before the command is obeyed.
+#[tactic(auto, using(std::proofs::lemmas::Bool::Decides::nat_tests), unfolding(crate::specs::Widths::width_in, rules::specs::Commands::code_of, rules::specs::Commands::codes, rules::specs::Commands::code))]
 pub fn width_of(code: u8) -> Option<usize>
     ensures { result ≡ width_of code }
 {
@@ -145,6 +148,7 @@ pub fn width_of(code: u8) -> Option<usize>
 }
 
 // The command `code` with the bytes of the input from `at` on behind it; the caller knows whether the state is sound.
+#[tactic(auto, using(crate::proofs::CommandLaws::none_read, crate::proofs::CommandLaws::six, crate::proofs::CommandLaws::element_answers))]
 pub fn command_at(
     state: &mut [u8],
     is_sound: bool,

@@ -30,6 +30,7 @@ fn time(operands: &[u8]) -> u64
 }
 
 // Kind 0 Uncharged, 1 Upto an amount; none over 1.
+#[tactic(auto, using(std::proofs::lemmas::Bool::Decides::nat_tests), unfolding(crate::specs::Reading::funding_in))]
 fn funding(operands: &[u8]) -> Option<Funding>
     requires { with_funding_size ≤ length operands.now }
     ensures { result ≡ funding_in operands.now }
@@ -42,7 +43,7 @@ fn funding(operands: &[u8]) -> Option<Funding>
 }
 
 // What a code says by its operands, which are there.
-#[tactic(auto, unfolding(rules::specs::Commands::codes, rules::specs::Commands::code))]
+#[tactic(auto, using(std::proofs::lemmas::Bool::Decides::nat_tests, crate::proofs::FundingKind::funded_is, crate::proofs::Operands::element_in), unfolding(rules::specs::Commands::codes, rules::specs::Commands::code, rules::specs::Commands::code_of, rules::specs::Commands::read_as, crate::specs::Reading::named, crate::specs::Reading::command_named, crate::specs::Reading::write_named, crate::specs::Reading::call_named, crate::specs::Reading::command_in))]
 fn read(code: u8, operands: &[u8]) -> Option<Command>
     requires { HoldsOperands code (length operands.now) }
     ensures { named result ≡ command_in code operands.now }
@@ -122,6 +123,7 @@ fn read(code: u8, operands: &[u8]) -> Option<Command>
 
 // The command `code` with the bytes of the input from `at` on behind it; none for a code that is unknown, operands that are cut,
 // and a funding kind over 1.
+#[tactic(auto, using(std::proofs::lemmas::Grind::common_steps, crate::proofs::Operands::unknown_read, crate::proofs::Operands::whole_read, crate::proofs::Operands::held), unfolding(crate::specs::Reading::named))]
 pub(crate) fn decode(code: u8, input: &[u8], at: usize) -> Option<Command>
     requires { at ≤ length input.now }
     ensures { named result ≡ command_read code (drop at input.now) }

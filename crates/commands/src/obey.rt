@@ -12,6 +12,7 @@ use types::coord::Path;
 use types::reply::Reply;
 
 // A call that takes a path.
+#[tactic(auto, unfolding(crate::specs::Reading::write_named))]
 pub(crate) fn write(state: &mut [u8], path: Path, write: Write) -> Reply
     requires { sound (capacity state.old) (view state.old) ≡ true }
     ensures { Does state.old (write_named write path) result state.new }
@@ -40,6 +41,7 @@ pub(crate) fn write(state: &mut [u8], path: Path, write: Write) -> Reply
     }
 }
 
+#[tactic(auto, using(lookups::proofs::PartReply::got_reply), unfolding(crate::specs::Reading::call_named))]
 pub(crate) fn obey(state: &mut [u8], call: Call) -> Reply
     requires { sound (capacity state.old) (view state.old) ≡ true }
     ensures { Does state.old (call_named call) result state.new }

@@ -23,6 +23,7 @@ pub fn shift_down(s: &mut [u8], at: usize, end: usize)
 }
 
 // The bytes from `from` up to `to` become zero.
+#[tactic(auto, using(crate::proofs::StoreLaws::part_stored, rules::proofs::MemoryLaws::length_cut))]
 pub fn fill_zero(s: &mut [u8], from: usize, to: usize)
     requires { (from ≤ to) × (to ≤ length s.old) }
     ensures { s.new ≡ sets s.old from (replicate (to - from) 0) }

@@ -8,6 +8,7 @@ use types::reply::Reply;
 // Room for any line: two digits, six numbers of up to twenty digits after a space each, the line's end.
 pub const LINE: usize = 129;
 
+#[tactic(auto, unfolding(rules::specs::Commands::hex_digit))]
 fn hex_digit(d: u8) -> u8
     requires { d < 16 }
     ensures { result ≡ hex_digit d }
@@ -16,6 +17,7 @@ fn hex_digit(d: u8) -> u8
 }
 
 // How many decimal digits a number has.
+#[tactic(auto, using(crate::proofs::Digits::counted))]
 fn count_digits(v: u64) -> usize
     ensures { result ≡ length (decimal v) }
 {
@@ -23,6 +25,7 @@ fn count_digits(v: u64) -> usize
 }
 
 // The digits from the last to the first; where the text goes on.
+#[tactic(auto, using(crate::proofs::Digits::all_digits, crate::proofs::Digits::at_most, crate::proofs::Texts::digit_turn), unfolding(crate::proofs::Digits::last_digits))]
 fn put_decimal(out: &mut [u8], at: usize, v: u64) -> usize
     requires { at + 20 ≤ length out.old }
     ensures { (result ≡ at + length (decimal v)) × (out.new ≡ sets out.old at (decimal v)) }
@@ -37,6 +40,7 @@ fn put_decimal(out: &mut [u8], at: usize, v: u64) -> usize
 }
 
 // A number after a space.
+#[tactic(auto, using(std::proofs::lemmas::Grind::common_steps))]
 fn put_number(out: &mut [u8], at: usize, v: u64) -> usize
     requires { at + 21 ≤ length out.old }
     ensures { (result ≡ at + (1 + length (decimal v))) × (out.new ≡ sets out.old at (space ∷ decimal v)) }
@@ -45,6 +49,7 @@ fn put_number(out: &mut [u8], at: usize, v: u64) -> usize
     put_decimal(out, at + 1, v)
 }
 
+#[tactic(auto, using(crate::proofs::Texts::all_written))]
 fn put_values(out: &mut [u8], at: usize, values: [u64; 5]) -> usize
     requires { at + 105 ≤ length out.old }
     ensures { (result ≡ at + length (spaced values)) × (out.new ≡ sets out.old at (spaced values)) }
@@ -57,6 +62,7 @@ fn put_values(out: &mut [u8], at: usize, values: [u64; 5]) -> usize
 }
 
 // The line at an offset; where the text goes on.
+#[tactic(auto, using(crate::proofs::Digits::at_most, crate::proofs::Texts::line_most, std::proofs::lemmas::Grind::common_steps))]
 pub fn put_line(out: &mut [u8], at: usize, code: u8, reply: Reply) -> usize
     requires { at + 129 ≤ length out.old }
     ensures value { (result ≡ at + length (line_text (line code reply))) × (out.new ≡ sets out.old at (line_text (line code reply))) }

@@ -6,6 +6,7 @@ use raw::layout::ELEMENT;
 use types::reply::{Reply, says};
 
 // A lookup found the key if its part has an element, of ELEMENT bytes each.
+#[tactic(auto, using(std::proofs::lemmas::Bool::Decides::nat_tests), unfolding(crate::specs::Part::part_reply))]
 pub fn part_reply(bytes: usize) -> Reply
     ensures { result ≡ part_reply bytes }
 {

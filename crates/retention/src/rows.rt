@@ -12,6 +12,7 @@ use memory::codes;
 use memory::row::{Row, Rows, row_at};
 
 // Row i goes down to place j.
+#[tactic(auto, using(crate::proofs::KeptRows::down, crate::proofs::KeptRows::down_stays))]
 fn keep_row(state: &mut [u8], n: usize, i: usize, j: usize)
     requires { (j ≤ i) × (i < n) × (head_size + n * row_size ≤ length state.old) }
     ensures { state.new ≡ kept_down i j state.old }
@@ -39,6 +40,7 @@ fn keep_rows<F: Fn(&Row<'_>) -> bool>(state: &mut [u8], n: usize, leaves: &F) ->
 }
 
 // What a row adds to the stored weight.
+#[tactic(auto, using(crate::proofs::KeptRows::weighs, crate::proofs::KeptRows::weighs_nothing))]
 fn weight_in_main(row: &Row<'_>) -> u64
     ensures { (result ≡ cond (in_main row.now) row.now.weight 0) × (result < 256) }
 {
@@ -50,6 +52,7 @@ fn weight_in_main(row: &Row<'_>) -> u64
 }
 
 // The weight that n rows store.
+#[tactic(auto, unfolding(rules::specs::Rows::total))]
 fn weight_of(state: &[u8], n: usize) -> u64
     requires { (n ≤ max_rows) × (head_size + n * row_size ≤ length state.now) }
     ensures { result ≡ weigh_rows in_main (view_rows n state.now).rows }

@@ -11,7 +11,7 @@ use Rattle.rules.specs.Rows.{total}
 use Rattle.rules.specs.Cases.{maybe}
 use Rattle.rules.specs.Statistics.{total_age, mean, next_expiry}
 use Rattle.rules.specs.Layout.{number_limit}
-use Rattle.std.specs.Prelude.{Option, None, Some, option_map}
+use Rattle.std.specs.Prelude.{Option, None, Some}
 use Rattle.types.specs.Values.{largest_number}
 
 -- ---- the exact mean: high and low halves, summed apart
@@ -122,7 +122,3 @@ pub expiry_least : (rs : List Row) → reduce min (map expiry rs) ≡ next_expir
 unfolding next_expiry
 expiry_least [] = refl
 expiry_least (x ∷ xs) = ap Some (expiry_fold (expiry x) xs)
-
-pub whole : (o : Option ℕ) → o ≡ option_map (λ y. y) o
-whole None = refl
-whole (Some t) = refl

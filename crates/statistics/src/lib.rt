@@ -40,6 +40,7 @@ fn age(row: &Row<'_>, time: u64) -> u64
 const HALF: u64 = 0x1_0000_0000;
 
 // The exact total can pass 2^64, so the high and the low halves of the ages are summed apart, and divided at the end.
+#[tactic(auto, using(crate::proofs::Means::sum_fits, crate::proofs::Means::high_fits, crate::proofs::Means::ages_end, std::proofs::lemmas::Grind::common_steps), unfolding(rules::specs::Statistics::mean))]
 fn mean_age(state: &[u8], n: usize, time: u64) -> u64
     requires { (n ≤ max_rows) × (head_size + n * row_size ≤ length state.now) }
     ensures { result ≡ mean (total_age time (view_rows n state.now).rows) n }
@@ -60,6 +61,7 @@ fn mean_age(state: &[u8], n: usize, time: u64) -> u64
 }
 
 // Statistics of n rows.
+#[tactic(auto, using(rules::proofs::Foreign::view_length, memory::proofs::Fields::same_head), unfolding(rules::specs::Statistics::stats, rules::specs::Lookups::matching))]
 fn stats_of(state: &[u8], n: usize, time: u64) -> CacheStats
     requires { (n ≤ max_rows) × (head_size + n * row_size ≤ length state.now) }
     ensures { result ≡ stats time (view_rows n state.now) }
@@ -83,6 +85,7 @@ fn next_expiry_of(state: &[u8], n: usize) -> Option<u64>
     Rows::of(state, n).map(|row| row.expires_at()).min()
 }
 
+#[tactic(auto, using(rules::proofs::MemoryLaws::all_bytes, refusals::proofs::SoundCalls::head_there, crate::proofs::StatisticsCalls::stats_done))]
 pub fn stats_unchecked(state: &[u8], time: u64) -> CacheStats
     requires { sound (capacity state.now) (view state.now) ≡ true }
     ensures { (StatsGiven result ≡ (call state.now (Stats time)).answer) × (state.now ≡ (call state.now (Stats time)).memory) }
@@ -91,6 +94,7 @@ pub fn stats_unchecked(state: &[u8], time: u64) -> CacheStats
     stats_of(state, n, time)
 }
 
+#[tactic(auto, using(rules::proofs::MemoryLaws::all_bytes, refusals::proofs::SoundCalls::head_there, crate::proofs::StatisticsCalls::expiry_done))]
 pub fn next_expiry_unchecked(state: &[u8]) -> Option<u64>
     requires { sound (capacity state.now) (view state.now) ≡ true }
     ensures { (ExpiryGiven result ≡ (call state.now NextExpiry).answer) × (state.now ≡ (call state.now NextExpiry).memory) }

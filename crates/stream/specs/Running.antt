@@ -14,6 +14,12 @@ use Rattle.stream.specs.declared.run.Ran.{Ran}
 unfoldable pub next_is : ℕ → Bool → ℕ → List ℕ → Next
 next_is room last b bs = cond (ltb room line_room) Full (cond (not last && cut_short b bs) Cut (Command (operands b bs)))
 
+-- a command at `at` of n bytes has room for its line, and its operands are there
+abbrev pub Holds : ℕ → ℕ → ℕ → Next → Type 0
+Holds room at n Full = Unit {0}
+Holds room at n Cut = Unit {0}
+Holds room at n (Command w) = (line_room ≤ room) × (at + (1 + w) ≤ n)
+
 -- the run's end, with the lines as text at the start of the output, and each command counted
 pub record EndsAs (e : RunEnd) (t : Tally) (r : Ran) (m o o' : List ℕ) : Type 0 where
   pub used : r.used ≡ e.used

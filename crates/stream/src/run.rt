@@ -3,7 +3,7 @@ ghost use Rattle.std.specs.Prelude.{◌≡◌, ◌+◌, ◌-◌, ◌≤◌, ◌<
 ghost use Rattle.std.proofs.Math.Seq.{slice};
 ghost use Rattle.commands.specs.OnMemory.{session};
 ghost use Rattle.stream.specs.Runs.{run_part};
-ghost use Rattle.stream.specs.Running.{next_is, EndsAs};
+ghost use Rattle.stream.specs.Running.{next_is, Holds, EndsAs};
 
 use crate::stop::Stop;
 use commands::command::{command_at, width_of};
@@ -31,9 +31,11 @@ enum Next {
     Command(usize),
 }
 
+#[tactic(auto, using(std::proofs::lemmas::Grind::common_steps), unfolding(crate::specs::Running::next_is, crate::specs::Runs::operands_in, crate::specs::Runs::cut_short_in))]
 fn next_command(input: &[u8], at: usize, room: usize, last: bool) -> Next
     requires { at < length input.now }
-    ensures { result ≡ next_is room last (get_or input.now at 0) (drop (at + 1) input.now) }
+    ensures next { result ≡ next_is room last (get_or input.now at 0) (drop (at + 1) input.now) }
+    ensures holds { Holds room at (length input.now) result }
 {
     if room < LINE {
         return Next::Full;
@@ -55,6 +57,7 @@ fn next_command(input: &[u8], at: usize, room: usize, last: bool) -> Next
 
 // Runs the commands of the input, one line each into the output. `last`: no bytes follow these. An output of fewer than 129
 // bytes holds no line, and no command is run.
+#[tactic(auto, using(crate::proofs::Turns::start))]
 pub fn run(
     state: &mut [u8],
     sender: Sender,

@@ -3,7 +3,6 @@ use mathlib.Core.Path.{◌≡◌, refl, sym, ap, ◌∙◌}
 use Prim.Native.Nat.{ℕ, ◌+◌, ◌*◌, ◌-◌, ◌≤◌}
 use native.Mathlib.Omega.{arith}
 use mathlib.Core.List.{List, [], ◌∷◌}
-use Rattle.std.specs.Prelude.{None}
 use mathlib.Core.Bool.{Bool, true, not}
 use lib.ListN.{length}
 use Rattle.types.specs.Addresses.{same_addr}
@@ -12,12 +11,12 @@ use Rattle.rules.specs.Entries.{expired}
 use Rattle.rules.specs.Rows.{main_weight}
 use Rattle.types.specs.declared.node_addr.NodeAddr.{NodeAddr}
 use Rattle.rules.specs.Cases.{Every}
-use Rattle.rules.specs.Records.{Entry, Row, State, max_rows}
+use Rattle.rules.specs.Records.{Entry, Row, max_rows}
 use Rattle.rules.specs.Rows.{total, in_main, weigh_rows}
 use Rattle.rules.specs.Sound.{sound}
 use Rattle.rules.specs.Lookups.{sweep, matching}
 use Rattle.rules.specs.Calls.{Call, Clear, PurgeExpired, InvalidateViaNode, InvalidateOtherRoots, Done, RowsRemoved, path_given, verified_write, draws_stamps}
-use Rattle.rules.specs.Refusals.{refusal, Asked, Step, perform, gives, sweeps}
+use Rattle.rules.specs.Refusals.{Step, perform, gives, sweeps}
 use Rattle.rules.specs.Memory.{capacity, rows_of, view_rows, view}
 use Rattle.rules.specs.Lent.{Bytes, call}
 use Rattle.rules.proofs.SoundTest.{RowOk}
@@ -27,6 +26,7 @@ use Rattle.rules.proofs.Foreign.{view_length}
 use Rattle.memory.specs.Edits.{OnlyRows, shrunk}
 use Rattle.memory.proofs.RowLaws.{only_shrunk}
 use Rattle.refusals.proofs.SoundCalls.{done_rows, not_refused}
+use Rattle.sweeps.specs.Sweeping.{Sweeps}
 use Rattle.retention.specs.Sweep.{kept_rows, PathFit, PathsFit, Swept}
 use Rattle.retention.proofs.KeptRows.{left_out}
 
@@ -42,10 +42,7 @@ sweepable l n h e =
     let s = sound_memory l n h e in
     (s.few, s.long, fit_rows (view_rows n l).seq (view_rows n l).rows s.sound.each, s.sound.counted ∙ s.rows, s.sound.stored_weight)
 
--- call q sweeps the entries of test p
-pub record Sweeps (q : Call) (p : Entry → Bool) : Type 0 where
-  pub does : (s : State) → perform s q ≡ sweeps p s
-  pub allowed : (l : List ℕ) → sound (capacity l) (view l) ≡ true → refusal (capacity l) (view l) (Asked q) ≡ None
+-- ---- what each call sweeps
 
 pub purge_sweeps : (time : ℕ) → Sweeps (PurgeExpired time) (expired time)
 unfolding perform path_given verified_write draws_stamps

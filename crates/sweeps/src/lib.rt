@@ -1,15 +1,20 @@
 // The calls that sweep: purge_expired, invalidate_via_node, invalidate_other_roots, clear.
-#![tactic(auto)]
+#![tactic(auto, using(refusals::proofs::SoundCalls::head_there))]
 
-ghost use Rattle.std.specs.Prelude.{◌≡◌, true, ◌-◌};
+ghost use Rattle.std.specs.Prelude.{◌≡◌, Bool, true, ◌-◌};
+ghost use Rattle.std.specs.Fn.{FnReturnsAt};
+ghost use Rattle.rules.specs.Records.{Entry};
 ghost use Rattle.rules.specs.Sound.{sound};
-ghost use Rattle.rules.specs.Calls.{Clear, PurgeExpired, InvalidateViaNode, InvalidateOtherRoots, RowsRemoved, Done};
+ghost use Rattle.rules.specs.Calls.{Call, Clear, PurgeExpired, InvalidateViaNode, InvalidateOtherRoots, RowsRemoved, Done};
 ghost use Rattle.rules.specs.Answers.{said, done};
 ghost use Rattle.rules.specs.Memory.{capacity, view};
 ghost use Rattle.rules.specs.Lent.{call};
+ghost use Rattle.retention.specs.Sweep.{PathFit, Tests};
+ghost use Rattle.sweeps.specs.Sweeping.{Sweeps};
 
 use entries::path::{path_contains, root_is};
 use entries::times::is_expired;
+use memory::row::Row;
 use retention::rows::retain_entries;
 use state::check::check_sound;
 use types::node_addr::NodeAddr;
@@ -23,31 +28,36 @@ pub fn clear_unchecked(state: &mut [u8])
     memory::rows::shrink(state, n, 0, 0);
 }
 
+// Of a sweep, the rows that leave; how many they are.
+fn sweep<F: Fn(&Row<'_>) -> bool>(state: &mut [u8], leaves: F) -> u64
+    requires is_sound { sound (capacity state.old) (view state.old) ≡ true }
+    requires callable { (row : _) → PathFit row.now → F.pre leaves row }
+    ensures { (q : Call) (test : Entry → Bool) → Sweeps q test → Tests (FnReturnsAt F.Fn leaves) (λ r. test r.entry) → (RowsRemoved result ≡ (call state.old q).answer) × (state.new ≡ (call state.old q).memory) }
+{
+    let n = memory::head::row_count(state) as usize;
+    let kept = retain_entries(state, n, leaves);
+    (n - kept) as u64
+}
+
 pub fn purge_expired_unchecked(state: &mut [u8], time: u64) -> u64
     requires { sound (capacity state.old) (view state.old) ≡ true }
     ensures { (RowsRemoved result ≡ (call state.old (PurgeExpired time)).answer) × (state.new ≡ (call state.old (PurgeExpired time)).memory) }
 {
-    let n = memory::head::row_count(state) as usize;
-    let kept = retain_entries(state, n, |row| is_expired(row, time));
-    (n - kept) as u64
+    sweep(state, |row| is_expired(row, time))
 }
 
 pub fn invalidate_via_node_unchecked(state: &mut [u8], addr: NodeAddr) -> u64
     requires { sound (capacity state.old) (view state.old) ≡ true }
     ensures { (RowsRemoved result ≡ (call state.old (InvalidateViaNode addr)).answer) × (state.new ≡ (call state.old (InvalidateViaNode addr)).memory) }
 {
-    let n = memory::head::row_count(state) as usize;
-    let kept = retain_entries(state, n, |row| path_contains(row, addr));
-    (n - kept) as u64
+    sweep(state, |row| path_contains(row, addr))
 }
 
 pub fn invalidate_other_roots_unchecked(state: &mut [u8], addr: NodeAddr) -> u64
     requires { sound (capacity state.old) (view state.old) ≡ true }
     ensures { (RowsRemoved result ≡ (call state.old (InvalidateOtherRoots addr)).answer) × (state.new ≡ (call state.old (InvalidateOtherRoots addr)).memory) }
 {
-    let n = memory::head::row_count(state) as usize;
-    let kept = retain_entries(state, n, |row| !root_is(row, addr));
-    (n - kept) as u64
+    sweep(state, |row| !root_is(row, addr))
 }
 
 pub fn clear(state: &mut [u8]) -> Result<(), Refusal>

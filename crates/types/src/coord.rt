@@ -61,6 +61,7 @@ impl Path {
         self.len.min(PLACES)
     }
 
+    #[tactic(auto, using(crate::proofs::PathLaws::equal_bytes, crate::proofs::PathLaws::no_first, crate::proofs::PathLaws::first_element), unfolding(crate::specs::Paths::starts_at, crate::specs::Addresses::same_addr))]
     pub fn starts_at(self, key: NodeAddr) -> bool
         ensures { result ≡ starts_at key self }
     {

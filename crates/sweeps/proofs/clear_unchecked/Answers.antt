@@ -2,12 +2,8 @@
 use native.Mathlib.Omega.{arith}
 use Rattle.rules.proofs.MemoryLaws.{all_bytes}
 use Rattle.rules.proofs.Public.{sound_memory}
-use Rattle.refusals.proofs.SoundCalls.{head_there}
 use Rattle.sweeps.proofs.SweepCalls.{cleared}
 use Rattle.sweeps.proofs.clear_unchecked.Goals as goal
-
-pub row_count-n-requires : goal.row_count-n-requires
-row_count-n-requires c = head_there _ c.requires
 
 pub shrink-requires : goal.shrink-requires
 shrink-requires c = (omega arith, (sound_memory _ _ c.requires c.row_count-n.ensures).long)

@@ -1,22 +1,7 @@
--- Sound rows have paths of 1 to 32 elements, so each has a root; a row leaves where that is another.
-use mathlib.Core.Bool.{Bool, not}
+-- A row leaves where its root is another.
 use Rattle.std.proofs.Common.{rules, tests}
-use Rattle.types.specs.Addresses.{same_addr}
-use Rattle.types.specs.Paths.{root_of}
-use Rattle.rules.specs.Records.{Row}
-use Rattle.rules.proofs.MemoryLaws.{all_bytes}
-use Rattle.refusals.proofs.SoundCalls.{head_there}
-use Rattle.sweeps.proofs.SweepCalls.{sweepable, sweep_done, roots_sweeps}
+use Rattle.sweeps.proofs.SweepCalls.{roots_sweeps}
 use Rattle.sweeps.proofs.invalidate_other_roots_unchecked.Goals as goal
 
-pub row_count-n-requires : goal.row_count-n-requires
-row_count-n-requires c = head_there _ c.requires
-
-pub retain_entries-kept-requires : goal.retain_entries-kept-requires
-retain_entries-kept-requires c = record { rows = sweepable _ _ c.requires c.row_count-n.ensures; callable = λ y f. search rules }
-
 pub returns : goal.returns
-returns c =
-    let r = c.retain_entries-kept in
-    let test : Row → Bool = λ r. not (same_addr (root_of r.entry.path) c.args.addr) in
-    sweep_done (roots_sweeps c.args.addr) _ _ _ _ c.requires c.row_count-n.ensures (all_bytes r.new.state (λ i. (c.slice_known-2-1.given i).fits)) r.auto.state (r.ensures.swept test (λ x b f k. search (rules, tests)))
+returns c = c.sweep.ensures _ _ (roots_sweeps c.args.addr) (λ x b f k. search (rules, tests))

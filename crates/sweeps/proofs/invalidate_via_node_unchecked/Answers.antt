@@ -1,21 +1,7 @@
--- Sound rows have paths of 1 to 32 elements, so the sweep may read them; a row leaves where its path contains the address.
-use mathlib.Core.Bool.{Bool}
+-- A row leaves where its path contains the address.
 use Rattle.std.proofs.Common.{rules, tests}
-use Rattle.types.specs.Paths.{contains}
-use Rattle.rules.specs.Records.{Row}
-use Rattle.rules.proofs.MemoryLaws.{all_bytes}
-use Rattle.refusals.proofs.SoundCalls.{head_there}
-use Rattle.sweeps.proofs.SweepCalls.{sweepable, sweep_done, via_sweeps}
+use Rattle.sweeps.proofs.SweepCalls.{via_sweeps}
 use Rattle.sweeps.proofs.invalidate_via_node_unchecked.Goals as goal
 
-pub row_count-n-requires : goal.row_count-n-requires
-row_count-n-requires c = head_there _ c.requires
-
-pub retain_entries-kept-requires : goal.retain_entries-kept-requires
-retain_entries-kept-requires c = record { rows = sweepable _ _ c.requires c.row_count-n.ensures; callable = λ y f. search rules }
-
 pub returns : goal.returns
-returns c =
-    let r = c.retain_entries-kept in
-    let test : Row → Bool = λ r. contains c.args.addr r.entry.path in
-    sweep_done (via_sweeps c.args.addr) _ _ _ _ c.requires c.row_count-n.ensures (all_bytes r.new.state (λ i. (c.slice_known-2-1.given i).fits)) r.auto.state (r.ensures.swept test (λ x b f k. search (rules, tests)))
+returns c = c.sweep.ensures _ _ (via_sweeps c.args.addr) (λ x b f k. search (rules, tests))

@@ -1,21 +1,7 @@
--- Row r leaves where its entry is expired, so the rows kept are those not expired, and n - kept is how many were.
-use mathlib.Core.Bool.{Bool}
+-- A row leaves where its entry is expired.
 use Rattle.std.proofs.Common.{rules, tests}
-use Rattle.rules.specs.Records.{Row}
-use Rattle.rules.specs.Entries.{expired}
-use Rattle.rules.proofs.MemoryLaws.{all_bytes}
-use Rattle.refusals.proofs.SoundCalls.{head_there}
-use Rattle.sweeps.proofs.SweepCalls.{sweepable, sweep_done, purge_sweeps}
+use Rattle.sweeps.proofs.SweepCalls.{purge_sweeps}
 use Rattle.sweeps.proofs.purge_expired_unchecked.Goals as goal
 
-pub row_count-n-requires : goal.row_count-n-requires
-row_count-n-requires c = head_there _ c.requires
-
-pub retain_entries-kept-requires : goal.retain_entries-kept-requires
-retain_entries-kept-requires c = record { rows = sweepable _ _ c.requires c.row_count-n.ensures; callable = λ y f. search rules }
-
 pub returns : goal.returns
-returns c =
-    let r = c.retain_entries-kept in
-    let test : Row → Bool = λ r. expired c.args.time r.entry in
-    sweep_done (purge_sweeps c.args.time) _ _ _ _ c.requires c.row_count-n.ensures (all_bytes r.new.state (λ i. (c.slice_known-2-1.given i).fits)) r.auto.state (r.ensures.swept test (λ x b f k. search (rules, tests)))
+returns c = c.sweep.ensures _ _ (purge_sweeps c.args.time) (λ x b f k. search (rules, tests))

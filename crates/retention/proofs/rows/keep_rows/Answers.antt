@@ -1,6 +1,5 @@
 -- The first j rows are those kept of the first i, and the rows from i on are still as they were.
 use mathlib.Core.Path.{sym, subst, ◌∙◌}
-use native.Mathlib.Omega.{arith}
 use mathlib.Core.Bool.{true, false}
 use Rattle.rules.specs.Records.{Row}
 use Rattle.std.proofs.iter.Next.{says_at}
@@ -11,9 +10,6 @@ use Rattle.retention.proofs.rows.keep_rows.Goals as goal
 
 pub loop-i-init : goal.loop-i-init
 loop-i-init g c = kept_start
-
-pub row_at-requires : goal.row_at-requires
-row_at-requires g c = (c.loop-i-test.true, omega (arith, c.loop-i.invariant.long, c.requires.rows.0))
 
 pub leaves-requires : goal.leaves-requires
 leaves-requires g c =
@@ -27,11 +23,6 @@ loop-i-preserved-then-leaves g c =
     let q = c.loop-i.invariant in
     let s = says_at g.F.Fn c.leaves.ensures c.if-leaves.true in
     row_leaves q h c.requires.rows.1 (subst (λ (r : Row). FnReturnsAt g.F.Fn c.args.leaves.now r true) (c.row_at.ensures ∙ same_row q h) s)
-
-pub keep_row-requires : goal.keep_row-requires
-keep_row-requires g c =
-    let q = c.loop-i.invariant in
-    (q.below, c.loop-i-test.true, omega (arith, q.long, c.requires.rows.0))
 
 pub loop-i-preserved : goal.loop-i-preserved
 loop-i-preserved g c =

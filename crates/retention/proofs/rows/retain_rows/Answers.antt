@@ -2,5 +2,5 @@
 use Rattle.retention.proofs.KeptRows.{swept}
 use Rattle.retention.proofs.rows.retain_rows.Goals as goal
 
-pub returns : goal.returns
-returns g c = record { few = c.keep_rows-kept.ensures.few; swept = swept _ c.keep_rows-kept.ensures c.weight_of-stored.ensures c.shrink.ensures }
+pub returns-clause-swept : goal.returns-clause-swept
+returns-clause-swept g c = swept _ c.keep_rows-kept.ensures c.weight_of-stored.ensures c.shrink.ensures
