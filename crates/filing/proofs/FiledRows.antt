@@ -24,7 +24,7 @@ use Rattle.search.proofs.SearchLaws.{absent_inside, absent_insert, none_searched
 use Rattle.memory.specs.Edits.{with_stored_weight, stamped_as}
 use Rattle.memory.proofs.Fields.{same_head}
 use Rattle.rows.specs.Insertions.{inserted}
-use Rattle.filing.specs.Filings.{Free}
+use Rattle.filing.specs.Filings.{Free, stamped_row}
 
 -- ---- what a row that is filed meets
 
@@ -86,10 +86,10 @@ same_seq v s e = ap (λ (x : State). x.seq) e
 -- at i, once the weight v is stored and the stamp q drawn
 pub filed : {k : NodeAddr} {n : ℕ} {l : List ℕ} (f : Free k n l) {e : Entry} {w p i v q : ℕ} {r : Row} {t u x : State}
     → searched k (view_rows n l).rows ≡ Err i → v ≡ (view_rows 0 l).stored_weight + cond (ltb p 2) w 0 → t ≡ with_stored_weight v (view_rows n l) → (q ≡ t.seq + 1) × (u ≡ with_seq q t)
-    → r ≡ record { key = k; entry = e; place = p; stamp_first = e.last_used; stamp_seq = q; weight = w } → x ≡ inserted i r u → x ≡ file_new k e w p (view_rows n l)
+    → r ≡ stamped_row k e w p q → x ≡ inserted i r u → x ≡ file_new k e w p (view_rows n l)
 unfolding file_new inserted with_stored_weight with_seq view_rows
 filed {k} {n} {l} f {e} {w} {p} {i} {v} h ev et eq er ex =
-    let c : Row = record { key = k; entry = e; place = p; stamp_first = e.last_used; stamp_seq = (view_rows n l).seq + 1; weight = w } in
+    let c = stamped_row k e w p ((view_rows n l).seq + 1) in
     let o = in_order c v i (view_rows n l) (rows_rise f) h (whole f).stored_weight ev in
     ex ∙ rw (eq.1, er, eq.0, et, o.0, o.1, o.2)
 
@@ -116,7 +116,7 @@ unfolding stamp raised with_rows inserted with_stored_weight with_seq
 stamp_in f v i r s h = rw (change_in (stamped_as 0 f (s.seq + 1)) i r s.rows h)
 
 saved_row : (k : NodeAddr) (f q : ℕ) (r : Row) → r.key ≡ k → f ≡ r.entry.last_used
-    → stamped_as 0 f q r ≡ record { key = k; entry = r.entry; place = 0; stamp_first = r.entry.last_used; stamp_seq = q; weight = r.weight }
+    → stamped_as 0 f q r ≡ stamped_row k r.entry r.weight 0 q
 unfolding stamped_as
 saved_row k f q r e g = rw (e, g)
 

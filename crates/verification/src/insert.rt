@@ -87,17 +87,7 @@ fn file_anew(
     let weight = path.weight();
     let row_weight = weight as u8;
     let room = make_room(state, rows, weight, time);
-    let victim = room.victim;
-    file_in_room(
-        state,
-        room.rows,
-        victim,
-        room.stored,
-        key,
-        e,
-        row_weight,
-        BY_USE,
-    );
+    file_in_room(state, room.rows, room.victim, key, e, row_weight, BY_USE);
     VerifiedInsert {
         weight: weight,
         examined: room.examined,

@@ -1,7 +1,6 @@
 -- The search's index is where insert_in_order puts the row, and stored_weight, the sum over main rows, grows by the weight of a main row.
-use mathlib.Core.Path.{refl}
-use Rattle.rows.specs.Insertions.{row_from}
-use Rattle.entries.specs.NewEntries.{entry_from}
+use mathlib.Core.Path.{ap}
+use Rattle.types.specs.declared.coord.Path.{Path}
 use Rattle.filing.proofs.FiledRows.{index_asks, one_more_fits, head_there, fits_kept, stored_light, place_inside, same_seq, filed}
 use borrow.Author.Rules.{rules}
 use Rattle.filing.proofs.file.file_new.Goals as goal
@@ -23,10 +22,10 @@ insert_row-requires c =
     let free = c.requires.0 in
     let inside = place_inside free c.index_for-i.ensures in
     let fits = one_more_fits free in
+    let short = ap (λ (p : Path). p.len) c.new_row.ensures.path in
     search rules
 
 pub returns : goal.returns
-unfolding row_from entry_from
 returns c =
     filed c.requires.0 c.index_for-i.ensures c.stored_with-stored.ensures
-    c.set_stored_weight.ensures c.next_key-seq.ensures refl c.insert_row.ensures
+    c.set_stored_weight.ensures c.next_key-seq.ensures c.new_row.ensures.row c.insert_row.ensures

@@ -1,7 +1,6 @@
 -- Exchanging row i for the new one is take_out, then file_new: the row count stays n, and the zero row that take_out adds is the one file_new drops.
-use mathlib.Core.Path.{refl}
-use Rattle.rows.specs.Insertions.{row_from}
-use Rattle.entries.specs.NewEntries.{entry_from}
+use mathlib.Core.Path.{ap}
+use Rattle.types.specs.declared.coord.Path.{Path}
 use Rattle.filing.proofs.FiledRows.{same_seq}
 use Rattle.filing.proofs.FiledOverVictim.{place_without, filed_over}
 use borrow.Author.Rules.{rules}
@@ -14,10 +13,10 @@ pub exchange_row-requires : goal.exchange_row-requires
 exchange_row-requires c =
     let over = c.requires.0 in
     let inside = place_without over c.index_without-j.ensures in
+    let short = ap (λ (p : Path). p.len) c.new_row.ensures.path in
     search rules
 
 pub returns : goal.returns
-unfolding row_from entry_from
 returns c =
     filed_over c.requires.0 c.index_without-j.ensures c.weight_with.ensures
-    c.set_stored_weight.ensures c.next_key-next.ensures c.set_row_count.ensures refl c.exchange_row.ensures
+    c.set_stored_weight.ensures c.next_key-next.ensures c.set_row_count.ensures c.new_row.ensures.row c.exchange_row.ensures

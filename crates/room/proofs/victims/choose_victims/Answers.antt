@@ -3,9 +3,10 @@ use mathlib.Core.Path.{refl, sym, ap, ◌∙◌}
 use Prim.Native.Nat.{◌+◌, ◌-◌}
 use native.Mathlib.Omega.{arith}
 use Rattle.rules.specs.Records.{Row}
-use Rattle.rules.proofs.Addresses.{contradiction}
-use Rattle.room.specs.Rooms.{chosen_of}
-use Rattle.room.proofs.ChosenVictims.{Call, Choice, Victim, Came, choice_start, choice_asks, choice_seq, chosen_enough, set_aside_lem, came}
+use Rattle.rules.specs.Memory.{view_rows}
+use Rattle.room.specs.Rooms.{chosen_of, SetAside}
+use Rattle.room.proofs.LeftVictims.{at_none, at_one}
+use Rattle.room.proofs.ChosenVictims.{Call, Gone, Victim, Came, choice_start, choice_asks, choice_seq, chosen_enough, set_aside_lem, came}
 use Rattle.room.proofs.victims.choose_victims.Goals as goal
 
 pub loop-i-init : goal.loop-i-init
@@ -28,7 +29,7 @@ unfolding chosen_of
 returns-in-None c =
     let call : Call = record { now = c.args.time; w = c.args.w; n = c.args.n; memory = c.args.state.now; max = c.max_entries-max.result; mains = c.args.lowest.count } in
     let step : Came call c.loop-i.left c.loop-i.stored c.loop-i.examined c.next_victim-sought.new.state c.next_victim-sought.result = let v = c.loop-i.invariant in came v.0 v.2 c.next_victim-sought.auto.state c.next_victim-sought.ensures in
-    (step.none_left c.in-None.is, λ e. contradiction e refl)
+    (step.none_left c.in-None.is, at_none _)
 
 pub overflow_sub-left : goal.overflow_sub-left
 overflow_sub-left c =
@@ -64,8 +65,8 @@ has_room-requires c =
     let step : Came call c.loop-i.left c.loop-i.stored c.loop-i.examined c.next_victim-sought.new.state c.next_victim-sought.result = let v = c.loop-i.invariant in came v.0 v.2 c.next_victim-sought.auto.state c.next_victim-sought.ensures in
     let victim : Victim call c.loop-i.left c.loop-i.stored (c.loop-i.examined + c.next_victim-sought.result.examined) c.in-Some.i c.next_victim-sought.new.state = step.victim c.in-Some.is in
     let gone : let stored = c.loop-i.stored - c.wide-stored.result in
-    Choice call (c.loop-i.left - 1) stored c.in-Some.i (c.loop-i.examined + c.next_victim-sought.result.examined) c.set_place.new.state = victim.goes (c.wide-stored.ensures.0 ∙ c.weight.ensures ∙ ap (λ (r : Row). r.weight) c.row_at.ensures) c.set_place.auto.state c.set_place.ensures in
-    choice_asks gone
+    Gone call (c.loop-i.left - 1) stored (c.loop-i.examined + c.next_victim-sought.result.examined) c.in-Some.i c.set_place.new.state = victim.goes (c.wide-stored.ensures.0 ∙ c.weight.ensures ∙ ap (λ (r : Row). r.weight) c.row_at.ensures) c.set_place.auto.state c.set_place.ensures in
+    choice_asks gone.choice
 
 pub returns-then-has_room : goal.returns-then-has_room
 unfolding chosen_of
@@ -74,8 +75,8 @@ returns-then-has_room c =
     let step : Came call c.loop-i.left c.loop-i.stored c.loop-i.examined c.next_victim-sought.new.state c.next_victim-sought.result = let v = c.loop-i.invariant in came v.0 v.2 c.next_victim-sought.auto.state c.next_victim-sought.ensures in
     let victim : Victim call c.loop-i.left c.loop-i.stored (c.loop-i.examined + c.next_victim-sought.result.examined) c.in-Some.i c.next_victim-sought.new.state = step.victim c.in-Some.is in
     let gone : let stored = c.loop-i.stored - c.wide-stored.result in
-    Choice call (c.loop-i.left - 1) stored c.in-Some.i (c.loop-i.examined + c.next_victim-sought.result.examined) c.set_place.new.state = victim.goes (c.wide-stored.ensures.0 ∙ c.weight.ensures ∙ ap (λ (r : Row). r.weight) c.row_at.ensures) c.set_place.auto.state c.set_place.ensures in
-    let k = gone in (chosen_enough k c.has_room.ensures c.if-has_room.true, λ _. set_aside_lem k)
+    Gone call (c.loop-i.left - 1) stored (c.loop-i.examined + c.next_victim-sought.result.examined) c.in-Some.i c.set_place.new.state = victim.goes (c.wide-stored.ensures.0 ∙ c.weight.ensures ∙ ap (λ (r : Row). r.weight) c.row_at.ensures) c.set_place.auto.state c.set_place.ensures in
+    let k = gone.choice in (chosen_enough k c.has_room.ensures c.if-has_room.true, at_one (λ x. SetAside c.args.lowest.count x (view_rows c.args.n c.set_place.new.state)) _ (set_aside_lem k c.in-Some.i gone.last))
 
 pub lowest_of_main-main-requires : goal.lowest_of_main-main-requires
 lowest_of_main-main-requires c =
@@ -83,8 +84,8 @@ lowest_of_main-main-requires c =
     let step : Came call c.loop-i.left c.loop-i.stored c.loop-i.examined c.next_victim-sought.new.state c.next_victim-sought.result = let v = c.loop-i.invariant in came v.0 v.2 c.next_victim-sought.auto.state c.next_victim-sought.ensures in
     let victim : Victim call c.loop-i.left c.loop-i.stored (c.loop-i.examined + c.next_victim-sought.result.examined) c.in-Some.i c.next_victim-sought.new.state = step.victim c.in-Some.is in
     let gone : let stored = c.loop-i.stored - c.wide-stored.result in
-    Choice call (c.loop-i.left - 1) stored c.in-Some.i (c.loop-i.examined + c.next_victim-sought.result.examined) c.set_place.new.state = victim.goes (c.wide-stored.ensures.0 ∙ c.weight.ensures ∙ ap (λ (r : Row). r.weight) c.row_at.ensures) c.set_place.auto.state c.set_place.ensures in
-    gone.size
+    Gone call (c.loop-i.left - 1) stored (c.loop-i.examined + c.next_victim-sought.result.examined) c.in-Some.i c.set_place.new.state = victim.goes (c.wide-stored.ensures.0 ∙ c.weight.ensures ∙ ap (λ (r : Row). r.weight) c.row_at.ensures) c.set_place.auto.state c.set_place.ensures in
+    gone.choice.size
 
 pub loop-i-smaller : goal.loop-i-smaller
 loop-i-smaller c =
@@ -100,5 +101,5 @@ loop-i-preserved c =
     let step : Came call c.loop-i.left c.loop-i.stored c.loop-i.examined c.next_victim-sought.new.state c.next_victim-sought.result = let v = c.loop-i.invariant in came v.0 v.2 c.next_victim-sought.auto.state c.next_victim-sought.ensures in
     let victim : Victim call c.loop-i.left c.loop-i.stored (c.loop-i.examined + c.next_victim-sought.result.examined) c.in-Some.i c.next_victim-sought.new.state = step.victim c.in-Some.is in
     let gone : let stored = c.loop-i.stored - c.wide-stored.result in
-    Choice call (c.loop-i.left - 1) stored c.in-Some.i (c.loop-i.examined + c.next_victim-sought.result.examined) c.set_place.new.state = victim.goes (c.wide-stored.ensures.0 ∙ c.weight.ensures ∙ ap (λ (r : Row). r.weight) c.row_at.ensures) c.set_place.auto.state c.set_place.ensures in
-    (gone, c.lowest_of_main-main.ensures, sym c.has_room.ensures ∙ c.if-has_room.false)
+    Gone call (c.loop-i.left - 1) stored (c.loop-i.examined + c.next_victim-sought.result.examined) c.in-Some.i c.set_place.new.state = victim.goes (c.wide-stored.ensures.0 ∙ c.weight.ensures ∙ ap (λ (r : Row). r.weight) c.row_at.ensures) c.set_place.auto.state c.set_place.ensures in
+    (gone.choice, c.lowest_of_main-main.ensures, sym c.has_room.ensures ∙ c.if-has_room.false)

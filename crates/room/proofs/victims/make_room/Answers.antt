@@ -27,8 +27,8 @@ returns-then-has_room-2 c =
     let bounds : Bounds c.args.w c.max_entries-max.result c.cut_to_bound-cut.result c.args.n c.args.state.now = bounds_read c.requires.1 c.max_entries-max.ensures c.cut_to_bound-cut.ensures in
     main_there bounds c.stored_weight-stored.ensures c.lowest_of_main-lowest.ensures.count c.has_room-2.ensures _ c.if-has_room-2.true c.room_there-then-has_room-2.ensures
 
-pub choose_victims-chosen-requires : goal.choose_victims-chosen-requires
-choose_victims-chosen-requires c =
+pub choose_victims-choice-requires : goal.choose_victims-choice-requires
+choose_victims-choice-requires c =
     let bounds : Bounds c.args.w c.max_entries-max.result c.cut_to_bound-cut.result c.args.n c.args.state.now = bounds_read c.requires.1 c.max_entries-max.ensures c.cut_to_bound-cut.ensures in
     let p = c.requires in
     let b = bounds in
@@ -36,28 +36,28 @@ choose_victims-chosen-requires c =
     (p.0, p.1, p.2, o, omega (arith, b.cut, b.max), full b c.stored_weight-stored.ensures o.count c.has_room-2.ensures c.if-has_room-2.false)
 
 pub overflow_sub-count : goal.overflow_sub-count
-overflow_sub-count c = omega (arith, (c.choose_victims-chosen.ensures.1 c.if-chosen.true).last.few)
+overflow_sub-count c = omega (arith, (c.choose_victims-choice.ensures.1 c.in-Some.chosen c.in-Some.is).last.few)
 
 pub returns-then-count-chosen-eq1 : goal.returns-then-count-chosen-eq1
 returns-then-count-chosen-eq1 c =
     let bounds : Bounds c.args.w c.max_entries-max.result c.cut_to_bound-cut.result c.args.n c.args.state.now = bounds_read c.requires.1 c.max_entries-max.ensures c.cut_to_bound-cut.ensures in
-    let aside : Aside c.args.time c.args.w c.args.n c.lowest_of_main-lowest.result.count c.choose_victims-chosen.result c.args.state.now c.choose_victims-chosen.new.state = stand_aside bounds c.requires.0 c.lowest_of_main-lowest.ensures.count c.choose_victims-chosen.auto.state c.choose_victims-chosen.ensures in
-    one_left aside c.if-chosen.true c.if-count-chosen-eq1.true
+    let aside : Aside c.args.time c.args.w c.args.n c.lowest_of_main-lowest.result.count c.choose_victims-choice.result c.args.state.now c.choose_victims-choice.new.state = stand_aside bounds c.requires.0 c.lowest_of_main-lowest.ensures.count c.choose_victims-choice.auto.state c.choose_victims-choice.ensures in
+    one_left aside c.in-Some.is c.if-count-chosen-eq1.true
 
 pub drop_aside-rows-requires : goal.drop_aside-rows-requires
 drop_aside-rows-requires c =
     let bounds : Bounds c.args.w c.max_entries-max.result c.cut_to_bound-cut.result c.args.n c.args.state.now = bounds_read c.requires.1 c.max_entries-max.ensures c.cut_to_bound-cut.ensures in
-    let aside : Aside c.args.time c.args.w c.args.n c.lowest_of_main-lowest.result.count c.choose_victims-chosen.result c.args.state.now c.choose_victims-chosen.new.state = stand_aside bounds c.requires.0 c.lowest_of_main-lowest.ensures.count c.choose_victims-chosen.auto.state c.choose_victims-chosen.ensures in
+    let aside : Aside c.args.time c.args.w c.args.n c.lowest_of_main-lowest.result.count c.choose_victims-choice.result c.args.state.now c.choose_victims-choice.new.state = stand_aside bounds c.requires.0 c.lowest_of_main-lowest.ensures.count c.choose_victims-choice.auto.state c.choose_victims-choice.ensures in
     drop_asks aside
 
-pub returns-then-chosen : goal.returns-then-chosen
-returns-then-chosen c =
+pub returns-else-count-chosen-eq1 : goal.returns-else-count-chosen-eq1
+returns-else-count-chosen-eq1 c =
     let bounds : Bounds c.args.w c.max_entries-max.result c.cut_to_bound-cut.result c.args.n c.args.state.now = bounds_read c.requires.1 c.max_entries-max.ensures c.cut_to_bound-cut.ensures in
-    let aside : Aside c.args.time c.args.w c.args.n c.lowest_of_main-lowest.result.count c.choose_victims-chosen.result c.args.state.now c.choose_victims-chosen.new.state = stand_aside bounds c.requires.0 c.lowest_of_main-lowest.ensures.count c.choose_victims-chosen.auto.state c.choose_victims-chosen.ensures in
-    all_dropped aside _ _ c.if-chosen.true c.drop_aside-rows.ensures
+    let aside : Aside c.args.time c.args.w c.args.n c.lowest_of_main-lowest.result.count c.choose_victims-choice.result c.args.state.now c.choose_victims-choice.new.state = stand_aside bounds c.requires.0 c.lowest_of_main-lowest.ensures.count c.choose_victims-choice.auto.state c.choose_victims-choice.ensures in
+    all_dropped aside _ _ c.in-Some.is c.drop_aside-rows.ensures
 
-pub returns : goal.returns
-returns c =
+pub returns-in-None : goal.returns-in-None
+returns-in-None c =
     let bounds : Bounds c.args.w c.max_entries-max.result c.cut_to_bound-cut.result c.args.n c.args.state.now = bounds_read c.requires.1 c.max_entries-max.ensures c.cut_to_bound-cut.ensures in
-    let aside : Aside c.args.time c.args.w c.args.n c.lowest_of_main-lowest.result.count c.choose_victims-chosen.result c.args.state.now c.choose_victims-chosen.new.state = stand_aside bounds c.requires.0 c.lowest_of_main-lowest.ensures.count c.choose_victims-chosen.auto.state c.choose_victims-chosen.ensures in
-    all_back aside _ _ c.if-chosen.false c.put_back.ensures
+    let aside : Aside c.args.time c.args.w c.args.n c.lowest_of_main-lowest.result.count c.choose_victims-choice.result c.args.state.now c.choose_victims-choice.new.state = stand_aside bounds c.requires.0 c.lowest_of_main-lowest.ensures.count c.choose_victims-choice.auto.state c.choose_victims-choice.ensures in
+    all_back aside _ c.in-None.is c.put_back.ensures
