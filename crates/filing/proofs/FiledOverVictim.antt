@@ -114,10 +114,10 @@ rest_kept i s h =
 
 -- c is the weight that is stored with the new row
 pub filed_over : {k : NodeAddr} {n : ℕ} {v : Victim} {l : List ℕ} (o : Over k n v l) {e : Entry} {w p j c q : ℕ} {r : Row} {t u y x : State}
-    → searched k (without_row v.at (view_rows n l).rows) ≡ Err j → c ≡ v.stored + cond (ltb p 2) w 0 → t ≡ with_stored_weight c (view_rows n l) → (q ≡ t.seq + 1) × (u ≡ with_seq q t) → y ≡ with_row_count n u
+    → searched k (without_row v.at (view_rows n l).rows) ≡ Err j → c ≡ v.stored + cond (ltb p 2) w 0 → t ≡ with_stored_weight c (view_rows n l) → q ≡ t.seq + 1 → u ≡ with_seq q t → y ≡ with_row_count n u
     → r ≡ stamped_row k e w p q → x ≡ exchanged v.at j r y → x ≡ file_new k e w p (take_out v.at (view_rows n l))
 unfolding file_new take_out with_only_rows exchanged with_rows with_stored_weight with_seq with_row_count
-filed_over {k} {n} {v} {l} o {e} {w} {p} {j} {c} {u = u} g ec et eq ey er ex =
+filed_over {k} {n} {v} {l} o {e} {w} {p} {j} {c} {u = u} g ec et eq eu ey er ex =
     let s = view_rows n l in
     let i = v.at in
     let h : i < length s.rows = omega (arith, o.inside, view_length n l) in
@@ -125,4 +125,4 @@ filed_over {k} {n} {v} {l} o {e} {w} {p} {j} {c} {u = u} g ec et eq ey er ex =
     let d = stamped_row k e w p (s.seq + 1) in
     let f = in_order d c j (take_out i s) b g refl (ec ∙ ap (λ (z : ℕ). z + cond (ltb p 2) w 0) o.weighs) in
     let m : n ≡ length (without_row i s.rows) + 1 = omega (arith, length_without i s.rows h, view_length n l) in
-    ex ∙ rw (ey ∙ ap (λ (z : ℕ). with_row_count z u) (m ∙ f.2), eq.1, er, eq.0, et, f.0, f.1, rest_kept i s h)
+    ex ∙ rw (ey ∙ ap (λ (z : ℕ). with_row_count z u) (m ∙ f.2), eu, er, eq, et, f.0, f.1, rest_kept i s h)

@@ -27,6 +27,7 @@ use stamps::row::draw_stamp;
 use types::node_addr::NodeAddr;
 
 // The row that a key without one becomes.
+#[tactic(auto, using(search::proofs::SearchLaws::none_searched))]
 fn index_for(state: &[u8], n: usize, key: NodeAddr) -> usize
     requires { (ascends (view_rows n state.now).rows ≡ true) × (head_size + n * row_size ≤ length state.now) × (find key (view_rows n state.now).rows ≡ None) }
     ensures { searched key (view_rows n state.now).rows ≡ Err result }
@@ -39,6 +40,7 @@ fn index_for(state: &[u8], n: usize, key: NodeAddr) -> usize
 }
 
 // The row that a key without one becomes once row i is gone.
+#[tactic(auto, using(memory::proofs::RowLaws::view_length, crate::proofs::FiledOverVictim::absent_behind))]
 fn index_without(state: &[u8], n: usize, i: usize, key: NodeAddr) -> usize
     requires { (ascends (view_rows n state.now).rows ≡ true) × (head_size + n * row_size ≤ length state.now) × (find key (view_rows n state.now).rows ≡ None) × (i < n) }
     ensures { searched key (without_row i (view_rows n state.now).rows) ≡ Err result }
@@ -91,6 +93,7 @@ fn new_row(key: NodeAddr, e: NewEntry, weight: u8, place: u8, seq: u64) -> NewRo
 }
 
 // A new row, under the stamp (last_used, seq + 1).
+#[tactic(auto, using(crate::proofs::FiledRows::index_asks, crate::proofs::FiledRows::one_more_fits, crate::proofs::FiledRows::head_there, crate::proofs::FiledRows::stored_light, crate::proofs::FiledRows::place_inside), unfolding(memory::specs::Edits::with_stored_weight))]
 pub(crate) fn file_new(
     state: &mut [u8],
     n: usize,
@@ -110,6 +113,7 @@ pub(crate) fn file_new(
 }
 
 // The victim leaves, and a new row is filed under the stamp (last_used, seq + 1).
+#[tactic(auto, using(crate::proofs::FiledOverVictim::place_without), unfolding(memory::specs::Edits::with_stored_weight))]
 pub(crate) fn file_over_victim(
     state: &mut [u8],
     n: usize,
@@ -130,6 +134,7 @@ pub(crate) fn file_over_victim(
 }
 
 // A saved row goes back as it was, but as ByUse and under the stamp (last_used, seq + 1).
+#[tactic(auto, using(crate::proofs::FiledRows::index_asks, crate::proofs::FiledRows::one_more_fits, crate::proofs::FiledRows::place_inside, crate::proofs::FiledRows::row_there, crate::proofs::FiledRows::count_asks, crate::proofs::FiledRows::seq_left), unfolding(memory::specs::Edits::with_stored_weight))]
 pub fn file_unchanged(state: &mut [u8], n: usize, key: NodeAddr, row: [u8; ROW])
     requires { Free key n state.old × ((row_of row).key ≡ key) }
     ensures { view_rows (n + 1) state.new ≡ file_new key (row_of row).entry (row_of row).weight by_use (view_rows n state.old) }

@@ -12,6 +12,7 @@ use entries::new_entry::NewEntry;
 use room::victims::Victim;
 use types::node_addr::NodeAddr;
 
+#[tactic(auto, using(room::proofs::LeftVictims::without_at, room::proofs::LeftVictims::without_none, crate::proofs::FiledInRoom::rows_there))]
 pub fn file_in_room(
     state: &mut [u8],
     n: usize,

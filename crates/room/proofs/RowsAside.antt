@@ -75,7 +75,7 @@ back_all (suc i) (r ∷ rs) e = ap (λ (xs : List Row). put_back r ∷ xs) (back
 pub record Backed (n i : ℕ) (l x : List ℕ) : Type 0 where
   pub within : i ≤ n
   pub long : length x ≡ length l
-  same : view_rows n x ≡ with_rows (back_to i (view_rows n l).rows) (view_rows n l)
+  pub same : view_rows n x ≡ with_rows (back_to i (view_rows n l).rows) (view_rows n l)
 
 pub backed_start : {n : ℕ} {l : List ℕ} → Backed n 0 l l
 unfolding back_to

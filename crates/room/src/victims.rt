@@ -51,6 +51,7 @@ pub struct Room {
 }
 
 // Row i at another place, under the stamp that it has.
+#[tactic(auto, using(crate::proofs::RowsAside::placed))]
 fn set_place(state: &mut [u8], n: usize, i: usize, place: u8)
     requires { (i < n) × (head_size + n * row_size ≤ length state.old) }
     ensures { view_rows n state.new ≡ with_rows (change_row (at_new_place place) i (view_rows n state.old).rows) (view_rows n state.old) }
@@ -105,6 +106,7 @@ fn choose_victims(state: &mut [u8], n: usize, lowest: LowestOfMain, w: u64, time
 }
 
 // Row i goes back if it was set aside.
+#[tactic(auto, using(crate::proofs::RowsAside::back_here, crate::proofs::RowsAside::back_not_here))]
 fn put_row_back(state: &mut [u8], n: usize, i: usize)
     requires { (i < n) × (head_size + n * row_size ≤ length state.old) }
     ensures { view_rows n state.new ≡ with_rows (change_row put_back i (view_rows n state.old).rows) (view_rows n state.old) }
@@ -115,6 +117,7 @@ fn put_row_back(state: &mut [u8], n: usize, i: usize)
 }
 
 // The rows that were set aside go back.
+#[tactic(auto, using(crate::proofs::RowsAside::backed_start, crate::proofs::RowsAside::backed_turn, crate::proofs::RowsAside::backed_end))]
 fn put_back(state: &mut [u8], n: usize)
     requires { head_size + n * row_size ≤ length state.old }
     ensures { view_rows n state.new ≡ with_rows (map put_back (view_rows n state.old).rows) (view_rows n state.old) }
@@ -146,6 +149,7 @@ fn room_there(rows: usize) -> Room
 
 // Room for w in main; where one victim is enough, it is left aside. Where there is room nothing is written, and main is not counted
 // where all rows are fewer than max_entries; where room can't be made no row leaves.
+#[tactic(auto, using(crate::proofs::ClosedForm::most, crate::proofs::ClosedForm::bounds_read, crate::proofs::RoomSettled::stored_asks, crate::proofs::RoomSettled::full, crate::proofs::RoomSettled::main_there, crate::proofs::RoomSettled::rows_there))]
 pub fn make_room(state: &mut [u8], n: usize, w: u64, time: u64) -> Room
     requires { (head_size + n * row_size ≤ length state.old) × (sound (capacity state.old) (view_rows n state.old) ≡ true) × ((view_rows n state.old).seq + total (main_visits time) (view_rows n state.old).rows < number_limit) }
     ensures { (room_of result (view_rows result.rows state.new) ≡ make_room time w (view_rows n state.old)) × (result.rows ≤ n) × Leaves result.victim (view_rows n state.old).rows (view_rows result.rows state.new).rows × (result.made ≡ false → result.victim ≡ None) }
