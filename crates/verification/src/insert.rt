@@ -25,6 +25,7 @@ use types::node_addr::NodeAddr;
 use types::placed::VerifiedInsert;
 
 // Without a path MTU: the entry of the row that was found (expired too), updated, or a new one; marked Verified.
+#[tactic(auto, using(memory::proofs::Fields::same_head, crate::proofs::VerifiedRows::within, crate::proofs::VerifiedRows::entry_new))]
 fn plain_entry(state: &[u8], n: usize, at: Result<usize, usize>, path: Path, time: u64) -> NewEntry
     requires { (head_size + n * row_size ≤ length state.now) × Within n at }
     ensures { ((k : Address) → at ≡ searched k (view_rows n state.now).rows → entry_from result ≡ verified_entry k path time None (view_rows n state.now)) × (result.path ≡ path) }
@@ -37,6 +38,7 @@ fn plain_entry(state: &[u8], n: usize, at: Result<usize, usize>, path: Path, tim
 }
 
 // The form with a path MTU then sets it.
+#[tactic(auto, using(crate::proofs::VerifiedRows::entry_plain))]
 fn verified_entry_of(
     state: &[u8],
     n: usize,
@@ -56,6 +58,7 @@ fn verified_entry_of(
 }
 
 // The row that was found leaves; how many rows stay.
+#[tactic(auto, using(room::proofs::RoomToFile::shown, room::proofs::RoomToFile::laid_out, crate::proofs::VerifiedRows::within, crate::proofs::VerifiedRows::out_absent))]
 fn take_out(state: &mut [u8], n: usize, at: Result<usize, usize>) -> usize
     requires { (sound (capacity state.old) (view_rows n state.old) ≡ true) × Within n at }
     ensures { (k : Address) → at ≡ searched k (view_rows n state.old).rows → view_rows result state.new ≡ without_key k (view_rows n state.old) }
@@ -70,6 +73,7 @@ fn take_out(state: &mut [u8], n: usize, at: Result<usize, usize>) -> usize
 }
 
 // The key's row out, room sought, and the row filed in main either way: over the victim, where one was enough.
+#[tactic(auto, using(room::proofs::RoomToFile::laid_out, crate::proofs::VerifiedRows::found_within, rules::proofs::Others::weight_ok))]
 fn file_anew(
     state: &mut [u8],
     n: usize,
@@ -95,6 +99,7 @@ fn file_anew(
 }
 
 // Where the key's row would go back to where it stands, it doesn't leave.
+#[tactic(auto, using(room::proofs::RoomToFile::laid_out, room::proofs::RoomToFile::rises, crate::proofs::NoPlace::row_inside, rules::proofs::Others::weight_ok, room::proofs::RoomToFile::shown, crate::proofs::RowKept::room_told, crate::proofs::RowKept::kept_said, crate::proofs::RowKept::kept_left))]
 pub fn file_verified(
     state: &mut [u8],
     n: usize,

@@ -2,20 +2,9 @@
 use mathlib.Core.Path.{ap}
 use native.Mathlib.Omega.{arith}
 use Rattle.types.specs.declared.coord.Path.{Path}
-use Rattle.rules.proofs.Others.{weight_ok}
-use Rattle.room.proofs.RoomToFile.{laid_out}
 use Rattle.filing.proofs.RoomSought.{Sought, sought}
-use Rattle.verification.proofs.VerifiedRows.{KeyOut, found_within, room_asked, row_asked, insert_said, insert_left}
+use Rattle.verification.proofs.VerifiedRows.{KeyOut, room_asked, row_asked, insert_said, insert_left}
 use Rattle.verification.proofs.insert.file_anew.Goals as goal
-
-pub verified_entry_of-e-requires : goal.verified_entry_of-e-requires
-verified_entry_of-e-requires c = (laid_out _ _ c.requires.0, found_within _ _ _ _ c.requires.4)
-
-pub take_out-rows-requires : goal.take_out-rows-requires
-take_out-rows-requires c = (c.requires.0, found_within _ _ _ _ c.requires.4)
-
-pub overflow_cast-row_weight : goal.overflow_cast-row_weight
-overflow_cast-row_weight c = record { fits = omega (arith, c.weight-weight.ensures, weight_ok c.args.path (record { long = c.requires.1.long; short = c.requires.1.short })) }
 
 pub make_room-room-requires : goal.make_room-room-requires
 make_room-room-requires c =
