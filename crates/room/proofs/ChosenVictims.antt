@@ -121,12 +121,12 @@ aside_weight w i l h =
 
 -- ---- choosing, from s on, at v
 
-record Choosing (now w : ℕ) (s : State) (count stored : ℕ) (v : Walk) : Type 0 where
-  same : choosing now w (walk_from s 0) ≡ choosing now w v
-  led : Led now s v
-  mains : count ≡ main_count v.state
-  loads : stored ≡ main_weight v.state
-  small : stored ≤ max_rows * weight_limit
+pub record Choosing (now w : ℕ) (s : State) (count stored : ℕ) (v : Walk) : Type 0 where
+  pub same : choosing now w (walk_from s 0) ≡ choosing now w v
+  pub led : Led now s v
+  pub mains : count ≡ main_count v.state
+  pub loads : stored ≡ main_weight v.state
+  pub small : stored ≤ max_rows * weight_limit
 
 -- what one call was given, and what it read: max_entries, and how many rows main had at first
 pub record Call : Type 0 where
@@ -152,7 +152,7 @@ pub record Choice (q : Call) (count stored e : ℕ) (m : List ℕ) : Type 0 wher
   pub most : q.max ≤ max_rows
   pub bound : q.w ≤ weight_bound q.max
   pub stamps : (given q).seq + total (main_visits q.now) (given q).rows < number_limit
-  choosing : Choosing q.now q.w (given q) count stored (walk_from (view_rows q.n m) e)
+  pub choosing : Choosing q.now q.w (given q) count stored (walk_from (view_rows q.n m) e)
   pub few : count ≤ q.mains
 
 -- and row i was the last

@@ -154,11 +154,11 @@ module _ {w m x n stored : ℕ} {l : List ℕ} (u : Bounds w m x n l) (es : stor
 -- ---- victims were chosen, and stand aside in memory t; main had count rows
 
 pub record Aside (now w n count : ℕ) (c : Choice) (l t : List ℕ) : Type 0 where
-  size : head_size + n * row_size ≤ length l
-  sound : sound (capacity l) (view_rows n l) ≡ true
-  mains : count ≡ main_count (view_rows n l)
-  long : length t ≡ length l
-  chosen : chosen_of c (view_rows n t) ≡ choosing now (min w (weight_bound (view_rows n l).max_entries)) (walk_from (view_rows n l) 0)
+  pub size : head_size + n * row_size ≤ length l
+  pub sound : sound (capacity l) (view_rows n l) ≡ true
+  pub mains : count ≡ main_count (view_rows n l)
+  pub long : length t ≡ length l
+  pub chosen : chosen_of c (view_rows n t) ≡ choosing now (min w (weight_bound (view_rows n l).max_entries)) (walk_from (view_rows n l) 0)
   pub aside : ForSome c.chosen (λ d. SetAside count d (view_rows n t))
 
 pub stand_aside : {now w m x n count : ℕ} {c : Choice} {l t : List ℕ} → Bounds w m x n l → head_size + n * row_size ≤ length l → count ≡ main_count (view_rows n l) →

@@ -24,6 +24,7 @@ pub struct ProbationRoom {
 
 // Where probation rows ≥ Q the lowest stamp is taken up, and restamped if stale. The first that is not is the victim, and the only one,
 // since a sound state has at most Q; it is left for the row that takes its place.
+#[tactic(auto, using(crate::proofs::ProbationVictims::evict_ends, crate::proofs::ProbationVictims::visit_left))]
 pub fn make_probation_room(state: &mut [u8], n: usize) -> ProbationRoom
     requires { (head_size + n * row_size ≤ length state.old) × (sound (capacity state.old) (view_rows n state.old) ≡ true) × ((view_rows n state.old).seq + total probation_visits (view_rows n state.old).rows < number_limit) }
     ensures { (walk_from (without_victim result.victim (view_rows n state.new)) result.examined ≡ make_probation_room (view_rows n state.old)) × Leaves result.victim (view_rows n state.old).rows (view_rows n state.new).rows }

@@ -149,7 +149,7 @@ fn room_there(rows: usize) -> Room
 
 // Room for w in main; where one victim is enough, it is left aside. Where there is room nothing is written, and main is not counted
 // where all rows are fewer than max_entries; where room can't be made no row leaves.
-#[tactic(auto, using(crate::proofs::ClosedForm::most, crate::proofs::ClosedForm::bounds_read, crate::proofs::RoomSettled::stored_asks, crate::proofs::RoomSettled::full, crate::proofs::RoomSettled::main_there, crate::proofs::RoomSettled::rows_there))]
+#[tactic(auto, using(crate::proofs::ClosedForm::most, crate::proofs::ClosedForm::bounds_read, crate::proofs::RoomSettled::stored_asks, crate::proofs::RoomSettled::full, crate::proofs::RoomSettled::main_there, crate::proofs::RoomSettled::rows_there, crate::proofs::RoomSettled::stand_aside, crate::proofs::RoomSettled::all_back))]
 pub fn make_room(state: &mut [u8], n: usize, w: u64, time: u64) -> Room
     requires { (head_size + n * row_size ≤ length state.old) × (sound (capacity state.old) (view_rows n state.old) ≡ true) × ((view_rows n state.old).seq + total (main_visits time) (view_rows n state.old).rows < number_limit) }
     ensures { (room_of result (view_rows result.rows state.new) ≡ make_room time w (view_rows n state.old)) × (result.rows ≤ n) × Leaves result.victim (view_rows n state.old).rows (view_rows result.rows state.new).rows × (result.made ≡ false → result.victim ≡ None) }
