@@ -1,16 +1,14 @@
 // A verified insert, done.
-ghost use Rattle.std.specs.Prelude.{◌≡◌, true, false, ◌+◌, ◌*◌, ◌≤◌, length, None};
+ghost use Rattle.std.specs.Prelude.{◌≡◌, true, ◌+◌, ◌*◌, ◌≤◌, length, None};
 ghost use Rattle.types.specs.declared.node_addr.NodeAddr.{NodeAddr as Address};
-ghost use Rattle.types.specs.Paths.{path_weight};
 ghost use Rattle.rules.specs.Sound.{sound};
 ghost use Rattle.rules.specs.Placement.{without_key, verified_entry, insert_verified};
-ghost use Rattle.rules.specs.Refusals.{last_seq, no_place_for};
 ghost use Rattle.rules.specs.Memory.{capacity, view_rows};
 ghost use Rattle.rules.specs.Layout.{head_size, row_size};
 ghost use Rattle.search.specs.ByKey.{searched};
-ghost use Rattle.filing.specs.Filings.{Writable};
 ghost use Rattle.entries.specs.NewEntries.{entry_from};
 ghost use Rattle.verification.specs.Searches.{Within};
+ghost use Rattle.verification.specs.Inserts.{Allowed, Inserting};
 
 use crate::in_place::{has_room_without, verify_in_place};
 use entries::new_entry::{NewEntry, new_entry, updated_entry, verified_entry, with_mtu};
@@ -83,8 +81,8 @@ fn file_anew(
     time: u64,
     mtu: Option<u16>,
 ) -> VerifiedInsert
-    requires { (sound (capacity state.old) (view_rows n state.old) ≡ true) × Writable path × ((view_rows n state.old).seq ≤ last_seq) × (no_place_for (capacity state.old) (view_rows n state.old) (record { key = key; path = path; time = time }) ≡ false) × (at ≡ searched key (view_rows n state.old).rows) }
-    ensures { (result ≡ record { weight = path_weight path; examined = (insert_verified key path time mtu (view_rows n state.old)).examined }) × (view_rows (length (insert_verified key path time mtu (view_rows n state.old)).state.rows) state.new ≡ (insert_verified key path time mtu (view_rows n state.old)).state) }
+    requires { Allowed key path time n state.old × (at ≡ searched key (view_rows n state.old).rows) }
+    ensures { Inserting (insert_verified key path time mtu (view_rows n state.old)) path result state.new }
 {
     let e = verified_entry_of(state, n, at, path, time, mtu);
     let rows = take_out(state, n, at);
@@ -108,8 +106,8 @@ pub fn file_verified(
     time: u64,
     mtu: Option<u16>,
 ) -> VerifiedInsert
-    requires { (sound (capacity state.old) (view_rows n state.old) ≡ true) × Writable path × ((view_rows n state.old).seq ≤ last_seq) × (no_place_for (capacity state.old) (view_rows n state.old) (record { key = key; path = path; time = time }) ≡ false) }
-    ensures { (result ≡ record { weight = path_weight path; examined = (insert_verified key path time mtu (view_rows n state.old)).examined }) × (view_rows (length (insert_verified key path time mtu (view_rows n state.old)).state.rows) state.new ≡ (insert_verified key path time mtu (view_rows n state.old)).state) }
+    requires { Allowed key path time n state.old }
+    ensures { Inserting (insert_verified key path time mtu (view_rows n state.old)) path result state.new }
 {
     let at = search(state, n, key);
     match at {

@@ -17,4 +17,4 @@ returns c =
     } in
     let r = c.file_verified in
     insert_done underway c.args.mtu _ _ c.if-no_place_for.false
-    (all_bytes r.new.state (λ j. (c.slice_known-2-1.given j).fits)) r.auto.state r.ensures.0 r.ensures.1
+    (all_bytes r.new.state (λ j. (c.slice_known-2-1.given j).fits)) r.auto.state r.ensures
