@@ -2,7 +2,7 @@
 use mathlib.Core.Path.{◌≡◌, refl, sym, ap, ◌∙◌}
 use mathlib.Core.Bool.{true, cond}
 use mathlib.Core.List.{List, [], ◌∷◌, ◌++◌}
-use Rattle.std.specs.Prelude.{None, Ok, Err, Result}
+use Rattle.std.specs.Prelude.{None, Err}
 use Prim.Native.Nat.{ℕ, zero, suc, ◌+◌, ◌*◌, ◌/◌, ◌-◌, ◌≤◌, ◌<◌}
 use native.Mathlib.Omega.{arith}
 use lib.Dec.{ltb}
@@ -20,7 +20,7 @@ use Rattle.rules.proofs.Sizes.{light, few_rows}
 use Rattle.rules.specs.Layout.{head_size, row_size}
 use Rattle.rules.proofs.Foreign.{view_length}
 use Rattle.search.specs.ByKey.{searched}
-use Rattle.search.proofs.SearchLaws.{absent_inside, absent_insert, none_searched}
+use Rattle.search.proofs.SearchLaws.{absent_inside, absent_insert}
 use Rattle.memory.specs.Edits.{with_stored_weight, stamped_as}
 use Rattle.memory.proofs.Fields.{same_head}
 use Rattle.rows.specs.Insertions.{inserted}

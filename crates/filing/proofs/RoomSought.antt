@@ -24,7 +24,7 @@ use Rattle.rules.specs.Refusals.{last_seq}
 use Rattle.std.specs.Prelude.{Option, Some, None}
 use Rattle.room.specs.declared.victims.Victim.{Victim}
 use Rattle.room.specs.declared.victims.Room.{Room as RoomAnswer}
-use Rattle.room.specs.Rooms.{room_of, without_victim, Leaves, Without, StampsLeft}
+use Rattle.room.specs.Rooms.{room_of, without_victim, Leaves, Settled, Without, StampsLeft}
 use Rattle.room.proofs.ClosedForm.{main_visits_lem, probation_visits_lem}
 use Rattle.room.proofs.RoomToFile.{shown, laid_out, few, free_in_main, reached_without, without_gone}
 use Rattle.room.proofs.LeftVictims.{without_none}
@@ -74,17 +74,11 @@ pub record Sought (l m : List ℕ) (n time w : ℕ) (r : RoomAnswer) : Type 0 wh
   pub leaves : Leaves r.victim (view_rows n l).rows (view_rows r.rows m).rows
   pub none : r.made ≡ false → r.victim ≡ None
 
-pub sought : (l m : List ℕ) (n time w : ℕ) (r : RoomAnswer) → length m ≡ length l
-    → (room_of r (view_rows r.rows m) ≡ make_room time w (view_rows n l)) × (r.rows ≤ n)
-    × Leaves r.victim (view_rows n l).rows (view_rows r.rows m).rows × (r.made ≡ false → r.victim ≡ None)
-    → Sought l m n time w r
-sought l m n time w r z e = record { size = z; room = e.0; rows = e.1; leaves = e.2; none = e.3 }
+pub sought : (l m : List ℕ) (n time w : ℕ) (r : RoomAnswer) → length m ≡ length l → Settled time w n r l m → Sought l m n time w r
+sought l m n time w r z e = record { size = z; room = e.room; rows = e.rows; leaves = e.leaves; none = e.none }
 
 -- the same, where the weight that was asked for is w
-pub sought_for : {l m : List ℕ} {n time v w : ℕ} {r : RoomAnswer} → v ≡ w → length m ≡ length l
-    → (room_of r (view_rows r.rows m) ≡ make_room time v (view_rows n l)) × (r.rows ≤ n)
-    × Leaves r.victim (view_rows n l).rows (view_rows r.rows m).rows × (r.made ≡ false → r.victim ≡ None)
-    → Sought l m n time w r
+pub sought_for : {l m : List ℕ} {n time v w : ℕ} {r : RoomAnswer} → v ≡ w → length m ≡ length l → Settled time v n r l m → Sought l m n time w r
 sought_for {l} {m} {n} {time} {r = r} g z e = rw (← g) (sought l m n time _ r z e)
 
 module _ (k : NodeAddr) (n : ℕ) (l m : List ℕ) (time w : ℕ) (r : RoomAnswer) (wo : Without k n l) (so : Sought l m n time w r) where

@@ -1,12 +1,12 @@
 -- The code's answers in the rules' terms.
-use Rattle.std.specs.Prelude.{◌≡◌, ℕ, ◌+◌, ◌≤◌, ◌<◌, ◌*◌, List, true, length, None, Option, Some, is_some}
+use Rattle.std.specs.Prelude.{◌≡◌, ℕ, ◌+◌, ◌≤◌, ◌<◌, ◌*◌, List, true, false, length, None, Option, Some, is_some}
 use Rattle.std.specs.Option.{ForSome}
 use Rattle.types.specs.declared.node_addr.NodeAddr.{NodeAddr}
 use Rattle.types.specs.Values.{largest_number}
 use Rattle.rules.specs.Records.{Row, State, aside, max_rows, weight_limit}
 use Rattle.rules.specs.Rows.{row_at, at_place, in_main, find, without_row, total, weigh_rows, main_count, main_weight}
 use Rattle.rules.specs.Sound.{sound, ascends}
-use Rattle.rules.specs.Room.{Chosen, Room, probation_visits, take_out}
+use Rattle.rules.specs.Room.{Chosen, Room, make_room, probation_visits, take_out}
 use Rattle.rules.specs.Memory.{capacity, view_rows}
 use Rattle.stamps.specs.Walked.{walk_from}
 use Rattle.room.specs.declared.victims.Choice.{Choice}
@@ -50,6 +50,13 @@ pub record LeftAt (v : Victim) (rs ts : List Row) : Type 0 where
 
 abbrev pub Leaves : Option Victim → List Row → List Row → Type 0
 Leaves v rs ts = ForSome v (λ x. LeftAt x rs ts)
+
+-- r, and memory m, tell the room that was sought for w among the n rows of memory l
+pub record Settled (time w n : ℕ) (r : RoomAnswer) (l m : List ℕ) : Type 0 where
+  pub room : room_of r (view_rows r.rows m) ≡ make_room time w (view_rows n l)
+  pub rows : r.rows ≤ n
+  pub leaves : Leaves r.victim (view_rows n l).rows (view_rows r.rows m).rows
+  pub none : r.made ≡ false → r.victim ≡ None
 
 -- ---- what a row that is filed meets
 

@@ -5,12 +5,12 @@ ghost use Rattle.std.specs.Option.{ForSome};
 ghost use Rattle.rules.specs.Records.{weight_bound, aside, max_rows};
 ghost use Rattle.rules.specs.Rows.{at_place, change_row, keep_rows, with_rows, with_only_rows, total, main_count};
 ghost use Rattle.rules.specs.Sound.{sound};
-ghost use Rattle.rules.specs.Room.{main_visits, has_room, at_new_place, put_back, choose_victims, make_room};
+ghost use Rattle.rules.specs.Room.{main_visits, has_room, at_new_place, put_back, choose_victims};
 ghost use Rattle.rules.specs.Memory.{capacity, view_rows};
 ghost use Rattle.rules.specs.Layout.{head_size, number_limit, row_size};
 ghost use Rattle.stamps.specs.Walked.{walk_from, MainIs};
 ghost use Rattle.retention.specs.Sweep.{PathsFit};
-ghost use Rattle.room.specs.Rooms.{chosen_of, room_of, SetAside, Leaves};
+ghost use Rattle.room.specs.Rooms.{chosen_of, SetAside, Settled};
 
 use crate::closed_form::{cut_to_bound, has_room};
 use memory::codes::{ASIDE, BY_USE};
@@ -65,8 +65,14 @@ fn set_place(state: &mut [u8], n: usize, i: usize, place: u8)
 // Victims are set aside until there is room for w, or none is left. At the start there is no room, and `lowest` is of the rows as they
 // then are.
 fn choose_victims(state: &mut [u8], n: usize, lowest: LowestOfMain, w: u64, time: u64) -> Choice
-    requires { (head_size + n * row_size ≤ length state.old) × (sound (capacity state.old) (view_rows n state.old) ≡ true) × ((view_rows n state.old).seq + total (main_visits time) (view_rows n state.old).rows < number_limit) × MainIs lowest (view_rows n state.old).rows × (w ≤ weight_bound (view_rows n state.old).max_entries) × (has_room w (view_rows n state.old) ≡ false) }
-    ensures { (chosen_of result (view_rows n state.new) ≡ choose_victims (suc (main_count (view_rows n state.old))) time w (walk_from (view_rows n state.old) 0)) × ForSome result.chosen (λ c. SetAside lowest.count c (view_rows n state.new)) }
+    requires size { head_size + n * row_size ≤ length state.old }
+    requires sound { sound (capacity state.old) (view_rows n state.old) ≡ true }
+    requires stamps { (view_rows n state.old).seq + total (main_visits time) (view_rows n state.old).rows < number_limit }
+    requires lowest { MainIs lowest (view_rows n state.old).rows }
+    requires bound { w ≤ weight_bound (view_rows n state.old).max_entries }
+    requires full { has_room w (view_rows n state.old) ≡ false }
+    ensures chosen { chosen_of result (view_rows n state.new) ≡ choose_victims (suc (main_count (view_rows n state.old))) time w (walk_from (view_rows n state.old) 0) }
+    ensures aside { ForSome result.chosen (λ c. SetAside lowest.count c (view_rows n state.new)) }
 {
     let max = memory::head::max_entries(state);
     let mut stored = memory::head::stored_weight(state);
@@ -152,7 +158,7 @@ fn room_there(rows: usize) -> Room
 #[tactic(auto, using(crate::proofs::ClosedForm::most, crate::proofs::ClosedForm::bounds_read, crate::proofs::RoomSettled::stored_asks, crate::proofs::RoomSettled::full, crate::proofs::RoomSettled::main_there, crate::proofs::RoomSettled::rows_there, crate::proofs::RoomSettled::stand_aside, crate::proofs::RoomSettled::all_back))]
 pub fn make_room(state: &mut [u8], n: usize, w: u64, time: u64) -> Room
     requires { (head_size + n * row_size ≤ length state.old) × (sound (capacity state.old) (view_rows n state.old) ≡ true) × ((view_rows n state.old).seq + total (main_visits time) (view_rows n state.old).rows < number_limit) }
-    ensures { (room_of result (view_rows result.rows state.new) ≡ make_room time w (view_rows n state.old)) × (result.rows ≤ n) × Leaves result.victim (view_rows n state.old).rows (view_rows result.rows state.new).rows × (result.made ≡ false → result.victim ≡ None) }
+    ensures { Settled time w n result state.old state.new }
 {
     let max = memory::head::max_entries(state);
     let cut = cut_to_bound(w, max);

@@ -28,14 +28,14 @@ gone c =
 pub loop-i-init : goal.loop-i-init
 loop-i-init c =
     let p = c.requires in
-    choice_start _ p.0 p.1 p.2 p.3 refl p.4 p.5 c.max_entries-max.ensures c.stored_weight-stored.ensures
+    choice_start _ p.size p.sound p.stamps p.lowest refl p.bound p.full c.max_entries-max.ensures c.stored_weight-stored.ensures
 
 pub overflow_add-examined : goal.overflow_add-examined
 overflow_add-examined c = let s = came_there (goal.at.overflow_add-examined c).After-next_victim-sought in omega (arith, s.keys)
 
 pub returns-in-None : goal.returns-in-None
 unfolding chosen_of
-returns-in-None c = ((came_there (goal.at.returns-in-None c).After-next_victim-sought).none_left c.in-None.is, at_none _)
+returns-in-None c = record { chosen = (came_there (goal.at.returns-in-None c).After-next_victim-sought).none_left c.in-None.is; aside = at_none _ }
 
 pub overflow_sub-left : goal.overflow_sub-left
 overflow_sub-left c = (victim (goal.at.overflow_sub-left c).In-Some).some_left
@@ -53,7 +53,10 @@ pub returns-then-has_room : goal.returns-then-has_room
 unfolding chosen_of
 returns-then-has_room c =
     let g = gone (goal.at.returns-then-has_room c).After-set_place in
-    (chosen_enough g.choice c.has_room.ensures c.if-has_room.true, at_one (λ x. SetAside c.args.lowest.count x (view_rows c.args.n c.set_place.new.state)) _ (set_aside_lem g.choice c.in-Some.i g.last))
+    record {
+      chosen = chosen_enough g.choice c.has_room.ensures c.if-has_room.true;
+      aside = at_one (λ x. SetAside c.args.lowest.count x (view_rows c.args.n c.set_place.new.state)) _ (set_aside_lem g.choice c.in-Some.i g.last);
+    }
 
 pub loop-i-smaller : goal.loop-i-smaller
 loop-i-smaller c = let v = victim (goal.at.loop-i-smaller c).In-Some in omega (arith, v.some_left)
