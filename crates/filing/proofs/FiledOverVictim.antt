@@ -25,7 +25,8 @@ use Rattle.search.proofs.SearchLaws.{absent_inside, absent_none, none_searched}
 use Rattle.memory.proofs.RowLaws.{length_without, view_length}
 use Rattle.memory.specs.Edits.{with_stored_weight, with_row_count}
 use Rattle.rows.specs.Insertions.{exchanged}
-use Rattle.filing.specs.Filings.{Over}
+use Rattle.room.specs.declared.victims.Victim.{Victim}
+use Rattle.filing.specs.Filings.{Over, stamped_row}
 use Rattle.filing.proofs.FiledRows.{in_order}
 
 -- ---- the place of a key once row i is gone
@@ -93,10 +94,10 @@ module _ (k : NodeAddr) (rs : List Row) (i p : ℕ) (a : ascends rs ≡ true) (l
       go false e = omega (arith, rw e at count_without)
 
 -- it is among the rows
-pub place_without : {k : NodeAddr} {n i c j : ℕ} {l : List ℕ} → Over k n i c l → searched k (without_row i (view_rows n l).rows) ≡ Err j → j < n
-place_without {k} {n} {i} {j = j} {l} o e =
+pub place_without : {k : NodeAddr} {n j : ℕ} {v : Victim} {l : List ℕ} → Over k n v l → searched k (without_row v.at (view_rows n l).rows) ≡ Err j → j < n
+place_without {k} {n} {j} {v} {l} o e =
     let m = view_length n l in
-    omega (arith, absent_inside k (without_row i (view_rows n l).rows) j e, length_without i (view_rows n l).rows (omega (arith, o.inside)), o.inside)
+    omega (arith, absent_inside k (without_row v.at (view_rows n l).rows) j e, length_without v.at (view_rows n l).rows (omega (arith, o.inside)), o.inside)
 
 -- ---- the new row
 
@@ -111,16 +112,17 @@ rest_kept i s h =
     let n = length_without i s.rows h in
     drop_at (zero_rows (length s.rows - length (without_row i s.rows))) s.rest row_size (zeros (length s.rows - length (without_row i s.rows)) ∙ omega arith)
 
--- c is the weight that is stored without row i, v with the new row
-pub filed_over : {k : NodeAddr} {n i c : ℕ} {l : List ℕ} (o : Over k n i c l) {e : Entry} {w p j v q : ℕ} {r : Row} {t u y x : State}
-    → searched k (without_row i (view_rows n l).rows) ≡ Err j → v ≡ c + cond (ltb p 2) w 0 → t ≡ with_stored_weight v (view_rows n l) → (q ≡ t.seq + 1) × (u ≡ with_seq q t) → y ≡ with_row_count n u
-    → r ≡ record { key = k; entry = e; place = p; stamp_first = e.last_used; stamp_seq = q; weight = w } → x ≡ exchanged i j r y → x ≡ file_new k e w p (take_out i (view_rows n l))
+-- c is the weight that is stored with the new row
+pub filed_over : {k : NodeAddr} {n : ℕ} {v : Victim} {l : List ℕ} (o : Over k n v l) {e : Entry} {w p j c q : ℕ} {r : Row} {t u y x : State}
+    → searched k (without_row v.at (view_rows n l).rows) ≡ Err j → c ≡ v.stored + cond (ltb p 2) w 0 → t ≡ with_stored_weight c (view_rows n l) → q ≡ t.seq + 1 → u ≡ with_seq q t → y ≡ with_row_count n u
+    → r ≡ stamped_row k e w p q → x ≡ exchanged v.at j r y → x ≡ file_new k e w p (take_out v.at (view_rows n l))
 unfolding file_new take_out with_only_rows exchanged with_rows with_stored_weight with_seq with_row_count
-filed_over {k} {n} {i} {c} {l} o {e} {w} {p} {j} {v} {u = u} g ev et eq ey er ex =
+filed_over {k} {n} {v} {l} o {e} {w} {p} {j} {c} {u = u} g ec et eq eu ey er ex =
     let s = view_rows n l in
+    let i = v.at in
     let h : i < length s.rows = omega (arith, o.inside, view_length n l) in
     let b : ascends (without_row i s.rows) ≡ true = ascends_test (without_row i s.rows) (rising_without i s.rows (ascends_ok s.rows o.rising)) in
-    let d : Row = record { key = k; entry = e; place = p; stamp_first = e.last_used; stamp_seq = s.seq + 1; weight = w } in
-    let f = in_order d v j (take_out i s) b g refl (ev ∙ ap (λ (z : ℕ). z + cond (ltb p 2) w 0) o.weighs) in
+    let d = stamped_row k e w p (s.seq + 1) in
+    let f = in_order d c j (take_out i s) b g refl (ec ∙ ap (λ (z : ℕ). z + cond (ltb p 2) w 0) o.weighs) in
     let m : n ≡ length (without_row i s.rows) + 1 = omega (arith, length_without i s.rows h, view_length n l) in
-    ex ∙ rw (ey ∙ ap (λ (z : ℕ). with_row_count z u) (m ∙ f.2), eq.1, er, eq.0, et, f.0, f.1, rest_kept i s h)
+    ex ∙ rw (ey ∙ ap (λ (z : ℕ). with_row_count z u) (m ∙ f.2), eu, er, eq, et, f.0, f.1, rest_kept i s h)

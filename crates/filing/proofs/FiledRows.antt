@@ -2,7 +2,7 @@
 use mathlib.Core.Path.{◌≡◌, refl, sym, ap, ◌∙◌}
 use mathlib.Core.Bool.{true, cond}
 use mathlib.Core.List.{List, [], ◌∷◌, ◌++◌}
-use Rattle.std.specs.Prelude.{None, Ok, Err, Result}
+use Rattle.std.specs.Prelude.{None, Err}
 use Prim.Native.Nat.{ℕ, zero, suc, ◌+◌, ◌*◌, ◌/◌, ◌-◌, ◌≤◌, ◌<◌}
 use native.Mathlib.Omega.{arith}
 use lib.Dec.{ltb}
@@ -20,11 +20,11 @@ use Rattle.rules.proofs.Sizes.{light, few_rows}
 use Rattle.rules.specs.Layout.{head_size, row_size}
 use Rattle.rules.proofs.Foreign.{view_length}
 use Rattle.search.specs.ByKey.{searched}
-use Rattle.search.proofs.SearchLaws.{absent_inside, absent_insert, none_searched}
+use Rattle.search.proofs.SearchLaws.{absent_inside, absent_insert}
 use Rattle.memory.specs.Edits.{with_stored_weight, stamped_as}
 use Rattle.memory.proofs.Fields.{same_head}
 use Rattle.rows.specs.Insertions.{inserted}
-use Rattle.filing.specs.Filings.{Free}
+use Rattle.filing.specs.Filings.{Free, stamped_row}
 
 -- ---- what a row that is filed meets
 
@@ -57,14 +57,6 @@ module _ {k : NodeAddr} {n : ℕ} {l : List ℕ} (f : Free k n l) where
   pub place_inside : {i : ℕ} → searched k (view_rows n l).rows ≡ Err i → i ≤ n
   place_inside {i} h = omega (arith, absent_inside k (view_rows n l).rows i h, view_length n l)
 
--- what fits a memory of length b fits one of length c
-pub fits_kept : {a b c : ℕ} → c ≡ b → a ≤ b → a ≤ c
-fits_kept e h = omega arith
-
--- a search for a key that has no row doesn't find one
-pub only_absent : (k : NodeAddr) (rs : List Row) {i j : ℕ} {r : Result ℕ ℕ} → find k rs ≡ None → r ≡ searched k rs → r ≡ Ok i → searched k rs ≡ Err j
-only_absent k rs h f g = let z = sym (none_searched k rs h) ∙ sym f ∙ g in cc
-
 -- ---- a new row
 
 one_longer : (i : ℕ) (r : Row) (rs : List Row) → i ≤ length rs → length (take i rs ++ (r ∷ drop i rs)) ≡ length rs + 1
@@ -78,20 +70,15 @@ in_order r w i s a h m e =
     let o = absent_insert r s.rows i a h in
     (sym o, omega (arith, total_insert (λ (x : Row). cond (ltb x.place 2) x.weight 0) r s.rows), sym (ap length o ∙ one_longer i r s.rows (absent_inside r.key s.rows i h)))
 
--- a new stored weight leaves seq as it was
-pub same_seq : (v : ℕ) (s : State) {t : State} → t ≡ with_stored_weight v s → t.seq ≡ s.seq
-unfolding with_stored_weight
-same_seq v s e = ap (λ (x : State). x.seq) e
-
 -- at i, once the weight v is stored and the stamp q drawn
 pub filed : {k : NodeAddr} {n : ℕ} {l : List ℕ} (f : Free k n l) {e : Entry} {w p i v q : ℕ} {r : Row} {t u x : State}
-    → searched k (view_rows n l).rows ≡ Err i → v ≡ (view_rows 0 l).stored_weight + cond (ltb p 2) w 0 → t ≡ with_stored_weight v (view_rows n l) → (q ≡ t.seq + 1) × (u ≡ with_seq q t)
-    → r ≡ record { key = k; entry = e; place = p; stamp_first = e.last_used; stamp_seq = q; weight = w } → x ≡ inserted i r u → x ≡ file_new k e w p (view_rows n l)
+    → searched k (view_rows n l).rows ≡ Err i → v ≡ (view_rows 0 l).stored_weight + cond (ltb p 2) w 0 → t ≡ with_stored_weight v (view_rows n l) → q ≡ t.seq + 1 → u ≡ with_seq q t
+    → r ≡ stamped_row k e w p q → x ≡ inserted i r u → x ≡ file_new k e w p (view_rows n l)
 unfolding file_new inserted with_stored_weight with_seq view_rows
-filed {k} {n} {l} f {e} {w} {p} {i} {v} h ev et eq er ex =
-    let c : Row = record { key = k; entry = e; place = p; stamp_first = e.last_used; stamp_seq = (view_rows n l).seq + 1; weight = w } in
+filed {k} {n} {l} f {e} {w} {p} {i} {v} h ev et eq eu er ex =
+    let c = stamped_row k e w p ((view_rows n l).seq + 1) in
     let o = in_order c v i (view_rows n l) (rows_rise f) h (whole f).stored_weight ev in
-    ex ∙ rw (eq.1, er, eq.0, et, o.0, o.1, o.2)
+    ex ∙ rw (eu, er, eq, et, o.0, o.1, o.2)
 
 -- ---- a saved row
 
@@ -116,7 +103,7 @@ unfolding stamp raised with_rows inserted with_stored_weight with_seq
 stamp_in f v i r s h = rw (change_in (stamped_as 0 f (s.seq + 1)) i r s.rows h)
 
 saved_row : (k : NodeAddr) (f q : ℕ) (r : Row) → r.key ≡ k → f ≡ r.entry.last_used
-    → stamped_as 0 f q r ≡ record { key = k; entry = r.entry; place = 0; stamp_first = r.entry.last_used; stamp_seq = q; weight = r.weight }
+    → stamped_as 0 f q r ≡ stamped_row k r.entry r.weight 0 q
 unfolding stamped_as
 saved_row k f q r e g = rw (e, g)
 
@@ -151,4 +138,4 @@ module _ {k : NodeAddr} {n i : ℕ} {r : Row} {l m : List ℕ} (s : Standing k n
       let v1 : v ≡ (view_rows 0 l).stored_weight + r.weight = omega (arith, ev, w1, (same_head 0 (n + 1) m).stored_weight, (same_head 0 n l).stored_weight, ap (λ (y : State). y.stored_weight) s.state) in
       let u1 = eu ∙ ap (with_stored_weight v) s.state in
       let f1 : first ≡ r.entry.last_used = ef ∙ rw (u1, inserted_row i r (view_rows n l) b) in
-      filed s.free s.at v1 refl (refl, refl) (saved_row k first q r s.key f1) (ex ∙ ap (stamp (stamped_as 0 first) i) u1 ∙ stamp_in first v i r (view_rows n l) b)
+      filed s.free s.at v1 refl refl refl (saved_row k first q r s.key f1) (ex ∙ ap (stamp (stamped_as 0 first) i) u1 ∙ stamp_in first v i r (view_rows n l) b)

@@ -34,10 +34,6 @@ weighed_row : (q w : ℕ) (r : Row) → refiled q (with_weight w r).entry (with_
 unfolding refiled with_weight in_main
 weighed_row q w r = refl
 
-pub weighed_seq : (w i : ℕ) (s : State) {t : State} → t ≡ with_rows (change_row (with_weight w) i s.rows) s → t.seq ≡ s.seq
-unfolding with_rows
-weighed_seq w i s e = ap (λ (x : State). x.seq) e
-
 pub weighed_refiled : (w i : ℕ) (s : State) {t x : State} → t ≡ with_rows (change_row (with_weight w) i s.rows) s → x ≡ restamp i t → x ≡ refile (row_at i s.rows).entry w i s
 unfolding restamp refile stamp raised with_rows
 weighed_refiled w i s et ex =
@@ -56,10 +52,6 @@ entry_row f q w e r = refl
 rewritten_entry : (f : Entry → Entry) (i : ℕ) (s : State) → i < length s.rows → (row_at i (rewrite f i s).rows).entry ≡ f (row_at i s.rows).entry
 unfolding rewrite with_rows with_entry
 rewritten_entry f i s h = ap (λ (r : Row). r.entry) (row_changed (λ r. with_entry (f r.entry) r) i s.rows h)
-
-pub rewritten_seq : (f : Entry → Entry) (i : ℕ) (s : State) {t : State} → t ≡ rewrite f i s → t.seq ≡ s.seq
-unfolding rewrite with_rows
-rewritten_seq f i s e = ap (λ (x : State). x.seq) e
 
 refile_rewritten : (f : Entry → Entry) (e : Entry) (w i : ℕ) (s : State) → refile e w i (rewrite f i s) ≡ refile e w i s
 unfolding refile stamp raised rewrite with_rows

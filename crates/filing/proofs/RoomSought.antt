@@ -22,8 +22,9 @@ use Rattle.rules.specs.Layout.{head_size, number_limit, row_size}
 use Rattle.rules.proofs.Foreign.{view_length}
 use Rattle.rules.specs.Refusals.{last_seq}
 use Rattle.std.specs.Prelude.{Option, Some, None}
+use Rattle.room.specs.declared.victims.Victim.{Victim}
 use Rattle.room.specs.declared.victims.Room.{Room as RoomAnswer}
-use Rattle.room.specs.Rooms.{room_of, without_victim, Leaves, Without, StampsLeft}
+use Rattle.room.specs.Rooms.{room_of, without_victim, Leaves, Settled, Without, StampsLeft}
 use Rattle.room.proofs.ClosedForm.{main_visits_lem, probation_visits_lem}
 use Rattle.room.proofs.RoomToFile.{shown, laid_out, few, free_in_main, reached_without, without_gone}
 use Rattle.room.proofs.LeftVictims.{without_none}
@@ -42,23 +43,23 @@ room_asks time n l h q = (laid_out n l h, h, omega (arith, main_visits_lem time 
 -- ---- a victim that was left in place
 
 -- it takes no stamp with it
-pub victim_seq : (v : Option ℕ) (s : State) → (without_victim v s).seq ≡ s.seq
+pub victim_seq : (v : Option Victim) (s : State) → (without_victim v s).seq ≡ s.seq
 unfolding without_victim take_out with_only_rows
-victim_seq (Some i) s = refl
+victim_seq (Some v) s = refl
 victim_seq None s = refl
 
 -- what a row asks that takes its place, or a free row
-pub left_takes : {k : NodeAddr} {v : Option ℕ} {w n j : ℕ} {l m : List ℕ} → Without k n l → length m ≡ length l → j ≤ n → Leaves v w (view_rows n l).rows (view_rows j m).rows
-    → (view_rows j m).seq < largest_number → (v ≡ None → Without k j m × (j < capacity m)) → Takes k v w j m
+pub left_takes : {k : NodeAddr} {v : Option Victim} {n j : ℕ} {l m : List ℕ} → Without k n l → length m ≡ length l → j ≤ n → Leaves v (view_rows n l).rows (view_rows j m).rows
+    → (view_rows j m).seq < largest_number → (v ≡ None → Without k j m × (j < capacity m)) → Takes k v j m
 left_takes {k} {n = n} {j} {l} {m} wo z h d q f = record {
   free = λ e. record { without = (f e).0; room = (f e).1; seq = q };
-  over = λ i e. record {
+  over = λ x e. record {
     fits = omega (arith, laid_out n l wo.sound);
-    inside = omega (arith, (d i e).inside, view_length j m);
-    rising = (d i e).rising;
-    gone = (d i e).gone k wo.gone;
-    weighs = (d i e).weighs;
-    light = (d i e).light;
+    inside = omega (arith, (d x e).inside, view_length j m);
+    rising = (d x e).rising;
+    gone = (d x e).gone k wo.gone;
+    weighs = (d x e).weighs;
+    light = (d x e).light;
     seq = q;
   };
 }
@@ -70,20 +71,14 @@ pub record Sought (l m : List ℕ) (n time w : ℕ) (r : RoomAnswer) : Type 0 wh
   pub size : length m ≡ length l
   pub room : room_of r (view_rows r.rows m) ≡ make_room time w (view_rows n l)
   pub rows : r.rows ≤ n
-  pub leaves : Leaves r.victim r.stored (view_rows n l).rows (view_rows r.rows m).rows
+  pub leaves : Leaves r.victim (view_rows n l).rows (view_rows r.rows m).rows
   pub none : r.made ≡ false → r.victim ≡ None
 
-pub sought : (l m : List ℕ) (n time w : ℕ) (r : RoomAnswer) → length m ≡ length l
-    → (room_of r (view_rows r.rows m) ≡ make_room time w (view_rows n l)) × (r.rows ≤ n)
-    × Leaves r.victim r.stored (view_rows n l).rows (view_rows r.rows m).rows × (r.made ≡ false → r.victim ≡ None)
-    → Sought l m n time w r
-sought l m n time w r z e = record { size = z; room = e.0; rows = e.1; leaves = e.2; none = e.3 }
+pub sought : (l m : List ℕ) (n time w : ℕ) (r : RoomAnswer) → length m ≡ length l → Settled time w n r l m → Sought l m n time w r
+sought l m n time w r z e = record { size = z; room = e.room; rows = e.rows; leaves = e.leaves; none = e.none }
 
 -- the same, where the weight that was asked for is w
-pub sought_for : {l m : List ℕ} {n time v w : ℕ} {r : RoomAnswer} → v ≡ w → length m ≡ length l
-    → (room_of r (view_rows r.rows m) ≡ make_room time v (view_rows n l)) × (r.rows ≤ n)
-    × Leaves r.victim r.stored (view_rows n l).rows (view_rows r.rows m).rows × (r.made ≡ false → r.victim ≡ None)
-    → Sought l m n time w r
+pub sought_for : {l m : List ℕ} {n time v w : ℕ} {r : RoomAnswer} → v ≡ w → length m ≡ length l → Settled time v n r l m → Sought l m n time w r
 sought_for {l} {m} {n} {time} {r = r} g z e = rw (← g) (sought l m n time _ r z e)
 
 module _ (k : NodeAddr) (n : ℕ) (l m : List ℕ) (time w : ℕ) (r : RoomAnswer) (wo : Without k n l) (so : Sought l m n time w r) where
@@ -128,7 +123,7 @@ module _ (k : NodeAddr) (n : ℕ) (l m : List ℕ) (time w : ℕ) (r : RoomAnswe
   pub made_in_main : r.made ≡ true → r.victim ≡ None → r.rows < capacity m
   made_in_main t = free_main (made_free (view_rows n l) (shown n l wo.sound) time w (sym room_made ∙ t))
 
-  pub takes : (r.victim ≡ None → r.rows < capacity m) → (view_rows n l).seq ≤ last_seq → Takes k r.victim r.stored r.rows m
+  pub takes : (r.victim ≡ None → r.rows < capacity m) → (view_rows n l).seq ≤ last_seq → Takes k r.victim r.rows m
   takes f q =
       let s : (view_rows r.rows m).seq < largest_number = omega (arith, room_seq q, victim_seq r.victim (view_rows r.rows m), ap (λ (x : State). x.seq) left_state) in
       left_takes wo so.size so.rows so.leaves s (λ e. (still_without e, f e))

@@ -9,24 +9,24 @@ ghost use Rattle.filing.specs.InRoom.{Takes};
 
 use crate::file::{file_new, file_over_victim};
 use entries::new_entry::NewEntry;
+use room::victims::Victim;
 use types::node_addr::NodeAddr;
 
-// `stored` is the weight that is stored without the victim.
+#[tactic(auto, using(room::proofs::LeftVictims::without_at, room::proofs::LeftVictims::without_none, crate::proofs::FiledInRoom::rows_there))]
 pub fn file_in_room(
     state: &mut [u8],
     n: usize,
-    victim: Option<usize>,
-    stored: u64,
+    victim: Option<Victim>,
     key: NodeAddr,
     e: NewEntry,
     weight: u8,
     place: u8,
 )
-    requires { Takes key victim stored n state.old × (e.path.len ≤ path_places) }
+    requires { Takes key victim n state.old × (e.path.len ≤ path_places) }
     ensures { view_rows (length (file_new key (entry_from e) weight place (without_victim victim (view_rows n state.old))).rows) state.new ≡ file_new key (entry_from e) weight place (without_victim victim (view_rows n state.old)) }
 {
     match victim {
         None => file_new(state, n, key, e, weight, place),
-        Some(i) => file_over_victim(state, n, i, stored, key, e, weight, place),
+        Some(v) => file_over_victim(state, n, v, key, e, weight, place),
     }
 }

@@ -27,6 +27,7 @@ fn update(state: &mut [u8], n: usize, i: usize, path: Path, time: u64, ttl: u64)
 }
 
 // Row i gets this weight, and is stamped with last_used.
+#[tactic(auto, using(crate::proofs::RefiledRows::weighed_refiled), unfolding(rules::specs::Rows::with_rows))]
 fn refile(state: &mut [u8], n: usize, i: usize, weight: u8)
     requires { (i < n) × (head_size + n * row_size ≤ length state.old) × ((view_rows n state.old).seq < largest_number) }
     ensures { view_rows n state.new ≡ refile (row_at i (view_rows n state.old).rows).entry weight i (view_rows n state.old) }
@@ -36,6 +37,7 @@ fn refile(state: &mut [u8], n: usize, i: usize, weight: u8)
 }
 
 // Row i's entry is updated, and refiled at this weight; stored_weight is left to the caller.
+#[tactic(auto, using(memory::proofs::RowLaws::view_length, crate::proofs::RefiledRows::rewritten_refiled), unfolding(rules::specs::Lookups::rewrite, rules::specs::Rows::with_rows))]
 pub fn update_in_place(
     state: &mut [u8],
     n: usize,

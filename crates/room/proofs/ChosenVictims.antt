@@ -28,7 +28,7 @@ use Rattle.stamps.specs.declared.walk.Victim.{Victim as VictimAnswer}
 use Rattle.stamps.specs.Walked.{walk_from, sought_of, MainIs}
 use Rattle.room.specs.Rooms.{LastAside, SetAside}
 use Rattle.room.proofs.ClosedForm.{sound_small}
-use Rattle.room.proofs.RowsAside.{last_start, last_turn}
+use Rattle.room.proofs.RowsAside.{last_aside}
 use Rattle.room.proofs.WalkCounts.{next_from}
 
 -- ---- what the walk for one victim leaves as it is
@@ -121,12 +121,12 @@ aside_weight w i l h =
 
 -- ---- choosing, from s on, at v
 
-record Choosing (now w : ℕ) (s : State) (count stored : ℕ) (v : Walk) : Type 0 where
-  same : choosing now w (walk_from s 0) ≡ choosing now w v
-  led : Led now s v
-  mains : count ≡ main_count v.state
-  loads : stored ≡ main_weight v.state
-  small : stored ≤ max_rows * weight_limit
+pub record Choosing (now w : ℕ) (s : State) (count stored : ℕ) (v : Walk) : Type 0 where
+  pub same : choosing now w (walk_from s 0) ≡ choosing now w v
+  pub led : Led now s v
+  pub mains : count ≡ main_count v.state
+  pub loads : stored ≡ main_weight v.state
+  pub small : stored ≤ max_rows * weight_limit
 
 -- what one call was given, and what it read: max_entries, and how many rows main had at first
 pub record Call : Type 0 where
@@ -144,18 +144,23 @@ given q = view_rows q.n q.memory
 abbrev pub fits : Call → ℕ → ℕ → Bool
 fits q count stored = ltb count q.max && leb (stored + q.w) (weight_bound q.max)
 
--- victims were set aside, row i last, and memory m shows the rows then: count rows of main are left, of weight `stored`
-pub record Choice (q : Call) (count stored i e : ℕ) (m : List ℕ) : Type 0 where
+-- victims were set aside, and memory m shows the rows then: count rows of main are left, of weight `stored`
+pub record Choice (q : Call) (count stored e : ℕ) (m : List ℕ) : Type 0 where
   pub long : length m ≡ length q.memory
   pub size : head_size + q.n * row_size ≤ length m
   pub max : q.max ≡ (given q).max_entries
   pub most : q.max ≤ max_rows
   pub bound : q.w ≤ weight_bound q.max
   pub stamps : (given q).seq + total (main_visits q.now) (given q).rows < number_limit
-  choosing : Choosing q.now q.w (given q) count stored (walk_from (view_rows q.n m) e)
+  pub choosing : Choosing q.now q.w (given q) count stored (walk_from (view_rows q.n m) e)
+  pub few : count ≤ q.mains
+
+-- and row i was the last
+pub record Gone (q : Call) (count stored e i : ℕ) (m : List ℕ) : Type 0 where
+  pub choice : Choice q count stored e m
   pub last : LastAside q.mains count i (view_rows q.n m).rows
 
-module _ {q : Call} {count stored i e : ℕ} {m : List ℕ} (k : Choice q count stored i e m) where
+module _ {q : Call} {count stored e : ℕ} {m : List ℕ} (k : Choice q count stored e m) where
   -- what has_room asks
   pub choice_asks : (q.max ≤ max_rows) × (stored ≤ max_rows * 256) × (q.w ≤ weight_bound q.max)
   choice_asks = (k.most, omega (arith, k.choosing.small), k.bound)
@@ -172,19 +177,19 @@ module _ {q : Call} {count stored i e : ℕ} {m : List ℕ} (k : Choice q count 
       record { made = true; walk = walk_from (view_rows q.n m) e } ≡ choosing q.now q.w (walk_from (given q) 0)
   chosen_enough h t = sym (k.choosing.same ∙ choose_done q.now q.w (walk_from (view_rows q.n m) e) (choice_test ∙ sym h ∙ t))
 
-  pub set_aside_lem : SetAside q.mains (record { made = true; left = count; stored = stored; last = i; examined = e }) (view_rows q.n m)
-  set_aside_lem = record { mains = k.choosing.mains; weighs = k.choosing.loads; light = k.choosing.small; last = k.last }
+  pub set_aside_lem : (i : ℕ) → LastAside q.mains count i (view_rows q.n m).rows → SetAside q.mains (record { left = count; stored = stored; last = i }) (view_rows q.n m)
+  set_aside_lem i h = record { mains = k.choosing.mains; weighs = k.choosing.loads; light = k.choosing.small; last = h }
 
-pub choice_start : (q : Call) {main : LowestOfMain} {stored i : ℕ} → head_size + q.n * row_size ≤ length q.memory → sound (capacity q.memory) (given q) ≡ true →
+pub choice_start : (q : Call) {main : LowestOfMain} {stored : ℕ} → head_size + q.n * row_size ≤ length q.memory → sound (capacity q.memory) (given q) ≡ true →
     (given q).seq + total (main_visits q.now) (given q).rows < number_limit → MainIs main (given q).rows → q.mains ≡ main.count →
     q.w ≤ weight_bound (given q).max_entries → has_room q.w (given q) ≡ false → q.max ≡ (view_rows 0 q.memory).max_entries → stored ≡ (view_rows 0 q.memory).stored_weight →
-    Choice q main.count stored i 0 q.memory × MainIs main (given q).rows × (fits q main.count stored ≡ false)
-choice_start q {main} {stored} {i} h z k m c b f em es =
+    Choice q main.count stored 0 q.memory × MainIs main (given q).rows × (fits q main.count stored ≡ false)
+choice_start q {main} {stored} h z k m c b f em es =
     let d = sound_is (capacity q.memory) (given q) z in
     let g = sound_small (capacity q.memory) (given q) z in
     let e = es ∙ (same_head 0 q.n q.memory).stored_weight in
     let x = em ∙ (same_head 0 q.n q.memory).max_entries in
-    let j : Choice q main.count stored i 0 q.memory = record {
+    let j : Choice q main.count stored 0 q.memory = record {
       long = refl;
       size = h;
       max = x;
@@ -192,7 +197,7 @@ choice_start q {main} {stored} {i} h z k m c b f em es =
       bound = omega arith;
       stamps = k;
       choosing = record { same = refl; led = start_led q.now (given q) (ready d); mains = m.count; loads = e ∙ d.stored_weight; small = omega (arith, g.stored) };
-      last = rw c (last_start main.count i (given q).rows);
+      few = omega (arith, c);
     } in
     (j, m, sym (choice_test j) ∙ f)
 
@@ -203,7 +208,7 @@ pub record Victim (q : Call) (count stored e i : ℕ) (y : List ℕ) : Type 0 wh
   pub some_left : 1 ≤ count
   pub enough : (row_at i (view_rows q.n y).rows).weight ≤ stored
   pub goes : {v : ℕ} {x : List ℕ} → v ≡ (row_at i (view_rows q.n y).rows).weight → length x ≡ length y →
-      view_rows q.n x ≡ with_rows (change_row (at_new_place aside) i (view_rows q.n y).rows) (view_rows q.n y) → Choice q (count - 1) (stored - v) i e x
+      view_rows q.n x ≡ with_rows (change_row (at_new_place aside) i (view_rows q.n y).rows) (view_rows q.n y) → Gone q (count - 1) (stored - v) e i x
 
 -- the walk for one victim came to memory y, and answered r
 pub record Came (q : Call) (count stored e : ℕ) (y : List ℕ) (r : VictimAnswer) : Type 0 where
@@ -212,10 +217,10 @@ pub record Came (q : Call) (count stored e : ℕ) (y : List ℕ) (r : VictimAnsw
   pub none_left : r.found ≡ None → record { made = false; walk = walk_from (view_rows q.n y) (e + r.examined) } ≡ choosing q.now q.w (walk_from (given q) 0)
   pub victim : {i : ℕ} → r.found ≡ Some i → Victim q count stored (e + r.examined) i y
 
-pub came : {q : Call} {count stored last e : ℕ} {m y : List ℕ} {r : VictimAnswer} → Choice q count stored last e m → fits q count stored ≡ false → length y ≡ length m →
+pub came : {q : Call} {count stored e : ℕ} {m y : List ℕ} {r : VictimAnswer} → Choice q count stored e m → fits q count stored ≡ false → length y ≡ length m →
     sought_of r (view_rows q.n y) ≡ next_victim q.now (walk_from (view_rows q.n m) 0) → Came q count stored e y r
 unfolding sought set_aside with_rows
-came {q} {count} {stored} {last} {e} {m} {y} {r} c f len a =
+came {q} {count} {stored} {e} {m} {y} {r} c f len a =
     let now = q.now in
     let s = given q in
     let g = c.choosing in
@@ -244,20 +249,23 @@ came {q} {count} {stored} {last} {e} {m} {y} {r} c f len a =
             enough = omega (arith, g.loads, loss);
             goes = λ ev ex d.
                 record {
-                  long = ex ∙ len ∙ c.long;
-                  size = omega (arith, c.size);
-                  max = c.max;
-                  most = c.most;
-                  bound = c.bound;
-                  stamps = c.stamps;
-                  choosing = rw (d, ev) (record {
-                    same = g.same ∙ choose_more now q.w s v i g.led full (found ∙ h) ∙ ap (λ (x : Sought). choosing now q.w (set_aside i x.walk)) n;
-                    led = ends.0;
-                    mains = omega (arith, g.mains, ends.1);
-                    loads = omega (arith, g.loads, loss);
-                    small = omega (arith, g.small);
-                  });
-                  last = rw d (last_turn q.mains count last i (view_rows q.n m).rows u.rows c.last p.0);
+                  choice = record {
+                    long = ex ∙ len ∙ c.long;
+                    size = omega (arith, c.size);
+                    max = c.max;
+                    most = c.most;
+                    bound = c.bound;
+                    stamps = c.stamps;
+                    choosing = rw (d, ev) (record {
+                      same = g.same ∙ choose_more now q.w s v i g.led full (found ∙ h) ∙ ap (λ (x : Sought). choosing now q.w (set_aside i x.walk)) n;
+                      led = ends.0;
+                      mains = omega (arith, g.mains, ends.1);
+                      loads = omega (arith, g.loads, loss);
+                      small = omega (arith, g.small);
+                    });
+                    few = omega (arith, c.few);
+                  };
+                  last = rw d (last_aside i u.rows c.few p.0);
                 };
           };
     }

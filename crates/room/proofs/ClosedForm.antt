@@ -65,28 +65,33 @@ pub record Weighed (now n c w : ℕ) (left rs : List Row) : Type 0 where
 pub weighed_start : {now n : ℕ} {rs : List Row} → length rs ≡ n → Weighed now n 0 0 rs rs
 weighed_start h = record { long = h; few = omega arith; light = omega arith; count = omega arith; weight = omega arith }
 
-module _ {now n c w : ℕ} {left rs : List Row} (r : Row) (t : Weighed now n c w (r ∷ left) rs) where
-  -- row r brings a to the count and x to the weight
-  brings : (a x d v : ℕ) → a ≤ 1 → x ≤ 255 → d ≡ c + a → v ≡ w + x → cond (verified_in_main now r) 1 0 ≡ a → cond (verified_in_main now r) r.weight 0 ≡ x → Weighed now n d v left rs
-  unfolding total
-  brings a x d v h k ed ev ea ex =
-      record {
-        long = t.long;
-        few = omega (arith, t.few);
-        light = omega (arith, t.light);
-        count = omega (arith, t.count);
-        weight = omega (arith, t.weight);
-      }
+-- row r, which is seen, brings a to the count and x to the weight
+brings : {now n c w : ℕ} {left rs : List Row} (r : Row) → Weighed now n c w (r ∷ left) rs → (a x d v : ℕ) → a ≤ 1 → x ≤ 255 → d ≡ c + a → v ≡ w + x
+    → cond (verified_in_main now r) 1 0 ≡ a → cond (verified_in_main now r) r.weight 0 ≡ x → Weighed now n d v left rs
+unfolding total
+brings r t a x d v h k ed ev ea ex =
+    record {
+      long = t.long;
+      few = omega (arith, t.few);
+      light = omega (arith, t.light);
+      count = omega (arith, t.count);
+      weight = omega (arith, t.weight);
+    }
 
-  pub weighed_in : {b : Bool} {v x : ℕ} → b ≡ verified_in_main now r → b ≡ true → v ≡ r.weight → (x ≡ v) × (x < 256) → Weighed now n (c + 1) (w + x) left rs
-  weighed_in {x = x} h f e q = let k = sym h ∙ f in brings 1 x (c + 1) (w + x) (omega arith) (omega (arith, q.1)) refl refl (rw k) (rw (k, q.0, e))
+module _ {now n c w : ℕ} {seen left rs : List Row} {r : Row} {b : Bool} (s : seen ≡ r ∷ left) (t : Weighed now n c w seen rs) (h : b ≡ verified_in_main now r) where
+  pub weighed_in : {x : ℕ} → b ≡ true → x ≡ r.weight → x < 256 → Weighed now n (c + 1) (w + x) left rs
+  weighed_in {x = x} f e q = let k = sym h ∙ f in brings r (rw s at t) 1 x (c + 1) (w + x) (omega arith) (omega arith) refl refl (rw k) (rw (k, e))
 
-  pub weighed_past : {b : Bool} → b ≡ verified_in_main now r → b ≡ false → Weighed now n c w left rs
-  weighed_past h f = let k = sym h ∙ f in brings 0 0 c w (omega arith) (omega arith) (omega arith) (omega arith) (rw k) (rw k)
+  pub weighed_past : b ≡ false → Weighed now n c w left rs
+  weighed_past f = let k = sym h ∙ f in brings r (rw s at t) 0 0 c w (omega arith) (omega arith) (omega arith) (omega arith) (rw k) (rw k)
 
 module _ {now n c w u m x : ℕ} {left : List Row} {l : List ℕ} (b : Bounds u m x n l) (t : Weighed now n c w left (view_rows n l).rows) where
   pub weighed_small : w + 255 * length left ≤ max_rows * 255
   weighed_small = omega (arith, t.light, t.long, (sound_small (capacity l) (view_rows n l) b.sound).rows)
+
+  -- what has_room asks
+  pub weighed_asks : (m ≤ max_rows) × (w ≤ max_rows * 256) × (x ≤ weight_bound m)
+  weighed_asks = room_asks b (omega (arith, weighed_small))
 
   pub weighed_end : {r : Bool} → left ≡ [] → r ≡ ltb c m && leb (w + x) (weight_bound m) → r ≡ room_can_be_made now u (view_rows n l)
   unfolding room_can_be_made total

@@ -10,43 +10,45 @@ use borrow.Author.Tests.{eqb-true}
 use Rattle.rules.specs.Records.{Row, State, aside, by_use, max_rows, weight_limit}
 use Rattle.rules.specs.Rows.{row_at, at_place, in_main, keep_rows, without_row, total, count_rows, weigh_rows}
 use Rattle.rules.specs.Room.{at_new_place, put_back, take_out}
-use Rattle.rules.proofs.Addresses.{contradiction}
 use Rattle.rules.proofs.RowLists.{Rising, cores, find_none, total_some, total_without}
 use Rattle.rules.proofs.SoundTest.{ascends_test}
 use Rattle.rules.proofs.GotPart.{find_gone}
 use Rattle.rules.proofs.Walks.{place_is}
 use Rattle.std.specs.Prelude.{Option, Some, None}
+use Rattle.std.specs.Option.{ForSome}
+use Rattle.std.proofs.lemmas.Option.{none-some, same_Some}
+use Rattle.room.specs.declared.victims.Victim.{Victim}
 use Rattle.room.specs.Rooms.{LeftAt, without_victim}
 
 -- ---- one victim, or none
 
 -- a row of ts that is not in main, where ts has the keys of rs
-pub left_at : (i w : ℕ) (rs ts : List Row) → Rising (cores rs) → cores ts ≡ cores rs → i < length ts → in_main (row_at i ts) ≡ false →
-    w ≡ weigh_rows in_main ts → w ≤ max_rows * weight_limit → LeftAt i w rs ts
-left_at i w rs ts r e h m q l =
-    let z : ◌≡◌ {A = ℕ} (cond (in_main (row_at i ts)) (row_at i ts).weight 0) 0 = rw m in
+pub left_at : (v : Victim) (rs ts : List Row) → Rising (cores rs) → cores ts ≡ cores rs → v.at < length ts → in_main (row_at v.at ts) ≡ false →
+    v.stored ≡ weigh_rows in_main ts → v.stored ≤ max_rows * weight_limit → LeftAt v rs ts
+left_at v rs ts r e h m q l =
+    let z : ◌≡◌ {A = ℕ} (cond (in_main (row_at v.at ts)) (row_at v.at ts).weight 0) 0 = rw m in
     record {
       inside = h;
-      weighs = omega (arith, total_without (λ x. cond (in_main x) x.weight 0) i ts h);
+      weighs = omega (arith, total_without (λ x. cond (in_main x) x.weight 0) v.at ts h);
       light = l;
       rising = ascends_test ts (rw e r);
       gone = λ k f. find_gone k ts (rw e (find_none k rs f));
     }
 
--- what holds of the victim, if there is one
-pub at_one : (P : ℕ → Type 0) (v : Option ℕ) (i : ℕ) → v ≡ Some i → P i → (j : ℕ) → v ≡ Some j → P j
-at_one P v i a p j b = let e : i ≡ j = cc in subst P e p
+-- what holds of what there is, if it is there
+pub at_one : {T : Type 0} (P : T → Type 0) (x : T) → P x → ForSome (Some x) P
+at_one P x p y e = subst P (same_Some x y e) p
 
-pub at_none : (P : ℕ → Type 0) (v : Option ℕ) → v ≡ None → (j : ℕ) → v ≡ Some j → P j
-at_none P v a j b = contradiction {b = true} refl (cc)
+pub at_none : {T : Type 0} (P : T → Type 0) → ForSome None P
+at_none P y e = absurd (none-some y e)
 
-pub without_at : (v : Option ℕ) (i : ℕ) (s : State) → v ≡ Some i → without_victim v s ≡ take_out i s
+pub without_at : (o : Option Victim) (v : Victim) (s : State) → o ≡ Some v → without_victim o s ≡ take_out v.at s
 unfolding without_victim
-without_at v i s e = rw e
+without_at o v s e = rw e
 
-pub without_none : (v : Option ℕ) (s : State) → v ≡ None → without_victim v s ≡ s
+pub without_none : (o : Option Victim) (s : State) → o ≡ None → without_victim o s ≡ s
 unfolding without_victim
-without_none v s e = rw e
+without_none o s e = rw e
 
 -- ---- rows aside, counted
 

@@ -24,8 +24,8 @@ use Rattle.memory.proofs.RowLaws.{view_length}
 use Rattle.stamps.specs.declared.lowest.LowestStamp.{LowestStamp}
 use Rattle.stamps.specs.Walked.{walk_from, LowestIs}
 use Rattle.room.specs.Rooms.{LeftAt, Leaves, without_victim}
-use Rattle.room.proofs.LeftVictims.{at_none, at_one, left_at, without_none}
-use Rattle.types.specs.Values.{largest_number}
+use Rattle.room.specs.declared.victims.Victim.{Victim}
+use Rattle.room.proofs.LeftVictims.{at_none, at_one, left_at}
 
 abbrev visits : State → ℕ
 visits s = total probation_visits s.rows
@@ -71,24 +71,23 @@ evict_turn : (b : ℕ) (f : ℕ → State → State) (i n : ℕ) (w : Walk) → 
 unfolding evict_below
 evict_turn b f i n w h l e v = rw (v, h, l, e)
 
--- ---- from the rows of l to those of m, after e keys; k is the weight that is stored
+-- ---- from the rows of l to those of m, after e keys
 
-pub record Evicting (n e k : ℕ) (l m : List ℕ) : Type 0 where
+pub record Evicting (n e : ℕ) (l m : List ℕ) : Type 0 where
   pub long : length m ≡ length l
   pub size : head_size + n * row_size ≤ length m
-  first : sound (capacity l) (view_rows n l) ≡ true
-  sound : Sound (capacity l) (view_rows n m)
-  limits : limits_of (view_rows n m) ≡ limits_of (view_rows n l)
-  same : evicting (probation_limit (view_rows n l)) (walk_from (view_rows n l) 0) ≡ evicting (probation_limit (view_rows n l)) (walk_from (view_rows n m) e)
-  keys : e + total probation_visits (view_rows n m).rows < number_limit
-  stamps : (view_rows n m).seq + total probation_visits (view_rows n m).rows < number_limit
-  full : probation_limit (view_rows n l) ≤ probation_count (view_rows n m)
-  stored : k ≡ (view_rows n m).stored_weight
-  cores : cores (view_rows n m).rows ≡ cores (view_rows n l).rows
+  pub first : sound (capacity l) (view_rows n l) ≡ true
+  pub sound : Sound (capacity l) (view_rows n m)
+  pub limits : limits_of (view_rows n m) ≡ limits_of (view_rows n l)
+  pub same : evicting (probation_limit (view_rows n l)) (walk_from (view_rows n l) 0) ≡ evicting (probation_limit (view_rows n l)) (walk_from (view_rows n m) e)
+  pub keys : e + total probation_visits (view_rows n m).rows < number_limit
+  pub stamps : (view_rows n m).seq + total probation_visits (view_rows n m).rows < number_limit
+  pub full : probation_limit (view_rows n l) ≤ probation_count (view_rows n m)
+  pub cores : cores (view_rows n m).rows ≡ cores (view_rows n l).rows
 
 -- what make_probation_room answers, with the rows that memory m shows
-abbrev pub Evicted : ℕ → Option ℕ → ℕ → ℕ → List ℕ → List ℕ → Type 0
-Evicted n v k e l m = (walk_from (without_victim v (view_rows n m)) e ≡ make_probation_room (view_rows n l)) × Leaves v k (view_rows n l).rows (view_rows n m).rows
+abbrev pub Evicted : ℕ → Option Victim → ℕ → List ℕ → List ℕ → Type 0
+Evicted n v e l m = (walk_from (without_victim v (view_rows n m)) e ≡ make_probation_room (view_rows n l)) × Leaves v (view_rows n l).rows (view_rows n m).rows
 
 module _ (n : ℕ) (l : List ℕ) {max bound : ℕ} {r : LowestStamp}
     (em : max ≡ (view_rows 0 l).max_entries) (eb : bound ≡ probation_bound max) (c : LowestIs probation r (view_rows n l).rows) where
@@ -96,13 +95,13 @@ module _ (n : ℕ) (l : List ℕ) {max bound : ℕ} {r : LowestStamp}
   limit = eb ∙ ap probation_bound (em ∙ (same_head 0 n l).max_entries)
 
   -- there is room
-  pub room_free : {k : ℕ} → r.count < bound → Evicted n None k 0 l l
+  pub room_free : r.count < bound → Evicted n None 0 l l
   unfolding make_probation_room without_victim
-  room_free h = (sym (evict_done (probation_limit (view_rows n l)) (visits (view_rows n l)) (walk_from (view_rows n l) 0) (rw (← limit, ← c.count) (lt-ltb r.count bound h))), at_none _ _ refl)
+  room_free h = (sym (evict_done (probation_limit (view_rows n l)) (visits (view_rows n l)) (walk_from (view_rows n l) 0) (rw (← limit, ← c.count) (lt-ltb r.count bound h))), at_none _)
 
-  pub evict_start : {k : ℕ} → head_size + n * row_size ≤ length l → sound (capacity l) (view_rows n l) ≡ true →
-      (view_rows n l).seq + total probation_visits (view_rows n l).rows < number_limit → k ≡ (view_rows 0 l).stored_weight → bound ≤ r.count → Evicting n 0 k l l
-  evict_start h z s q b =
+  pub evict_start : head_size + n * row_size ≤ length l → sound (capacity l) (view_rows n l) ≡ true →
+      (view_rows n l).seq + total probation_visits (view_rows n l).rows < number_limit → bound ≤ r.count → Evicting n 0 l l
+  evict_start h z s b =
       record {
         long = refl;
         size = h;
@@ -113,106 +112,108 @@ module _ (n : ℕ) (l : List ℕ) {max bound : ℕ} {r : LowestStamp}
         keys = omega arith;
         stamps = s;
         full = omega (arith, limit, c.count);
-        stored = q ∙ (same_head 0 n l).stored_weight;
         cores = refl;
       }
 
 -- there is no row to take up
-pub evict_ends : {n e k : ℕ} {l m : List ℕ} {v : Option ℕ} → Evicting n e k l m → v ≡ lowest_stamp probation (view_rows n m).rows → v ≡ None →
-    Evicted n v k e l m
+pub evict_ends : {n e : ℕ} {l m : List ℕ} {o : Option ℕ} → Evicting n e l m → o ≡ lowest_stamp probation (view_rows n m).rows → o ≡ None →
+    Evicted n None e l m
 unfolding make_probation_room without_victim
-evict_ends {n} {e} {l = l} {m = m} {v = v} g h q =
+evict_ends {n} {e} {l = l} {m = m} g h q =
     let s = view_rows n m in
-    (ap (λ (x : State). walk_from x e) (without_none v s q) ∙ sym (g.same ∙ evict_none (probation_limit (view_rows n l)) (visits s) (walk_from s e) (sym h ∙ q)), at_none _ v q)
+    (sym (g.same ∙ evict_none (probation_limit (view_rows n l)) (visits s) (walk_from s e) (sym h ∙ q)), at_none _)
 
 -- row i is taken up in m
-pub record Taken (n e k i : ℕ) (l m : List ℕ) : Type 0 where
-  lowest : lowest_stamp probation (view_rows n m).rows ≡ Some i
-  there : at_place probation (row_at i (view_rows n m).rows) ≡ true
-  visit : 1 ≤ total probation_visits (view_rows n m).rows
+pub record Taken (n e i : ℕ) (l m : List ℕ) : Type 0 where
+  pub lowest : lowest_stamp probation (view_rows n m).rows ≡ Some i
+  pub there : at_place probation (row_at i (view_rows n m).rows) ≡ true
+  pub visit : 1 ≤ total probation_visits (view_rows n m).rows
   pub inside : i < n
-  pub going : Evicting n e k l m
+  pub going : Evicting n e l m
 
-pub taken : {n e k i : ℕ} {l m : List ℕ} {v : Option ℕ} → Evicting n e k l m → v ≡ lowest_stamp probation (view_rows n m).rows → v ≡ Some i → Taken n e k i l m
-taken {n} {i = i} {m = m} {v = v} g h q =
+pub taken : {n e i : ℕ} {l m : List ℕ} {o : Option ℕ} → Evicting n e l m → o ≡ lowest_stamp probation (view_rows n m).rows → o ≡ Some i → Taken n e i l m
+taken {n} {i = i} {m = m} g h q =
     let rs = (view_rows n m).rows in
     let d = sym h ∙ q in
-    let o = lowest_at probation rs i d in
-    let w = some_visit (row_at i rs) (stale (row_at i rs)) refl o.there in
-    record { lowest = d; there = o.there; visit = omega (arith, total_some probation_visits i rs o.inside); inside = omega (arith, o.inside, view_length n m); going = g }
+    let a = lowest_at probation rs i d in
+    let w = some_visit (row_at i rs) (stale (row_at i rs)) refl a.there in
+    record { lowest = d; there = a.there; visit = omega (arith, total_some probation_visits i rs a.inside); inside = omega (arith, a.inside, view_length n m); going = g }
   where
     some_visit : (r : Row) (b : Bool) → stale r ≡ b → at_place probation r ≡ true → 1 ≤ probation_visits r
     some_visit r true a p = omega (arith, visits_of r true p a)
     some_visit r false a p = omega (arith, visits_of r false p a)
 
--- it was restamped, and memory x shows the rows then
-pub record Turned (n e k : ℕ) (l m x : List ℕ) : Type 0 where
-  pub less : total probation_visits (view_rows n x).rows < total probation_visits (view_rows n m).rows
-  pub going : Evicting n (e + 1) k l x
+module _ {n e i : ℕ} {l m : List ℕ} {o : Option ℕ} (v : Evicting n e l m) (ev : o ≡ lowest_stamp probation (view_rows n m).rows) (eo : o ≡ Some i) where
+  u : Taken n e i l m
+  u = taken v ev eo
 
-module _ {n e k i : ℕ} {l m : List ℕ} (u : Taken n e k i l m) where
+  pub visit_left : (1 ≤ total probation_visits (view_rows n m).rows) × (i < n)
+  visit_left = (u.visit, u.inside)
+
   here : i < length (view_rows n m).rows
   here = omega (arith, u.inside, view_length n m)
 
   full : ltb (probation_count (view_rows n m)) (probation_limit (view_rows n l)) ≡ false
   full = le-ltb (probation_count (view_rows n m)) (probation_limit (view_rows n l)) u.going.full
 
-  pub key_fits : e + 1 < number_limit
-  key_fits = omega (arith, u.visit, u.going.keys)
-
-  -- what restamp asks
-  pub restamp_asks : (i < n) × (head_size + n * row_size ≤ length m) × ((view_rows n m).seq < largest_number)
-  restamp_asks = (u.inside, u.going.size, omega (arith, u.visit, u.going.stamps))
-
-  pub stale_turn : {b : Bool} {x : List ℕ} → b ≡ stale (row_at i (view_rows n m).rows) → b ≡ true → length x ≡ length m → view_rows n x ≡ restamp i (view_rows n m) →
-      Turned n e k l m x
-  unfolding take_up restamp stamp raised with_rows
-  stale_turn h d len z =
-      let a = sym h ∙ d in
-      let g = u.going in
+  visits_fall : stale (row_at i (view_rows n m).rows) ≡ true → visits (view_rows n m) ≡ suc (visits (restamp i (view_rows n m)))
+  unfolding restamp stamp raised with_rows
+  visits_fall a =
       let t = view_rows n m in
-      let rs = t.rows in
-      let r = row_at i rs in
       let q = t.seq + 1 in
-      let f : Row → Row = λ x. refiled q x.entry x.weight x in
-      let p = still_there q r u.there in
-      let o = visits_of r true u.there a in
-      let v : visits t ≡ suc (total probation_visits (change_row f i rs)) = omega (arith, total_change probation_visits f i rs here, visits_restamped q r u.there) in
-      let c : guests (change_row f i rs) + 1 ≡ guests rs + 1 = rw (u.there, p) at (total_change (λ x. cond (in_probation x) 1 0) f i rs here) in
-      record {
-        less = rw z (omega arith);
-        going = record {
+      let r = row_at i t.rows in
+      omega (arith, visits_of r true u.there a, total_change probation_visits (λ x. refiled q x.entry x.weight x) i t.rows here, visits_restamped q r u.there)
+
+  -- it is restamped, and memory x shows the rows then
+  module _ {b : Bool} (x : List ℕ) (eb : b ≡ stale (row_at i (view_rows n m).rows)) (d : b ≡ true) (z : view_rows n x ≡ restamp i (view_rows n m)) where
+    pub turn_less : total probation_visits (view_rows n x).rows < total probation_visits (view_rows n m).rows
+    turn_less = rw z (omega (arith, visits_fall (sym eb ∙ d)))
+
+    pub turned : length x ≡ length m → Evicting n (e + 1) l x
+    unfolding take_up restamp stamp raised with_rows
+    turned len =
+        let g = u.going in
+        let t = view_rows n m in
+        let rs = t.rows in
+        let r = row_at i rs in
+        let q = t.seq + 1 in
+        let f : Row → Row = λ x. refiled q x.entry x.weight x in
+        let p = still_there q r u.there in
+        let a = sym eb ∙ d in
+        let w = visits_fall a in
+        let c : guests (change_row f i rs) + 1 ≡ guests rs + 1 = rw (u.there, p) at (total_change (λ x. cond (in_probation x) 1 0) f i rs here) in
+        record {
           long = len ∙ g.long;
           size = omega (arith, g.size);
           first = g.first;
           sound = rw z (restamp_sound (capacity l) i t g.sound here u.there);
           limits = rw z g.limits;
-          same = rw z (g.same ∙ evict_turn (probation_limit (view_rows n l)) restamp i (total probation_visits (change_row f i rs)) (walk_from t e) full u.lowest (rw a) v);
+          same = rw z (g.same ∙ evict_turn (probation_limit (view_rows n l)) restamp i (total probation_visits (change_row f i rs)) (walk_from t e) full u.lowest (rw a) w);
           keys = rw z (omega (arith, g.keys));
           stamps = rw z (omega (arith, g.stamps));
           full = rw z (omega (arith, g.full));
-          stored = rw z g.stored;
           cores = rw z (change_cores f i rs (same_core q r u.there) ∙ g.cores);
-        };
-      }
+        }
 
   -- without the victim probation is not full, as it was not over the bound
-  pub fresh_yields : {b : Bool} → b ≡ stale (row_at i (view_rows n m).rows) → b ≡ false → Evicted n (Some i) k (e + 1) l m
+  pub yielded : {b : Bool} {x : ℕ} → b ≡ stale (row_at i (view_rows n m).rows) → b ≡ false → x ≡ (view_rows 0 m).stored_weight →
+      Evicted n (Some (record { at = i; stored = x })) (e + 1) l m
   unfolding make_probation_room take_up take_out with_only_rows without_victim
-  fresh_yields h o =
-      let a = sym h ∙ o in
+  yielded {x = x} h d es =
+      let a = sym h ∙ d in
       let g = u.going in
       let t = view_rows n m in
       let rs = t.rows in
       let r = row_at i rs in
       let j = total probation_visits (without_row i rs) in
-      let v : visits t ≡ suc j = omega (arith, total_without probation_visits i rs here, visits_of r false u.there a) in
+      let w : visits t ≡ suc j = omega (arith, total_without probation_visits i rs here, visits_of r false u.there a) in
       let c : guests (without_row i rs) + 1 ≡ guests rs = rw u.there at (total_without (λ x. cond (in_probation x) 1 0) i rs here) in
       let q = probation_limit (view_rows n l) in
-      let d : probation_count (take_out i t) < q = omega (arith, g.sound.probations, ap probation_of g.limits) in
-      let z = evict_done q j (walk_from (take_out i t) (e + 1)) (lt-ltb (probation_count (take_out i t)) q d) in
+      let k : probation_count (take_out i t) < q = omega (arith, g.sound.probations, ap probation_of g.limits) in
+      let z = evict_done q j (walk_from (take_out i t) (e + 1)) (lt-ltb (probation_count (take_out i t)) q k) in
       let y = light t.seq rs g.sound.each in
-      let small : k ≤ max_rows * weight_limit = omega (arith, g.stored, g.sound.stored_weight, few_rows (capacity l) t g.sound, g.sound.small) in
+      let s : x ≡ t.stored_weight = es ∙ (same_head 0 n m).stored_weight in
+      let small : x ≤ max_rows * weight_limit = omega (arith, s, g.sound.stored_weight, few_rows (capacity l) t g.sound, g.sound.small) in
       let rising = (sound_is (capacity l) (view_rows n l) g.first).rising in
-      let x = left_at i k (view_rows n l).rows rs rising g.cores here (not_main r u.there) (g.stored ∙ g.sound.stored_weight) small in
-      (sym (g.same ∙ evict_turn q take_out i j (walk_from t e) full u.lowest (rw a) v ∙ z), at_one (λ y. LeftAt y k (view_rows n l).rows rs) _ _ refl x)
+      let left = left_at (record { at = i; stored = x }) (view_rows n l).rows rs rising g.cores here (not_main r u.there) (s ∙ g.sound.stored_weight) small in
+      (sym (g.same ∙ evict_turn q take_out i j (walk_from t e) full u.lowest (rw a) w ∙ z), at_one (λ y. LeftAt y (view_rows n l).rows rs) _ left)

@@ -26,11 +26,13 @@ use Rattle.memory.proofs.RowLaws.{view_length}
 use Rattle.retention.proofs.KeptRows.{only_rows, rows_same}
 use Rattle.retention.specs.Sweep.{PathFit, PathsFit}
 use Rattle.std.specs.Prelude.{Some, None}
+use Rattle.std.specs.Option.{ForSome}
 use Rattle.stamps.specs.Walked.{walk_from}
 use Rattle.stamps.proofs.RowTotals.{count_few}
+use Rattle.room.specs.declared.victims.Choice.{Choice}
 use Rattle.room.specs.declared.victims.Chosen.{Chosen as ChosenAnswer}
 use Rattle.room.specs.declared.victims.Room.{Room as RoomAnswer}
-use Rattle.room.specs.Rooms.{chosen_of, room_of, without_victim, SetAside, LeftAt, Leaves}
+use Rattle.room.specs.Rooms.{chosen_of, room_of, without_victim, SetAside, LeftAt, Settled}
 use Rattle.room.proofs.ClosedForm.{Bounds, room_asks, sound_small}
 use Rattle.room.proofs.ChosenVictims.{next_yields}
 use Rattle.room.proofs.LeftVictims.{not_aside, at_none, at_one, left_at, one_aside, back_mains, aside_not_main}
@@ -109,20 +111,15 @@ back_weight now q rs ss p g o e =
     let k = every_mapped (RowOk q) put_back rs (every_map (λ r x. x.ok) rs g) in
     weigh_cores q (map put_back rs) k ∙ ap core_weights (map_cores put_back back_core rs ∙ e) ∙ sym (weigh_cores p ss o)
 
--- ---- what make_room answers: r, and the rows that memory x shows, from those of l
-
-abbrev pub Settles : ℕ → ℕ → ℕ → List ℕ → List ℕ → RoomAnswer → Type 0
-Settles now w n l x r =
-    (room_of r (view_rows r.rows x) ≡ make_room now w (view_rows n l)) × (r.rows ≤ n)
-    × Leaves r.victim r.stored (view_rows n l).rows (view_rows r.rows x).rows × (r.made ≡ false → r.victim ≡ None)
+-- ---- what make_room answers
 
 -- there is room: no victim is sought
-abbrev Unsought : ℕ → ℕ → RoomAnswer → Type 0
-Unsought n stored r = r ≡ record { made = true; rows = n; victim = None; stored = stored; examined = 0 }
+abbrev Unsought : ℕ → RoomAnswer → Type 0
+Unsought n r = r ≡ record { made = true; rows = n; victim = None; examined = 0 }
 
-there : (now w n stored : ℕ) (l : List ℕ) (r : RoomAnswer) → Unsought n stored r → room_as true 0 (view_rows n l) ≡ make_room now w (view_rows n l) → Settles now w n l l r
+there : (now w n : ℕ) (l : List ℕ) (r : RoomAnswer) → Unsought n r → room_as true 0 (view_rows n l) ≡ make_room now w (view_rows n l) → Settled now w n r l l
 unfolding room_of without_victim
-there now w n stored l r e q = rw e (q, omega arith, at_none _ _ refl, λ f. contradiction refl f)
+there now w n l r e q = rw e (record { room = q; rows = omega arith; leaves = at_none _; none = λ f. contradiction refl f })
 
 module _ {w m x n stored : ℕ} {l : List ℕ} (u : Bounds w m x n l) (es : stored ≡ (view_rows 0 l).stored_weight) where
   load : stored ≡ (view_rows n l).stored_weight
@@ -137,12 +134,12 @@ module _ {w m x n stored : ℕ} {l : List ℕ} (u : Bounds w m x n l) (es : stor
     unfolding has_room
     full q = sym (t ∙ rw (u.max, ec, load, (sound_is (capacity l) (view_rows n l) u.sound).stored_weight)) ∙ q
 
-    pub main_there : (now : ℕ) {r : RoomAnswer} → b ≡ true → Unsought n stored r → Settles now w n l l r
+    pub main_there : (now : ℕ) {r : RoomAnswer} → b ≡ true → Unsought n r → Settled now w n r l l
     main_there now {r} q a =
-        there now w n stored l r a (room_there now w (capacity l) m count stored x (view_rows n l) b u.sound u.max ec load u.cut t q)
+        there now w n l r a (room_there now w (capacity l) m count stored x (view_rows n l) b u.sound u.max ec load u.cut t q)
 
   -- main has at most all rows
-  pub rows_there : (now : ℕ) {b : Bool} {r : RoomAnswer} → b ≡ ltb n m && leb (stored + x) (weight_bound m) → b ≡ true → Unsought n stored r → Settles now w n l l r
+  pub rows_there : (now : ℕ) {b : Bool} {r : RoomAnswer} → b ≡ ltb n m && leb (stored + x) (weight_bound m) → b ≡ true → Unsought n r → Settled now w n r l l
   rows_there now t q a =
       let s = view_rows n l in
       let y = sym t ∙ q in
@@ -151,19 +148,19 @@ module _ {w m x n stored : ℕ} {l : List ℕ} (u : Bounds w m x n l) (es : stor
 
 -- ---- victims were chosen, and stand aside in memory t; main had count rows
 
-pub record Aside (now w n count : ℕ) (c : ChosenAnswer) (l t : List ℕ) : Type 0 where
-  size : head_size + n * row_size ≤ length l
-  sound : sound (capacity l) (view_rows n l) ≡ true
-  mains : count ≡ main_count (view_rows n l)
-  long : length t ≡ length l
-  chosen : chosen_of c (view_rows n t) ≡ choosing now (min w (weight_bound (view_rows n l).max_entries)) (walk_from (view_rows n l) 0)
-  pub aside : c.made ≡ true → SetAside count c (view_rows n t)
+pub record Aside (now w n count : ℕ) (c : Choice) (l t : List ℕ) : Type 0 where
+  pub size : head_size + n * row_size ≤ length l
+  pub sound : sound (capacity l) (view_rows n l) ≡ true
+  pub mains : count ≡ main_count (view_rows n l)
+  pub long : length t ≡ length l
+  pub chosen : chosen_of c (view_rows n t) ≡ choosing now (min w (weight_bound (view_rows n l).max_entries)) (walk_from (view_rows n l) 0)
+  pub aside : ForSome c.chosen (λ d. SetAside count d (view_rows n t))
 
-pub stand_aside : {now w m x n count : ℕ} {c : ChosenAnswer} {l t : List ℕ} → Bounds w m x n l → head_size + n * row_size ≤ length l → count ≡ main_count (view_rows n l) →
-    length t ≡ length l → (chosen_of c (view_rows n t) ≡ choosing now x (walk_from (view_rows n l) 0)) × (c.made ≡ true → SetAside count c (view_rows n t)) → Aside now w n count c l t
-stand_aside {now} {w} {n = n} {l = l} u h e k a =
+pub stand_aside : {now w m x n count : ℕ} {c : Choice} {l t : List ℕ} → Bounds w m x n l → head_size + n * row_size ≤ length l → count ≡ main_count (view_rows n l) →
+    length t ≡ length l → chosen_of c (view_rows n t) ≡ choosing now x (walk_from (view_rows n l) 0) → ForSome c.chosen (λ d. SetAside count d (view_rows n t)) → Aside now w n count c l t
+stand_aside {now} {w} {n = n} {l = l} u h e k a f =
     let q = u.cut ∙ ap (λ (y : ℕ). min w (weight_bound y)) u.max in
-    record { size = h; sound = u.sound; mains = e; long = k; chosen = a.0 ∙ ap (λ (y : ℕ). choosing now y (walk_from (view_rows n l) 0)) q; aside = a.1 }
+    record { size = h; sound = u.sound; mains = e; long = k; chosen = a ∙ ap (λ (y : ℕ). choosing now y (walk_from (view_rows n l) 0)) q; aside = f }
 
 -- the weight that is stored and the count of rows are those before, so they hold once the victims are put back
 record Waiting (s t : State) : Type 0 where
@@ -178,7 +175,7 @@ path_fit now q r g =
     let e = back_core r in
     record { long = subst (λ (y : Core). 1 ≤ y.entry.path.len) e g.ok.long; short = subst (λ (y : Core). y.entry.path.len ≤ path_places) e g.ok.short }
 
-module _ {now w n count : ℕ} {c : ChosenAnswer} {l t : List ℕ} (u : Aside now w n count c l t) where
+module _ {now w n count : ℕ} {c : Choice} {l t : List ℕ} (u : Aside now w n count c l t) where
   waits : Waiting (view_rows n l) (view_rows n t)
   unfolding chosen_of
   waits =
@@ -201,33 +198,32 @@ module _ {now w n count : ℕ} {c : ChosenAnswer} {l t : List ℕ} (u : Aside no
   pub drop_asks : (n ≤ max_rows) × (head_size + n * row_size ≤ length t) × PathsFit (view_rows n t).rows
   drop_asks = (few n l u.sound, omega (arith, u.size, u.long), waits.paths)
 
-  room_made : (x : State) → c.made ≡ true → x ≡ with_only_rows (not_aside (view_rows n t).rows) (view_rows n t) → room_as true c.examined x ≡ make_room now w (view_rows n l)
+  room_made : {d : ChosenAnswer} (x : State) → c.chosen ≡ Some d → x ≡ with_only_rows (not_aside (view_rows n t).rows) (view_rows n t) → room_as true c.examined x ≡ make_room now w (view_rows n l)
   unfolding make_room settled chosen_of
   room_made x m e = rw (← u.chosen, m, e)
 
   -- the only victim stays, and is what would leave
-  pub one_left : c.made ≡ true → count - c.left ≡ 1 → Settles now w n l t (record { made = true; rows = n; victim = Some c.last; stored = c.stored; examined = c.examined })
+  pub one_left : {d : ChosenAnswer} → c.chosen ≡ Some d → count - d.left ≡ 1 →
+      Settled now w n (record { made = true; rows = n; victim = Some (record { at = d.last; stored = d.stored }); examined = c.examined }) l t
   unfolding room_of without_victim take_out
-  one_left m h =
+  one_left {d} m h =
       let s = view_rows n l in
       let v = view_rows n t in
-      let a = u.aside m in
-      let k : c.left < count = omega arith in
-      let there = a.last.there k in
-      let only = one_aside c.last v.rows (a.last.inside k) there (omega (arith, back_mains v.rows, waits.mains, u.mains, a.mains)) in
-      let out = aside_not_main (row_at c.last v.rows) there in
-      let q = left_at c.last c.stored s.rows v.rows (sound_is (capacity l) s u.sound).rising waits.same (a.last.inside k) out a.weighs a.light in
-      (room_made (take_out c.last v) m (rw only), omega arith, at_one (λ i. LeftAt i c.stored s.rows v.rows) _ _ refl q, λ f. contradiction refl f)
+      let a = u.aside d m in
+      let only = one_aside d.last v.rows a.last.inside a.last.there (omega (arith, back_mains v.rows, waits.mains, u.mains, a.mains)) in
+      let out = aside_not_main (row_at d.last v.rows) a.last.there in
+      let q = left_at (record { at = d.last; stored = d.stored }) s.rows v.rows (sound_is (capacity l) s u.sound).rising waits.same a.last.inside out a.weighs a.light in
+      record { room = room_made (take_out d.last v) m (rw only); rows = omega arith; leaves = at_one (λ i. LeftAt i s.rows v.rows) _ q; none = λ f. contradiction refl f }
 
-  pub all_dropped : (j : ℕ) (y : List ℕ) → c.made ≡ true → (j ≤ n) × (view_rows j y ≡ with_only_rows (not_aside (view_rows n t).rows) (view_rows n t)) →
-      Settles now w n l y (record { made = true; rows = j; victim = None; stored = c.stored; examined = c.examined })
+  pub all_dropped : {d : ChosenAnswer} (j : ℕ) (y : List ℕ) → c.chosen ≡ Some d → (j ≤ n) × (view_rows j y ≡ with_only_rows (not_aside (view_rows n t).rows) (view_rows n t)) →
+      Settled now w n (record { made = true; rows = j; victim = None; examined = c.examined }) l y
   unfolding room_of without_victim
-  all_dropped j y m d = (room_made (view_rows j y) m d.1, d.0, at_none _ _ refl, λ f. contradiction refl f)
+  all_dropped j y m d = record { room = room_made (view_rows j y) m d.1; rows = d.0; leaves = at_none _; none = λ f. contradiction refl f }
 
-  pub all_back : (k : ℕ) (y : List ℕ) → c.made ≡ false → view_rows n y ≡ with_rows (map put_back (view_rows n t).rows) (view_rows n t) →
-      Settles now w n l y (record { made = false; rows = n; victim = None; stored = k; examined = c.examined })
+  pub all_back : (y : List ℕ) → c.chosen ≡ None → view_rows n y ≡ with_rows (map put_back (view_rows n t).rows) (view_rows n t) →
+      Settled now w n (record { made = false; rows = n; victim = None; examined = c.examined }) l y
   unfolding room_of without_victim make_room settled chosen_of
-  all_back k y m d =
+  all_back y m d =
       let v = view_rows n t in
       let g = waits.row_count ∙ (sound_is (capacity l) (view_rows n l) u.sound).counted ∙ view_length n l ∙ sym (view_length n t) in
-      (rw (← u.chosen, m, d, only_rows (map put_back v.rows) v (length_map v.rows) waits.stored_weight g), omega arith, at_none _ _ refl, λ f. refl)
+      record { room = rw (← u.chosen, m, d, only_rows (map put_back v.rows) v (length_map v.rows) waits.stored_weight g); rows = omega arith; leaves = at_none _; none = λ f. refl }

@@ -35,8 +35,9 @@ pub laid_out : (n : ℕ) (l : List ℕ) → sound (capacity l) (view_rows n l) �
 unfolding capacity
 laid_out n l h = let s = shown n l h in omega (arith, both n l s, s.mains, s.probations, s.space)
 
-pub rows_searchable : (n : ℕ) (l : List ℕ) → sound (capacity l) (view_rows n l) ≡ true → (ascends (view_rows n l).rows ≡ true) × (head_size + n * row_size ≤ length l)
-rows_searchable n l h = (ascends_test (view_rows n l).rows (shown n l h).rising, laid_out n l h)
+-- and rise
+pub rises : (n : ℕ) (l : List ℕ) → sound (capacity l) (view_rows n l) ≡ true → ascends (view_rows n l).rows ≡ true
+rises n l h = ascends_test (view_rows n l).rows (shown n l h).rising
 
 pub few : (n : ℕ) (l : List ℕ) → sound (capacity l) (view_rows n l) ≡ true → n ≤ max_rows
 few n l h = let s = shown n l h in omega (arith, both n l s, s.mains, s.probations, s.space, s.small)

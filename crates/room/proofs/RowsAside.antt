@@ -36,11 +36,8 @@ aside_there i [] h = absurd (let z : ⊥ = omega arith in z)
 aside_there zero (r ∷ rs) h = refl
 aside_there (suc i) (r ∷ rs) h = aside_there i rs (omega arith)
 
-pub last_start : (count i : ℕ) (rs : List Row) → LastAside count count i rs
-last_start count i rs = record { few = omega arith; inside = λ h. omega arith; there = λ h. absurd (let z : ⊥ = omega arith in z) }
-
-pub last_turn : (count left i j : ℕ) (rs ts : List Row) → LastAside count left i rs → j < length ts → LastAside count (left - 1) j (change_row (at_new_place aside) j ts)
-last_turn count left i j rs ts l h = record { few = omega (arith, l.few); inside = λ _. omega (arith, length_change (at_new_place aside) j ts); there = λ _. aside_there j ts h }
+pub last_aside : {count left : ℕ} (i : ℕ) (rs : List Row) → left ≤ count → i < length rs → LastAside count (left - 1) i (change_row (at_new_place aside) i rs)
+last_aside i rs k h = record { few = omega arith; inside = omega (arith, length_change (at_new_place aside) i rs); there = aside_there i rs h }
 
 -- ---- a row put back
 
@@ -78,7 +75,7 @@ back_all (suc i) (r ∷ rs) e = ap (λ (xs : List Row). put_back r ∷ xs) (back
 pub record Backed (n i : ℕ) (l x : List ℕ) : Type 0 where
   pub within : i ≤ n
   pub long : length x ≡ length l
-  same : view_rows n x ≡ with_rows (back_to i (view_rows n l).rows) (view_rows n l)
+  pub same : view_rows n x ≡ with_rows (back_to i (view_rows n l).rows) (view_rows n l)
 
 pub backed_start : {n : ℕ} {l : List ℕ} → Backed n 0 l l
 unfolding back_to

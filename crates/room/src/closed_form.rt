@@ -14,6 +14,7 @@ use memory::row::{Row, Rows, row_at};
 use types::coord::ADDRS_PER_ENTRY;
 
 // The rows of main. Counted down by hand: as a sum over the rows the compiler makes bytes of them side by side, which is slower.
+#[tactic(auto, using(memory::proofs::RowLaws::view_length, stamps::proofs::RowTotals::counted_start, stamps::proofs::RowTotals::counted_turn, stamps::proofs::RowTotals::counted_end), unfolding(rules::specs::Rows::in_main))]
 pub fn main_len(state: &[u8], n: usize) -> u64
     requires { head_size + n * row_size ≤ length state.now }
     ensures { result ≡ main_count (view_rows n state.now) }
@@ -43,6 +44,7 @@ pub fn has_room(max: u64, count: u64, stored: u64, w: u64) -> bool
     (count < max) & (stored + w <= ADDRS_PER_ENTRY * max)
 }
 
+#[tactic(auto, unfolding(rules::specs::Room::verified_in_main, rules::specs::Rows::in_main))]
 fn is_verified_in_main(row: &Row<'_>, time: u64) -> bool
     ensures { result ≡ verified_in_main time row.now }
 {
@@ -50,6 +52,7 @@ fn is_verified_in_main(row: &Row<'_>, time: u64) -> bool
 }
 
 // The closed form, in one pass: what no walk at this time can take is counted and weighed.
+#[tactic(auto, using(memory::proofs::RowLaws::view_length, crate::proofs::ClosedForm::most, crate::proofs::ClosedForm::bounds_read, crate::proofs::ClosedForm::weighed_start, crate::proofs::ClosedForm::weighed_small, crate::proofs::ClosedForm::weighed_end))]
 pub fn room_can_be_made(state: &[u8], n: usize, w: u64, time: u64) -> bool
     requires { (head_size + n * row_size ≤ length state.now) × (sound (capacity state.now) (view_rows n state.now) ≡ true) }
     ensures { result ≡ room_can_be_made time w (view_rows n state.now) }

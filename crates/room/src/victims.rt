@@ -1,15 +1,16 @@
 // Room in main. Victims are set aside: one alone is left for the row that takes its place, several leave together, and without room
 // all go back.
 ghost use Rattle.std.specs.Prelude.{◌≡◌, true, false, not, map, suc, ◌+◌, ◌*◌, ◌≤◌, ◌<◌, length, None};
+ghost use Rattle.std.specs.Option.{ForSome};
 ghost use Rattle.rules.specs.Records.{weight_bound, aside, max_rows};
 ghost use Rattle.rules.specs.Rows.{at_place, change_row, keep_rows, with_rows, with_only_rows, total, main_count};
 ghost use Rattle.rules.specs.Sound.{sound};
-ghost use Rattle.rules.specs.Room.{main_visits, has_room, at_new_place, put_back, choose_victims, make_room};
+ghost use Rattle.rules.specs.Room.{main_visits, has_room, at_new_place, put_back, choose_victims};
 ghost use Rattle.rules.specs.Memory.{capacity, view_rows};
 ghost use Rattle.rules.specs.Layout.{head_size, number_limit, row_size};
 ghost use Rattle.stamps.specs.Walked.{walk_from, MainIs};
 ghost use Rattle.retention.specs.Sweep.{PathsFit};
-ghost use Rattle.room.specs.Rooms.{chosen_of, room_of, SetAside, Leaves};
+ghost use Rattle.room.specs.Rooms.{chosen_of, SetAside, Settled};
 
 use crate::closed_form::{cut_to_bound, has_room};
 use memory::codes::{ASIDE, BY_USE};
@@ -17,29 +18,40 @@ use memory::row::row_at;
 use stamps::lowest::{LowestOfMain, lowest_of_main};
 use stamps::walk::next_victim;
 
-// Whether enough victims were chosen; the main rows that are left and their weight; the row that was set aside last; the keys taken up.
+// Victims that are enough, set aside: the main rows that are left and their weight, and the row that was set aside last.
 #[derive(Clone, Copy)]
 struct Chosen {
-    made: bool,
     left: u64,
     stored: u64,
     last: usize,
+}
+
+// The victims, where there are enough, and the keys taken up.
+#[derive(Clone, Copy)]
+struct Choice {
+    chosen: Option<Chosen>,
     examined: u64,
 }
 
+// A row that is left for the row that takes its place, and the weight that is stored without it.
+#[derive(Clone, Copy)]
+pub struct Victim {
+    pub at: usize,
+    pub stored: u64,
+}
+
 // Whether room was made in main, the rows there are, and the keys taken up. Where one victim is enough, it is left where it
-// is, counted among the rows, for the row that takes its place; `stored` is then the weight that is stored without it, and without
-// a victim means nothing.
+// is, counted among the rows.
 #[derive(Clone, Copy)]
 pub struct Room {
     pub made: bool,
     pub rows: usize,
-    pub victim: Option<usize>,
-    pub stored: u64,
+    pub victim: Option<Victim>,
     pub examined: u64,
 }
 
 // Row i at another place, under the stamp that it has.
+#[tactic(auto, using(crate::proofs::RowsAside::placed))]
 fn set_place(state: &mut [u8], n: usize, i: usize, place: u8)
     requires { (i < n) × (head_size + n * row_size ≤ length state.old) }
     ensures { view_rows n state.new ≡ with_rows (change_row (at_new_place place) i (view_rows n state.old).rows) (view_rows n state.old) }
@@ -52,15 +64,20 @@ fn set_place(state: &mut [u8], n: usize, i: usize, place: u8)
 
 // Victims are set aside until there is room for w, or none is left. At the start there is no room, and `lowest` is of the rows as they
 // then are.
-fn choose_victims(state: &mut [u8], n: usize, lowest: LowestOfMain, w: u64, time: u64) -> Chosen
-    requires { (head_size + n * row_size ≤ length state.old) × (sound (capacity state.old) (view_rows n state.old) ≡ true) × ((view_rows n state.old).seq + total (main_visits time) (view_rows n state.old).rows < number_limit) × MainIs lowest (view_rows n state.old).rows × (w ≤ weight_bound (view_rows n state.old).max_entries) × (has_room w (view_rows n state.old) ≡ false) }
-    ensures { (chosen_of result (view_rows n state.new) ≡ choose_victims (suc (main_count (view_rows n state.old))) time w (walk_from (view_rows n state.old) 0)) × (result.made ≡ true → SetAside lowest.count result (view_rows n state.new)) }
+fn choose_victims(state: &mut [u8], n: usize, lowest: LowestOfMain, w: u64, time: u64) -> Choice
+    requires size { head_size + n * row_size ≤ length state.old }
+    requires sound { sound (capacity state.old) (view_rows n state.old) ≡ true }
+    requires stamps { (view_rows n state.old).seq + total (main_visits time) (view_rows n state.old).rows < number_limit }
+    requires lowest { MainIs lowest (view_rows n state.old).rows }
+    requires bound { w ≤ weight_bound (view_rows n state.old).max_entries }
+    requires full { has_room w (view_rows n state.old) ≡ false }
+    ensures chosen { chosen_of result (view_rows n state.new) ≡ choose_victims (suc (main_count (view_rows n state.old))) time w (walk_from (view_rows n state.old) 0) }
+    ensures aside { ForSome result.chosen (λ c. SetAside lowest.count c (view_rows n state.new)) }
 {
     let max = memory::head::max_entries(state);
     let mut stored = memory::head::stored_weight(state);
     let mut left = lowest.count;
     let mut main = lowest;
-    let mut last = n;
     let mut examined: u64 = 0;
     loop {
         let sought = next_victim(state, n, time, main);
@@ -68,11 +85,8 @@ fn choose_victims(state: &mut [u8], n: usize, lowest: LowestOfMain, w: u64, time
         let found = sought.found;
         match found {
             None => {
-                return Chosen {
-                    made: false,
-                    left,
-                    stored,
-                    last,
+                return Choice {
+                    chosen: None,
                     examined,
                 };
             }
@@ -80,13 +94,14 @@ fn choose_victims(state: &mut [u8], n: usize, lowest: LowestOfMain, w: u64, time
                 left -= 1;
                 stored -= raw::numbers::wide(row_at(state, n, i).weight());
                 set_place(state, n, i, ASIDE);
-                last = i;
                 if has_room(max, left, stored, w) {
-                    return Chosen {
-                        made: true,
+                    let chosen = Chosen {
                         left,
                         stored,
-                        last,
+                        last: i,
+                    };
+                    return Choice {
+                        chosen: Some(chosen),
                         examined,
                     };
                 }
@@ -97,6 +112,7 @@ fn choose_victims(state: &mut [u8], n: usize, lowest: LowestOfMain, w: u64, time
 }
 
 // Row i goes back if it was set aside.
+#[tactic(auto, using(crate::proofs::RowsAside::back_here, crate::proofs::RowsAside::back_not_here))]
 fn put_row_back(state: &mut [u8], n: usize, i: usize)
     requires { (i < n) × (head_size + n * row_size ≤ length state.old) }
     ensures { view_rows n state.new ≡ with_rows (change_row put_back i (view_rows n state.old).rows) (view_rows n state.old) }
@@ -107,6 +123,7 @@ fn put_row_back(state: &mut [u8], n: usize, i: usize)
 }
 
 // The rows that were set aside go back.
+#[tactic(auto, using(crate::proofs::RowsAside::backed_start, crate::proofs::RowsAside::backed_turn, crate::proofs::RowsAside::backed_end))]
 fn put_back(state: &mut [u8], n: usize)
     requires { head_size + n * row_size ≤ length state.old }
     ensures { view_rows n state.new ≡ with_rows (map put_back (view_rows n state.old).rows) (view_rows n state.old) }
@@ -125,62 +142,67 @@ fn drop_aside(state: &mut [u8], n: usize) -> usize
 }
 
 // There is room: no victim is sought.
-fn room_there(rows: usize, stored: u64) -> Room
-    ensures { result ≡ record { made = true; rows = rows; victim = None; stored = stored; examined = 0 } }
+fn room_there(rows: usize) -> Room
+    ensures { result ≡ record { made = true; rows = rows; victim = None; examined = 0 } }
 {
     Room {
         made: true,
         rows,
         victim: None,
-        stored,
         examined: 0,
     }
 }
 
 // Room for w in main; where one victim is enough, it is left aside. Where there is room nothing is written, and main is not counted
 // where all rows are fewer than max_entries; where room can't be made no row leaves.
+#[tactic(auto, using(crate::proofs::ClosedForm::most, crate::proofs::ClosedForm::bounds_read, crate::proofs::RoomSettled::stored_asks, crate::proofs::RoomSettled::full, crate::proofs::RoomSettled::main_there, crate::proofs::RoomSettled::rows_there, crate::proofs::RoomSettled::stand_aside, crate::proofs::RoomSettled::all_back))]
 pub fn make_room(state: &mut [u8], n: usize, w: u64, time: u64) -> Room
     requires { (head_size + n * row_size ≤ length state.old) × (sound (capacity state.old) (view_rows n state.old) ≡ true) × ((view_rows n state.old).seq + total (main_visits time) (view_rows n state.old).rows < number_limit) }
-    ensures { (room_of result (view_rows result.rows state.new) ≡ make_room time w (view_rows n state.old)) × (result.rows ≤ n) × Leaves result.victim result.stored (view_rows n state.old).rows (view_rows result.rows state.new).rows × (result.made ≡ false → result.victim ≡ None) }
+    ensures { Settled time w n result state.old state.new }
 {
     let max = memory::head::max_entries(state);
     let cut = cut_to_bound(w, max);
     let stored = memory::head::stored_weight(state);
     if has_room(max, n as u64, stored, cut) {
-        return room_there(n, stored);
+        return room_there(n);
     }
     let lowest = lowest_of_main(state, n);
     let count = lowest.count;
     if has_room(max, count, stored, cut) {
-        return room_there(n, stored);
+        return room_there(n);
     }
-    let chosen = choose_victims(state, n, lowest, cut, time);
-    let examined = chosen.examined;
-    if chosen.made {
-        if count - chosen.left == 1 {
-            return Room {
-                made: true,
+    let choice = choose_victims(state, n, lowest, cut, time);
+    let examined = choice.examined;
+    match choice.chosen {
+        None => {
+            put_back(state, n);
+            Room {
+                made: false,
                 rows: n,
-                victim: Some(chosen.last),
-                stored: chosen.stored,
+                victim: None,
                 examined,
-            };
+            }
         }
-        let rows = drop_aside(state, n);
-        return Room {
-            made: true,
-            rows,
-            victim: None,
-            stored: chosen.stored,
-            examined,
-        };
-    }
-    put_back(state, n);
-    Room {
-        made: false,
-        rows: n,
-        victim: None,
-        stored,
-        examined,
+        Some(chosen) => {
+            if count - chosen.left == 1 {
+                let victim = Victim {
+                    at: chosen.last,
+                    stored: chosen.stored,
+                };
+                return Room {
+                    made: true,
+                    rows: n,
+                    victim: Some(victim),
+                    examined,
+                };
+            }
+            let rows = drop_aside(state, n);
+            Room {
+                made: true,
+                rows,
+                victim: None,
+                examined,
+            }
+        }
     }
 }

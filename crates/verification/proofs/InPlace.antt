@@ -134,10 +134,13 @@ verified_back k p t w v mtu {R} {ttl} {i} {s} {a} {b} {c} d f m et ev ea eb ec e
 -- ---- room without row i
 
 -- rows that are no more than max_entries need not be counted
-pub few_rows : (n m : ℕ) (l : List ℕ) → 0 < main_count (view_rows n l) → n ≤ m → (1 ≤ n) × (ltb (n - 1) m ≡ ltb (main_count (view_rows n l) - 1) m)
+pub mains_few : (n : ℕ) (l : List ℕ) → main_count (view_rows n l) ≤ n
+mains_few n l = omega (arith, count_few in_main (view_rows n l).rows, view_length n l)
+
+pub few_rows : (n m : ℕ) (l : List ℕ) → 0 < main_count (view_rows n l) → n ≤ m → ltb (n - 1) m ≡ ltb (main_count (view_rows n l) - 1) m
 few_rows n m l h k =
-    let c : main_count (view_rows n l) ≤ n = omega (arith, count_few in_main (view_rows n l).rows, view_length n l) in
-    (omega arith, lt-ltb (n - 1) m (omega arith) ∙ sym (lt-ltb (main_count (view_rows n l) - 1) m (omega arith)))
+    let c = mains_few n l in
+    lt-ltb (n - 1) m (omega arith) ∙ sym (lt-ltb (main_count (view_rows n l) - 1) m (omega arith))
 
 main_counts : (r : Row) → in_main r ≡ true → ◌≡◌ {A = ℕ} (cond (in_main r) 1 0) 1
 main_counts r m = rw m
@@ -150,15 +153,18 @@ main_some n i l h m =
     let rs = (view_rows n l).rows in
     omega (arith, total_some (λ r. cond (in_main r) 1 0) i rs (omega (arith, view_length n l)), main_counts (row_at i rs) m)
 
-pub weight_out : (n i : ℕ) (l : List ℕ) {v w : ℕ} → (sound (capacity l) (view_rows n l) ≡ true) × (i < n) × (in_main (row_at i (view_rows n l).rows) ≡ true)
-    → v ≡ (view_rows 0 l).stored_weight → w ≡ (row_at i (view_rows n l).rows).weight → (w ≤ v) × (v - w ≡ weigh_rows in_main (without_row i (view_rows n l).rows))
-weight_out n i l h ev ew =
-    let rs = (view_rows n l).rows in
-    let t = total_without (λ r. cond (in_main r) r.weight 0) i rs (omega (arith, view_length n l, h.1)) in
-    let g = main_weighs (row_at i rs) h.2 in
-    let e = (sound_is (capacity l) (view_rows n l) h.0).stored_weight in
-    let o = (same_head 0 n l).stored_weight in
-    (omega arith, omega arith)
+module _ (n i : ℕ) (l : List ℕ) (s : sound (capacity l) (view_rows n l) ≡ true) (h : i < n) (m : in_main (row_at i (view_rows n l).rows) ≡ true) where
+  weighed : weigh_rows in_main (without_row i (view_rows n l).rows) + (row_at i (view_rows n l).rows).weight ≡ (view_rows 0 l).stored_weight
+  weighed =
+      let rs = (view_rows n l).rows in
+      let t = total_without (λ r. cond (in_main r) r.weight 0) i rs (omega (arith, view_length n l)) in
+      omega (arith, main_weighs (row_at i rs) m, (sound_is (capacity l) (view_rows n l) s).stored_weight, (same_head 0 n l).stored_weight)
+
+  pub weight_held : (row_at i (view_rows n l).rows).weight ≤ (view_rows 0 l).stored_weight
+  weight_held = omega (arith, weighed)
+
+  pub weight_out : (view_rows 0 l).stored_weight - (row_at i (view_rows n l).rows).weight ≡ weigh_rows in_main (without_row i (view_rows n l).rows)
+  weight_out = omega (arith, weighed)
 
 -- the weight that stays is small
 pub stored_few : (R i : ℕ) (s : State) → sound R s ≡ true → weigh_rows in_main (without_row i s.rows) ≤ max_rows * weight_limit

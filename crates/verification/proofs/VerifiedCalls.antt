@@ -1,6 +1,6 @@
 -- The calls, in either form: refused by 2, 3 or 4, or done.
 use mathlib.Core.Path.{◌≡◌, refl, sym, ap, ◌∙◌}
-use Prim.Native.Nat.{ℕ, ◌≤◌}
+use Prim.Native.Nat.{ℕ}
 use mathlib.Core.List.{List}
 use Rattle.std.specs.Prelude.{Option, Some, None, Result, Err, IsErrAnd}
 use mathlib.Core.Bool.{Bool, true, false}
@@ -8,7 +8,6 @@ use lib.ListN.{length}
 use borrow.Author.Tests.{ltb-false}
 use Rattle.types.specs.declared.node_addr.NodeAddr.{NodeAddr}
 use Rattle.types.specs.declared.coord.Path.{Path}
-use Rattle.types.specs.Paths.{path_weight}
 use Rattle.types.specs.declared.placed.VerifiedInsert.{VerifiedInsert}
 use Rattle.rules.specs.Cases.{maybe}
 use Rattle.rules.specs.Records.{State}
@@ -23,12 +22,12 @@ use Rattle.rules.specs.Lent.{Bytes, call}
 use Rattle.rules.proofs.Refused.{refused_four, write_allowed}
 use Rattle.rules.proofs.CallsKeep.{path_ok}
 use Rattle.rules.proofs.Public.{sound_memory}
-use Rattle.filing.specs.Filings.{Writable}
 use Rattle.refusals.specs.Writes.{write_refusal}
 use Rattle.refusals.proofs.SoundCalls.{done_rows}
 use Rattle.refusals.proofs.RefusalsSaid.{said}
 use Rattle.refusals.proofs.WriteRefusals.{Passed, write_refused}
 use Rattle.verification.specs.Forms.{verified_call}
+use Rattle.verification.specs.Inserts.{Allowed, Inserting}
 
 -- the rows that the head counts
 pub rows_sound_lem : (l : List ℕ) (n : ℕ) → sound (capacity l) (view l) ≡ true → n ≡ (view_rows 0 l).row_count → sound (capacity l) (view_rows n l) ≡ true
@@ -74,24 +73,21 @@ module _ {k : NodeAddr} {p : Path} {t n : ℕ} {b : Bool} {l : List ℕ} (u : Un
       said l q 4 (refused_four (capacity l) (view l) q u.sound (rw (form k p t mtu).path u.passed.path) u.passed.stamps (four_of mtu ∙ y))
 
   -- what filing asks
-  pub insert_asked : b ≡ false → (sound (capacity l) (view_rows n l) ≡ true) × Writable p × ((view_rows n l).seq ≤ last_seq)
-      × (no_place_for (capacity l) (view_rows n l) (record { key = k; path = p; time = t }) ≡ false)
+  pub insert_asked : b ≡ false → Allowed k p t n l
   unfolding seq_spent
   insert_asked y =
       let g = path_ok p u.passed.path in
       let s = (sound_memory l n u.sound u.counted).same in
-      (rw s u.sound, record { long = g.long; short = g.short }, rw s (ltb-false last_seq (view l).seq u.passed.stamps), sym u.full ∙ y)
+      record { sound = rw s u.sound; path = record { long = g.long; short = g.short }; seq = rw s (ltb-false last_seq (view l).seq u.passed.stamps); place = sym u.full ∙ y }
 
   -- the call is done
-  pub insert_done : (mtu : Option ℕ) (m : List ℕ) (v : VerifiedInsert) → b ≡ false → Bytes m → length m ≡ length l
-      → v ≡ record { weight = path_weight p; examined = (insert_verified k p t mtu (view_rows n l)).examined }
-      → view_rows (length (insert_verified k p t mtu (view_rows n l)).state.rows) m ≡ (insert_verified k p t mtu (view_rows n l)).state
+  pub insert_done : (mtu : Option ℕ) (m : List ℕ) (v : VerifiedInsert) → b ≡ false → Bytes m → length m ≡ length l → Inserting (insert_verified k p t mtu (view_rows n l)) p v m
       → (VerifiedDone v ≡ (call l (verified_call k p t mtu)).answer) × (m ≡ (call l (verified_call k p t mtu)).memory)
   unfolding verifies gives
-  insert_done mtu m v y bytes size ev em =
+  insert_done mtu m v y bytes size i =
       let q = verified_call k p t mtu in
       let f = form k p t mtu in
       let a = write_allowed (capacity l) (view l) q u.sound (rw f.path u.passed.path) u.passed.stamps (four_of mtu ∙ y) in
       let e = f.does (view_rows n l) in
-      let d = done_rows (sound_memory l n u.sound u.counted) q m _ a bytes size (em ∙ ap (λ (x : Step). x.state) (sym e)) in
-      (ap VerifiedDone ev ∙ ap (λ (x : Step). x.answer) (sym e) ∙ d.answer, d.memory)
+      let d = done_rows (sound_memory l n u.sound u.counted) q m _ a bytes size (i.state ∙ ap (λ (x : Step). x.state) (sym e)) in
+      (ap VerifiedDone i.says ∙ ap (λ (x : Step). x.answer) (sym e) ∙ d.answer, d.memory)

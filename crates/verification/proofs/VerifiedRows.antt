@@ -102,7 +102,7 @@ module _ {k : NodeAddr} {p : Path} {n r w : ℕ} {l m : List ℕ} (o : KeyOut k 
   module _ {z : List ℕ} {a : RoomAnswer} (so : Sought m z r t w a) where
     -- what the row that is filed asks
     pub row_asked : (view_rows n l).seq ≤ last_seq → no_place_for (capacity l) (view_rows n l) (record { key = k; path = p; time = t }) ≡ false
-        → Takes k a.victim a.stored a.rows z
+        → Takes k a.victim a.rows z
     row_asked q f = takes k r m z t w a without so (free_main k r m z t w a without so (main_free f)) (seq_out q)
 
     -- what is answered

@@ -1,3 +1,4 @@
 pub mod Mtu
 pub mod Searches
 pub mod Forms
+pub mod Inserts

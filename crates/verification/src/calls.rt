@@ -17,6 +17,7 @@ use types::placed::VerifiedInsert;
 use types::refusal::Refusal;
 
 // Both forms: refused by 2, 3 or 4, or done.
+#[tactic(auto, using(refusals::proofs::SoundCalls::head_there, refusals::proofs::WriteRefusals::passed, crate::proofs::VerifiedCalls::rows_sound_lem, crate::proofs::VerifiedCalls::refused_by_four, crate::proofs::VerifiedCalls::insert_asked))]
 fn verify(
     state: &mut [u8],
     key: NodeAddr,

@@ -46,6 +46,7 @@ fn set_given_mtu(state: &mut [u8], n: usize, i: usize, mtu: Option<u16>)
 }
 
 // The weight that is stored without row i of main.
+#[tactic(auto, using(room::proofs::RoomToFile::laid_out, crate::proofs::InPlace::weight_held, crate::proofs::InPlace::weight_out))]
 fn stored_without(state: &[u8], n: usize, i: usize) -> u64
     requires { (sound (capacity state.now) (view_rows n state.now) ≡ true) × (i < n) × (in_main (row_at i (view_rows n state.now).rows) ≡ true) }
     ensures { result ≡ weigh_rows in_main (without_row i (view_rows n state.now).rows) }
@@ -56,6 +57,7 @@ fn stored_without(state: &[u8], n: usize, i: usize) -> u64
 }
 
 // The main rows but one, to be held against max_entries; rows that are no more than it need not be counted.
+#[tactic(auto, using(crate::proofs::InPlace::mains_few, crate::proofs::InPlace::few_rows))]
 fn other_main_rows(state: &[u8], n: usize, max: u64) -> u64
     requires { (head_size + n * row_size ≤ length state.now) × (0 < main_count (view_rows n state.now)) }
     ensures { ltb result max ≡ ltb (main_count (view_rows n state.now) - 1) max }
@@ -68,6 +70,7 @@ fn other_main_rows(state: &[u8], n: usize, max: u64) -> u64
 }
 
 // Whether row i is in main, and main has room for w once row i is out.
+#[tactic(auto, using(room::proofs::RoomToFile::laid_out, memory::proofs::Fields::same_head, room::proofs::ClosedForm::sound_small, crate::proofs::InPlace::stored_few, crate::proofs::InPlace::main_some, crate::proofs::InPlace::room_out, crate::proofs::InPlace::no_main, crate::proofs::InPlace::in_main_lem))]
 pub fn has_room_without(state: &[u8], n: usize, i: usize, w: u64) -> bool
     requires { (sound (capacity state.now) (view_rows n state.now) ≡ true) × (i < n) }
     ensures { result ≡ in_main (row_at i (view_rows n state.now).rows) && has_room (min w (weight_bound (view_rows n state.now).max_entries)) (take_out i (view_rows n state.now)) }

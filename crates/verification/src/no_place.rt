@@ -14,6 +14,7 @@ use search::keys::search;
 use types::coord::Path;
 use types::node_addr::NodeAddr;
 
+#[tactic(auto, using(room::proofs::RoomToFile::laid_out, room::proofs::RoomToFile::rises, crate::proofs::NoPlace::row_inside, crate::proofs::NoPlace::held_in_main, crate::proofs::NoPlace::absent_in_main))]
 fn key_in_main(state: &[u8], n: usize, key: NodeAddr) -> bool
     requires { sound (capacity state.now) (view_rows n state.now) ≡ true }
     ensures { result ≡ key_in_main key (view_rows n state.now) }
@@ -26,6 +27,7 @@ fn key_in_main(state: &[u8], n: usize, key: NodeAddr) -> bool
 }
 
 // M.
+#[tactic(auto, using(room::proofs::RoomToFile::laid_out, room::proofs::RoomToFile::shown, memory::proofs::Fields::same_head))]
 fn main_bound(state: &[u8], n: usize) -> u64
     requires { sound (capacity state.now) (view_rows n state.now) ≡ true }
     ensures { result ≡ main_limit (capacity state.now) (view_rows n state.now) }
@@ -36,6 +38,7 @@ fn main_bound(state: &[u8], n: usize) -> u64
 
 // The key's own row, where it is not in main, makes no difference to the room, so it need not leave first. Main rows are counted only
 // where they may be M.
+#[tactic(auto, using(memory::proofs::RowLaws::view_length, stamps::proofs::RowTotals::count_few, room::proofs::RoomToFile::laid_out, crate::proofs::NoPlace::held_place, crate::proofs::NoPlace::free_place))]
 pub fn no_place_for(state: &[u8], n: usize, key: NodeAddr, path: Path, time: u64) -> bool
     requires { sound (capacity state.now) (view_rows n state.now) ≡ true }
     ensures { result ≡ no_place_for (capacity state.now) (view_rows n state.now) (record { key = key; path = path; time = time }) }

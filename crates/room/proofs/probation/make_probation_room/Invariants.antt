@@ -7,8 +7,8 @@ use Rattle.rules.specs.Memory.{view_rows}
 use Rattle.room.proofs.ProbationVictims.{Evicting}
 use Rattle.room.proofs.probation.make_probation_room.Given as goal
 
-abbrev pub invariant-loop-victim : goal.invariant-loop-victim
-invariant-loop-victim l = Evicting l.n l.examined l.stored l.initial.state l.state × (l.victim ≡ lowest_stamp probation (view_rows l.n l.state).rows)
+abbrev pub invariant-loop-next : goal.invariant-loop-next
+invariant-loop-next l = Evicting l.n l.examined l.initial.state l.state × (l.next ≡ lowest_stamp probation (view_rows l.n l.state).rows)
 
-abbrev pub decreases-loop-victim : goal.decreases-loop-victim
-decreases-loop-victim l = total probation_visits (view_rows l.n l.state).rows
+abbrev pub decreases-loop-next : goal.decreases-loop-next
+decreases-loop-next l = total probation_visits (view_rows l.n l.state).rows

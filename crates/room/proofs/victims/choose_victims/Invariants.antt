@@ -8,7 +8,7 @@ use Rattle.room.proofs.victims.choose_victims.Given as goal
 
 abbrev pub invariant-loop-i : goal.invariant-loop-i
 invariant-loop-i l = let q : Call = record { now = l.time; w = l.w; n = l.n; memory = l.initial.state; max = l.max; mains = l.initial.left } in
-    Choice q l.left l.stored l.last l.examined l.state × MainIs l.main (view_rows l.n l.state).rows × (fits q l.left l.stored ≡ false)
+    Choice q l.left l.stored l.examined l.state × MainIs l.main (view_rows l.n l.state).rows × (fits q l.left l.stored ≡ false)
 
 abbrev pub decreases-loop-i : goal.decreases-loop-i
 decreases-loop-i l = l.left

@@ -2,39 +2,32 @@
 use mathlib.Core.Path.{ap}
 use native.Mathlib.Omega.{arith}
 use Rattle.types.specs.declared.coord.Path.{Path}
-use Rattle.rules.proofs.Others.{weight_ok}
-use Rattle.room.proofs.RoomToFile.{laid_out}
 use Rattle.filing.proofs.RoomSought.{Sought, sought}
-use Rattle.verification.proofs.VerifiedRows.{KeyOut, found_within, room_asked, row_asked, insert_said, insert_left}
+use Rattle.verification.proofs.VerifiedRows.{KeyOut, room_asked, row_asked, insert_said, insert_left}
 use Rattle.verification.proofs.insert.file_anew.Goals as goal
+use Rattle.verification.proofs.insert.file_anew.Goals.{After-weight-weight, After-make_room-room}
 
-pub verified_entry_of-e-requires : goal.verified_entry_of-e-requires
-verified_entry_of-e-requires c = (laid_out _ _ c.requires.0, found_within _ _ _ _ c.requires.4)
+key_out : (c : After-weight-weight) → KeyOut c.args.key c.args.path c.args.n c.take_out-rows.result c.weight-weight.result c.args.state.now c.take_out-rows.new.state
+key_out c =
+    let o = c.take_out-rows in
+    record { sound = c.requires.0.sound; reached = record { size = o.auto.state; state = o.ensures _ c.requires.1 }; weight = c.weight-weight.ensures }
 
-pub take_out-rows-requires : goal.take_out-rows-requires
-take_out-rows-requires c = (c.requires.0, found_within _ _ _ _ c.requires.4)
-
-pub overflow_cast-row_weight : goal.overflow_cast-row_weight
-overflow_cast-row_weight c = record { fits = omega (arith, c.weight-weight.ensures, weight_ok c.args.path (record { long = c.requires.1.long; short = c.requires.1.short })) }
+room_sought : (c : After-make_room-room) → Sought c.take_out-rows.new.state c.make_room-room.new.state c.take_out-rows.result c.args.time c.weight-weight.result c.make_room-room.result
+room_sought c = sought _ _ _ _ _ _ c.make_room-room.auto.state c.make_room-room.ensures
 
 pub make_room-room-requires : goal.make_room-room-requires
-make_room-room-requires c =
-    let key_out : (KeyOut c.args.key c.args.path c.args.n c.take_out-rows.result c.weight-weight.result c.args.state.now c.take_out-rows.new.state) = let o = c.take_out-rows in
-    record { sound = c.requires.0; reached = record { size = o.auto.state; state = o.ensures _ c.requires.4 }; weight = c.weight-weight.ensures } in
-    room_asked key_out _ c.requires.2
+make_room-room-requires c = room_asked (key_out (goal.at.make_room-room-requires c).After-weight-weight) _ c.requires.0.seq
 
 pub file_in_room-requires : goal.file_in_room-requires
 file_in_room-requires c =
-    let key_out : (KeyOut c.args.key c.args.path c.args.n c.take_out-rows.result c.weight-weight.result c.args.state.now c.take_out-rows.new.state) = let o = c.take_out-rows in
-    record { sound = c.requires.0; reached = record { size = o.auto.state; state = o.ensures _ c.requires.4 }; weight = c.weight-weight.ensures } in
-    let room_sought : (Sought c.take_out-rows.new.state c.make_room-room.new.state c.take_out-rows.result c.args.time c.weight-weight.result c.make_room-room.result) = sought _ _ _ _ _ _ c.make_room-room.auto.state c.make_room-room.ensures in
-    let e = c.verified_entry_of-e in
-    (row_asked key_out _ room_sought c.requires.2 c.requires.3, omega (arith, ap (λ (p : Path). p.len) e.ensures.1, c.requires.1.short))
+    let a = goal.at.file_in_room-requires c in (
+      row_asked (key_out a.After-weight-weight) _ (room_sought a.After-make_room-room) c.requires.0.seq c.requires.0.place,
+      omega (arith, ap (λ (p : Path). p.len) c.verified_entry_of-e.ensures.1, c.requires.0.path.short),
+    )
 
 pub returns : goal.returns
 returns c =
-    let key_out : (KeyOut c.args.key c.args.path c.args.n c.take_out-rows.result c.weight-weight.result c.args.state.now c.take_out-rows.new.state) = let o = c.take_out-rows in
-    record { sound = c.requires.0; reached = record { size = o.auto.state; state = o.ensures _ c.requires.4 }; weight = c.weight-weight.ensures } in
-    let room_sought : (Sought c.take_out-rows.new.state c.make_room-room.new.state c.take_out-rows.result c.args.time c.weight-weight.result c.make_room-room.result) = sought _ _ _ _ _ _ c.make_room-room.auto.state c.make_room-room.ensures in
-    let e = c.verified_entry_of-e in
-    (insert_said key_out _ room_sought _, insert_left key_out _ room_sought _ (e.ensures.0 _ c.requires.4) _ _ c.file_in_room.ensures)
+    let a = goal.at.returns c in
+    let k = key_out a.After-weight-weight in
+    let r = room_sought a.After-make_room-room in
+    record { says = insert_said k _ r _; state = insert_left k _ r _ (c.verified_entry_of-e.ensures.0 _ c.requires.1) _ _ c.file_in_room.ensures }

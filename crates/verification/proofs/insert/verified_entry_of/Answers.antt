@@ -1,12 +1,7 @@
 -- verified_entry with an MTU is set_mtu of the one without, so the cases of mtu are its cases.
 use mathlib.Core.Path.{◌∙◌}
-use Rattle.verification.proofs.VerifiedRows.{entry_plain, entry_with_mtu}
+use Rattle.verification.proofs.VerifiedRows.{entry_with_mtu}
 use Rattle.verification.proofs.insert.verified_entry_of.Goals as goal
-
-pub returns-in-None : goal.returns-in-None
-returns-in-None c =
-    let e = c.plain_entry-e in
-    (λ k f. entry_plain k _ _ _ (e.ensures.0 k f) c.in-None.is, e.ensures.1)
 
 pub returns-in-Some : goal.returns-in-Some
 returns-in-Some c =
