@@ -149,8 +149,8 @@ pub extern "C" fn coord_cache_get_unchecked(
 {
     let k = address(key);
     let place = lookups::get::get_place(state, k, time);
-    *at = place.at as u64;
-    tell(replies::part::part_reply(place.bytes), values)
+    *at = place.start as u64;
+    tell(replies::part::part_reply(place.end - place.start), values)
 }
 
 #[unsafe(no_mangle)]
@@ -166,8 +166,8 @@ pub extern "C" fn coord_cache_get_and_touch_unchecked(
 {
     let k = address(key);
     let place = lookups::touch::touch_place(state, k, time);
-    *at = place.at as u64;
-    tell(replies::part::part_reply(place.bytes), values)
+    *at = place.start as u64;
+    tell(replies::part::part_reply(place.end - place.start), values)
 }
 
 // Found; the bytes of the row that leaves go into `row`.
