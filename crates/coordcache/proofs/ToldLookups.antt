@@ -1,6 +1,7 @@
 -- What the exported lookups and remove tell of a sound memory: beside the reply, where the path stands, or the bytes of the row that left.
 use mathlib.Core.Path.{◌≡◌, refl, sym, ap, ◌∙◌, subst}
-use Prim.Native.Nat.{ℕ}
+use Prim.Native.Nat.{ℕ, ◌-◌}
+use native.Mathlib.Omega.{arith}
 use mathlib.Core.List.{List}
 use mathlib.Core.Bool.{true}
 use lib.Dec.{eqb}
@@ -34,38 +35,38 @@ part_done : (bytes : ℕ) → (part_reply bytes).refusal ≡ 0
 unfolding part_reply says
 part_done bytes = by_cond (λ (r : Reply). r.refusal ≡ 0) (eqb bytes 0) (λ e. refl) (λ e. refl)
 
-part_length : (k : NodeAddr) (time : ℕ) (m : List ℕ) (at bytes : ℕ) → StandsAt k time m at bytes → bytes ≡ length (got_part k time m)
-part_length k time m at bytes s = sym (length_cut at bytes m s.inside) ∙ ap length s.part
+part_length : (k : NodeAddr) (time : ℕ) (m : List ℕ) (start end : ℕ) → StandsAt k time m start end → end - start ≡ length (got_part k time m)
+part_length k time m start end s = sym (length_cut start (end - start) m (omega (arith, s.ordered, s.inside))) ∙ ap length s.part
 
 -- ---- the part in the memory m after a lookup, by the address k' that the bytes of the key are
 
-module _ (m : List ℕ) (k' : NodeAddr) (time at : ℕ) {k : NodeAddr} {bytes : ℕ} (s : StandsAt k time m at bytes) (f : k ≡ k') where
-  pub part_there : PartAt at m (got_part k' time m)
+module _ (m : List ℕ) (k' : NodeAddr) (time start : ℕ) {k : NodeAddr} {end : ℕ} (s : StandsAt k time m start end) (f : k ≡ k') where
+  pub part_there : PartAt start m (got_part k' time m)
   part_there =
-      let whole : PartAt at m (got_part k time m) = ap (λ (j : ℕ). cut at j m) (sym (part_length k time m at bytes s)) ∙ s.part in
-      subst (λ (x : NodeAddr). PartAt at m (got_part x time m)) f whole
+      let whole : PartAt start m (got_part k time m) = ap (λ (j : ℕ). cut start j m) (sym (part_length k time m start end s)) ∙ s.part in
+      subst (λ (x : NodeAddr). PartAt start m (got_part x time m)) f whole
 
-  pub place_told_lem : (before : ℕ) {n : ℕ} {r : Reply} → r ≡ part_reply bytes → n ≡ r.refusal → at ≡ place_told n before k' time m
+  pub place_told_lem : (before : ℕ) {n : ℕ} {r : Reply} → r ≡ part_reply (end - start) → n ≡ r.refusal → start ≡ place_told n before k' time m
   unfolding place_told
   place_told_lem before {n} e a =
-      let done : n ≡ 0 = a ∙ ap (λ (x : Reply). x.refusal) e ∙ part_done bytes in
+      let done : n ≡ 0 = a ∙ ap (λ (x : Reply). x.refusal) e ∙ part_done (end - start) in
       s.own ∙ ap (λ (x : NodeAddr). place_found x time m) f ∙ rw (eq-eqb n 0 done)
 
 -- ---- what is told, by the same address
 
 module _ (l : List ℕ) (k' : NodeAddr) {k : NodeAddr} {r : Reply} {n : ℕ} {vs : List ℕ} (f : k ≡ k') (a : n ≡ r.refusal) (b : vs ≡ r.values) where
-  pub got_told : (time : ℕ) {at bytes : ℕ} → StandsAt k time l at bytes → r ≡ part_reply bytes → l ≡ (call l (Get k time)).memory
+  pub got_told : (time : ℕ) {start end : ℕ} → StandsAt k time l start end → r ≡ part_reply (end - start) → l ≡ (call l (Get k time)).memory
       → sound (capacity l) (view l) ≡ true → Told (call l (Get k' time)) n vs l
-  got_told time {at} {bytes} s e d o =
-      told_call a b l (e ∙ ap part_reply (part_length k time l at bytes s) ∙ got_reply l k time o) refl d (ap (λ (x : NodeAddr). Get x time) f)
+  got_told time {start} {end} s e d o =
+      told_call a b l (e ∙ ap part_reply (part_length k time l start end s) ∙ got_reply l k time o) refl d (ap (λ (x : NodeAddr). Get x time) f)
 
   -- get_and_touch replies what get does on the memory m after it
-  pub touched_told : (m : List ℕ) (time : ℕ) {at bytes : ℕ} → StandsAt k time m at bytes → r ≡ part_reply bytes
+  pub touched_told : (m : List ℕ) (time : ℕ) {start end : ℕ} → StandsAt k time m start end → r ≡ part_reply (end - start)
       → m ≡ (call l (GetAndTouch k time)).memory → sound (capacity l) (view l) ≡ true → Bytes l → AddrFits k → Small number_size time
       → Told (call l (GetAndTouch k' time)) n vs m
-  touched_told m time {at} {bytes} s e d o g y z =
+  touched_told m time {start} {end} s e d o g y z =
       let later : sound (capacity m) (view m) ≡ true = rw d (lent_sound l (Asked (GetAndTouch k time)) g (y, z) o) in
-      let got = e ∙ ap part_reply (part_length k time m at bytes s) ∙ got_reply m k time later in
+      let got = e ∙ ap part_reply (part_length k time m start end s) ∙ got_reply m k time later in
       let touched = ap (λ (x : List ℕ). reply (call x (Get k time)).answer) d ∙ ap reply (got_after_touch l k time g (y, z)) in
       told_call a b l (got ∙ touched) refl d (ap (λ (x : NodeAddr). GetAndTouch x time) f)
 

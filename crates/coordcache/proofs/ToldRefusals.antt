@@ -13,13 +13,13 @@ use Rattle.rules.specs.Sound.{sound}
 use Rattle.rules.specs.Calls.{Call, Refused}
 use Rattle.rules.specs.Commands.{reply}
 use Rattle.rules.specs.Memory.{capacity, view}
-use Rattle.rules.specs.Lent.{call, got_part}
+use Rattle.rules.specs.Lent.{Lent, call, got_part}
 use Rattle.rules.proofs.Public.{unsound_one}
 use Rattle.lookups.proofs.UnsoundLookups.{one_got}
-use Rattle.boundary.specs.Exported.{Told, PartAt, funding_from, funded, row_taken}
+use Rattle.boundary.specs.Exported.{PartAt, funding_from, funded, row_taken}
 use Rattle.boundary.proofs.Operands.{none_taken}
 use Rattle.coordcache.specs.Places.{place_told}
-use Rattle.coordcache.proofs.ToldReplies.{told}
+use Rattle.coordcache.proofs.ToldReplies.{Says, handed}
 
 -- ---- the test of soundness
 
@@ -32,17 +32,26 @@ module _ (l : List ℕ) {b : Bool} (e : b ≡ sound (capacity l) (view l)) (g : 
   found_unsound : sound (capacity l) (view l) ≡ false
   found_unsound = sym e ∙ g
 
-  pub one_told : (q : Call) {r : Reply} {n : ℕ} {vs : List ℕ} → r ≡ refuses 1 → n ≡ r.refusal → vs ≡ r.values → Told (call l q) n vs l
+  pub one_leaves : (q : Call) → l ≡ (call l q).memory
+  one_leaves q = sym (unsound_one l q found_unsound).memory
+
+  pub one_says : (q : Call) {r : Reply} {n : ℕ} {vs : List ℕ} → r ≡ refuses 1 → n ≡ r.refusal → vs ≡ r.values → Says (call l q) n vs
   unfolding reply
-  one_told q w a b = let u = unsound_one l q found_unsound in told a b (call l q) (w ∙ sym (ap reply u.answer)) (sym u.memory)
+  one_says q w a b = handed a b ∙ w ∙ sym (ap reply (unsound_one l q found_unsound).answer)
 
   -- with a funding whose kind names one
-  pub one_told_funded : (kind amount : ℕ) (f : Funding → Call) {r : Reply} {n : ℕ} {vs : List ℕ}
-      → kind ≤ 1 → r ≡ refuses 1 → n ≡ r.refusal → vs ≡ r.values → Told (funded l kind amount f) n vs l
+  pub one_leaves_funded : (kind amount : ℕ) (f : Funding → Call) → kind ≤ 1 → l ≡ (funded l kind amount f).memory
   unfolding funded funding_from
-  one_told_funded zero amount f z w a b = one_told (f _) w a b
-  one_told_funded (suc zero) amount f z w a b = one_told (f _) w a b
-  one_told_funded (suc (suc k)) amount f z w a b = let y : ⊥ = omega arith in absurd y
+  one_leaves_funded zero amount f z = one_leaves (f _)
+  one_leaves_funded (suc zero) amount f z = one_leaves (f _)
+  one_leaves_funded (suc (suc k)) amount f z = let y : ⊥ = omega arith in absurd y
+
+  pub one_says_funded : (kind amount : ℕ) (f : Funding → Call) {r : Reply} {n : ℕ} {vs : List ℕ}
+      → kind ≤ 1 → r ≡ refuses 1 → n ≡ r.refusal → vs ≡ r.values → Says (funded l kind amount f) n vs
+  unfolding funded funding_from
+  one_says_funded zero amount f z w a b = one_says (f _) w a b
+  one_says_funded (suc zero) amount f z w a b = one_says (f _) w a b
+  one_says_funded (suc (suc k)) amount f z w a b = let y : ⊥ = omega arith in absurd y
 
   -- a lookup finds no part
   pub no_part : (k : NodeAddr) (time at : ℕ) → PartAt at l (got_part k time l)
@@ -61,9 +70,16 @@ place_kept l k time at {n} w a =
 
 -- ---- a funding kind over 1
 
-pub six_told : (l : List ℕ) (kind amount : ℕ) (f : Funding → Call) {r : Reply} {n : ℕ} {vs : List ℕ}
-    → 1 < kind → r ≡ refuses 6 → n ≡ r.refusal → vs ≡ r.values → Told (funded l kind amount f) n vs l
-unfolding funded funding_from reply
-six_told l kind amount f z w a b =
-    rw (ne_eqb kind 0 (λ q. let y : ⊥ = omega arith in y), ne_eqb kind 1 (λ q. let y : ⊥ = omega arith in y))
-    (told a b (record { answer = Refused 6; memory = l }) w refl)
+module _ (l : List ℕ) (kind amount : ℕ) (f : Funding → Call) (z : 1 < kind) where
+  six : funded l kind amount f ≡ record { answer = Refused 6; memory = l }
+  unfolding funded funding_from
+  six = rw (ne_eqb kind 0 (λ q. let y : ⊥ = omega arith in y), ne_eqb kind 1 (λ q. let y : ⊥ = omega arith in y))
+
+  pub six_leaves : l ≡ (funded l kind amount f).memory
+  six_leaves = ap (λ (t : Lent). t.memory) (sym six)
+
+  pub six_says : {r : Reply} {n : ℕ} {vs : List ℕ} → r ≡ refuses 6 → n ≡ r.refusal → vs ≡ r.values → Says (funded l kind amount f) n vs
+  unfolding reply
+  six_says w a b = handed a b ∙ w ∙ ap (λ (t : Lent). reply t.answer) (sym six)
+
+pub ruleset refused = (found_sound, one_leaves, one_says, one_leaves_funded, one_says_funded, no_part, no_row, place_kept, six_leaves, six_says)

@@ -13,12 +13,17 @@ use Rattle.rules.specs.Commands.{reply}
 use Rattle.rules.specs.Lent.{Lent, call}
 use Rattle.boundary.specs.Exported.{Told, funding_from, funded}
 
+-- what is told is the rules' reply
+abbrev pub Says : Lent → ℕ → List ℕ → Type 0
+Says t n vs = ◌≡◌ {A = Reply} (record { refusal = n; values = vs }) (reply t.answer)
+
 -- a reply r was handed over: its number came back, and its values went out
 module _ {r : Reply} {n : ℕ} {vs : List ℕ} (a : n ≡ r.refusal) (b : vs ≡ r.values) where
-  pub told : (t : Lent) {m : List ℕ} → r ≡ reply t.answer → m ≡ t.memory → Told t n vs m
-  told t e d =
-      let w : ◌≡◌ {A = Reply} (record { refusal = n; values = vs }) (record { refusal = r.refusal; values = r.values }) = rw (a, b) in
-      record { says = w ∙ e; leaves = d }
+  pub handed : ◌≡◌ {A = Reply} (record { refusal = n; values = vs }) r
+  handed = let w : ◌≡◌ {A = Reply} (record { refusal = n; values = vs }) (record { refusal = r.refusal; values = r.values }) = rw (a, b) in w
+
+  told : (t : Lent) {m : List ℕ} → r ≡ reply t.answer → m ≡ t.memory → Told t n vs m
+  told t e d = record { says = handed ∙ e; leaves = d }
 
   -- the call q was made, and q is the call q' that the operands name
   pub told_call : (l : List ℕ) {q q' : Call} {x : Answer} {m : List ℕ} → r ≡ reply x → x ≡ (call l q).answer → m ≡ (call l q).memory → q ≡ q'

@@ -1,8 +1,11 @@
 // The calls for a memory in any condition: all but fresh refuse one that is not a sound state by 1, and is_sound only asks. Each is the test
 // and then the unchecked call; a funding kind over 1 is refused by 6 before it.
+#![tactic(auto, using(crate::proofs::ToldRefusals::refused))]
+
 ghost use Rattle.std.specs.Prelude.{◌≡◌};
 ghost use Rattle.rules.specs.Sound.{sound};
-ghost use Rattle.rules.specs.Calls.{Insert, InsertWithTtl, InsertFunded, InsertStated, InsertVerified, InsertVerifiedWithPathMtu, Get, GetAndTouch, Remove, Demote, ClearPathMtu, PurgeExpired, Clear, InvalidateViaNode, InvalidateOtherRoots, Stats, NextExpiry};
+ghost use Rattle.rules.specs.Calls.{Insert, InsertWithTtl, InsertFunded, InsertStated, InsertVerified, InsertVerifiedWithPathMtu};
+ghost use Rattle.rules.specs.Calls.{Get, GetAndTouch, Remove, Demote, ClearPathMtu, PurgeExpired, Clear, InvalidateViaNode, InvalidateOtherRoots, Stats, NextExpiry};
 ghost use Rattle.types.specs.Values.{bit};
 ghost use Rattle.rules.specs.Refusals.{Fresh};
 ghost use Rattle.rules.specs.Answers.{refusal_of};
@@ -165,7 +168,9 @@ pub extern "C" fn coord_cache_get(
     values: &mut [u64; 5],
     at: &mut u64,
 ) -> u8
-    ensures { Told (call state.now (Get (address_from key.now) time)) result values.new state.now × PartAt at.new state.now (got_part (address_from key.now) time state.now) × (at.new ≡ place_told result at.old (address_from key.now) time state.now) }
+    ensures told { Told (call state.now (Get (address_from key.now) time)) result values.new state.now }
+    ensures part { PartAt at.new state.now (got_part (address_from key.now) time state.now) }
+    ensures place { at.new ≡ place_told result at.old (address_from key.now) time state.now }
 {
     if !state::check::is_sound(state) {
         return tell(Reply::from(Refusal::UnsoundState), values);
@@ -181,7 +186,9 @@ pub extern "C" fn coord_cache_get_and_touch(
     values: &mut [u64; 5],
     at: &mut u64,
 ) -> u8
-    ensures { Told (call state.old (GetAndTouch (address_from key.now) time)) result values.new state.new × PartAt at.new state.new (got_part (address_from key.now) time state.new) × (at.new ≡ place_told result at.old (address_from key.now) time state.new) }
+    ensures told { Told (call state.old (GetAndTouch (address_from key.now) time)) result values.new state.new }
+    ensures part { PartAt at.new state.new (got_part (address_from key.now) time state.new) }
+    ensures place { at.new ≡ place_told result at.old (address_from key.now) time state.new }
 {
     if !state::check::is_sound(state) {
         return tell(Reply::from(Refusal::UnsoundState), values);
@@ -197,7 +204,8 @@ pub extern "C" fn coord_cache_remove(
     values: &mut [u64; 5],
     row: &mut [u8; ROW],
 ) -> u8
-    ensures { Told (call state.old (Remove (address_from key.now))) result values.new state.new × (row.new ≡ row_taken (address_from key.now) state.old row.old) }
+    ensures told { Told (call state.old (Remove (address_from key.now))) result values.new state.new }
+    ensures row_left { row.new ≡ row_taken (address_from key.now) state.old row.old }
 {
     if !state::check::is_sound(state) {
         return tell(Reply::from(Refusal::UnsoundState), values);

@@ -3,7 +3,8 @@
 
 ghost use Rattle.std.specs.Prelude.{◌≡◌, true};
 ghost use Rattle.rules.specs.Sound.{sound};
-ghost use Rattle.rules.specs.Calls.{Insert, InsertWithTtl, InsertFunded, InsertStated, InsertVerified, InsertVerifiedWithPathMtu, Get, GetAndTouch, Remove, Demote, ClearPathMtu, PurgeExpired, Clear, InvalidateViaNode, InvalidateOtherRoots, Stats, NextExpiry};
+ghost use Rattle.rules.specs.Calls.{Insert, InsertWithTtl, InsertFunded, InsertStated, InsertVerified, InsertVerifiedWithPathMtu};
+ghost use Rattle.rules.specs.Calls.{Get, GetAndTouch, Remove, Demote, ClearPathMtu, PurgeExpired, Clear, InvalidateViaNode, InvalidateOtherRoots, Stats, NextExpiry};
 ghost use Rattle.rules.specs.Memory.{capacity, view};
 ghost use Rattle.rules.specs.Lent.{call, got_part};
 ghost use Rattle.boundary.specs.Exported.{address_from, path_from, funded, Told, PartAt, row_taken};
@@ -51,6 +52,7 @@ pub extern "C" fn coord_cache_insert_with_ttl_unchecked(
     tell(reply(answer), values)
 }
 
+#[tactic(auto, using(crate::proofs::ToldRefusals::refused))]
 #[unsafe(no_mangle)]
 pub extern "C" fn coord_cache_insert_funded_unchecked(
     state: &mut [u8],
@@ -74,6 +76,7 @@ pub extern "C" fn coord_cache_insert_funded_unchecked(
     tell(reply(answer), values)
 }
 
+#[tactic(auto, using(crate::proofs::ToldRefusals::refused))]
 #[unsafe(no_mangle)]
 pub extern "C" fn coord_cache_insert_stated_unchecked(
     state: &mut [u8],
@@ -136,6 +139,7 @@ pub extern "C" fn coord_cache_insert_verified_with_path_mtu_unchecked(
 }
 
 // Lookups: found, length. The elements stand in the state from byte `at` on.
+#[tactic(auto, using(crate::proofs::ToldLookups::part_there, crate::proofs::ToldLookups::place_told_lem))]
 #[unsafe(no_mangle)]
 pub extern "C" fn coord_cache_get_unchecked(
     state: &[u8],
@@ -145,12 +149,14 @@ pub extern "C" fn coord_cache_get_unchecked(
     at: &mut u64,
 ) -> u8
     requires { sound (capacity state.now) (view state.now) ≡ true }
-    ensures { Told (call state.now (Get (address_from key.now) time)) result values.new state.now × PartAt at.new state.now (got_part (address_from key.now) time state.now) × (at.new ≡ place_told result at.old (address_from key.now) time state.now) }
+    ensures told { Told (call state.now (Get (address_from key.now) time)) result values.new state.now }
+    ensures part { PartAt at.new state.now (got_part (address_from key.now) time state.now) }
+    ensures place { at.new ≡ place_told result at.old (address_from key.now) time state.now }
 {
     let k = address(key);
     let place = lookups::get::get_place(state, k, time);
-    *at = place.at as u64;
-    tell(replies::part::part_reply(place.bytes), values)
+    *at = place.start as u64;
+    tell(replies::part::part_reply(place.end - place.start), values)
 }
 
 #[unsafe(no_mangle)]
@@ -162,12 +168,14 @@ pub extern "C" fn coord_cache_get_and_touch_unchecked(
     at: &mut u64,
 ) -> u8
     requires { sound (capacity state.old) (view state.old) ≡ true }
-    ensures { Told (call state.old (GetAndTouch (address_from key.now) time)) result values.new state.new × PartAt at.new state.new (got_part (address_from key.now) time state.new) × (at.new ≡ place_told result at.old (address_from key.now) time state.new) }
+    ensures told { Told (call state.old (GetAndTouch (address_from key.now) time)) result values.new state.new }
+    ensures part { PartAt at.new state.new (got_part (address_from key.now) time state.new) }
+    ensures place { at.new ≡ place_told result at.old (address_from key.now) time state.new }
 {
     let k = address(key);
     let place = lookups::touch::touch_place(state, k, time);
-    *at = place.at as u64;
-    tell(replies::part::part_reply(place.bytes), values)
+    *at = place.start as u64;
+    tell(replies::part::part_reply(place.end - place.start), values)
 }
 
 // Found; the bytes of the row that leaves go into `row`.
@@ -180,7 +188,8 @@ pub extern "C" fn coord_cache_remove_unchecked(
     row: &mut [u8; ROW],
 ) -> u8
     requires { sound (capacity state.old) (view state.old) ≡ true }
-    ensures { Told (call state.old (Remove (address_from key.now))) result values.new state.new × (row.new ≡ row_taken (address_from key.now) state.old row.old) }
+    ensures told { Told (call state.old (Remove (address_from key.now))) result values.new state.new }
+    ensures row_left { row.new ≡ row_taken (address_from key.now) state.old row.old }
 {
     let k = address(key);
     take_row(state, k, row);

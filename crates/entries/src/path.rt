@@ -9,15 +9,9 @@ ghost use Rattle.rules.specs.Layout.{coord_entry_size, entry_offset, head_size, 
 use crate::addr;
 use memory::row::{Row, row_at};
 use raw::layout::{ADDRESS, ELEMENT, HEAD, PATH_PLACES, ROW};
+use std::ops::Range;
 use types::coord::{CoordEntry, PLACES, Path};
 use types::node_addr::NodeAddr;
-
-// Where a stored path stands in the memory: its first byte, and how many bytes it has.
-#[derive(Clone, Copy)]
-pub struct PathPlace {
-    pub at: usize,
-    pub bytes: usize,
-}
 
 // Whether the row's path and this one are the same, element by element, where it stands.
 #[tactic(auto, using(crate::proofs::PathElements::elements_count, crate::proofs::PathElements::path_turn, types::proofs::PathLaws::entries_end, types::proofs::PathLaws::lengths_differ), unfolding(types::specs::Paths::same_path))]
@@ -66,15 +60,14 @@ pub fn root_is(row: &Row<'_>, a: NodeAddr) -> bool
 }
 
 // Where the elements of row i of n stand, up to the length.
-pub fn path_place(state: &[u8], n: usize, i: usize) -> PathPlace
+pub fn path_place(state: &[u8], n: usize, i: usize) -> Range<usize>
     requires { (i < n) × (head_size + n * row_size ≤ length state.now) }
-    ensures { result ≡ record { at = head_size + i * row_size + (entry_offset + places_offset); bytes = (row_at i (view_rows n state.now).rows).entry.path.len * coord_entry_size } }
+    ensures starts { result.start ≡ head_size + i * row_size + (entry_offset + places_offset) }
+    ensures ends { result.end ≡ result.start + (row_at i (view_rows n state.now).rows).entry.path.len * coord_entry_size }
 {
     let len = row_at(state, n, i).path_len() as usize;
-    PathPlace {
-        at: HEAD + i * ROW + PATH_PLACES,
-        bytes: len * ELEMENT,
-    }
+    let start = HEAD + i * ROW + PATH_PLACES;
+    start..start + len * ELEMENT
 }
 
 // All places and the length.

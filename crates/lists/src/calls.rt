@@ -1,4 +1,4 @@
-// The calls by 01's codes. A path of `len` elements stands at ROOT; one that is stated starts at the key.
+// The calls on a memory. A path of `len` elements stands at ROOT; one that is stated starts at the key.
 use crate::line::Call;
 use lookups::{demote, get, touch};
 use placement::calls::{insert, insert_funded, insert_stated, insert_with_ttl};
@@ -6,7 +6,6 @@ use replies::answer::{reply, touch_reply};
 use replies::part::part_reply;
 use types::coord::{CoordEntry, Path};
 use types::node_addr::{ADDRESS_BYTES, NodeAddr};
-use types::placed::Funding;
 use types::reply::Reply;
 use verification::calls::{insert_verified, insert_verified_with_path_mtu};
 
@@ -54,30 +53,30 @@ fn get_reply(memory: &[u8], key: NodeAddr, time: u64) -> Reply {
 
 impl Call {
     pub fn on(self, memory: &mut [u8], key: u64) -> Reply {
-        let Call {
-            len,
-            time,
-            more,
-            ..
-        } = self;
         let addr = address(key);
-        let funding = Funding::Upto(more);
-        match self.code {
-            0 => reply(state::fresh::fresh(memory, key, len)),
-            10 => reply(insert(memory, addr, path(ROOT, len), time)),
-            11 => reply(insert_with_ttl(memory, addr, path(ROOT, len), time, more)),
-            12 => reply(insert_funded(memory, addr, path(ROOT, len), time, funding)),
-            13 => reply(insert_stated(memory, addr, path(key, len), time, funding)),
-            14 => reply(insert_verified(memory, addr, path(ROOT, len), time)),
-            15 => {
+        match self {
+            Call::Fresh { ttl } => reply(state::fresh::fresh(memory, key, ttl)),
+            Call::Insert { len, time } => reply(insert(memory, addr, path(ROOT, len), time)),
+            Call::InsertWithTtl { len, time, ttl } => {
+                reply(insert_with_ttl(memory, addr, path(ROOT, len), time, ttl))
+            }
+            Call::InsertFunded { len, time, funding } => {
+                reply(insert_funded(memory, addr, path(ROOT, len), time, funding))
+            }
+            Call::InsertStated { len, time, funding } => {
+                reply(insert_stated(memory, addr, path(key, len), time, funding))
+            }
+            Call::InsertVerified { len, time } => {
+                reply(insert_verified(memory, addr, path(ROOT, len), time))
+            }
+            Call::InsertVerifiedWithPathMtu { len, time, mtu } => {
                 let path = path(ROOT, len);
-                let mtu = (more % 65536) as u16;
                 reply(insert_verified_with_path_mtu(memory, addr, path, time, mtu))
             }
-            20 => get_reply(memory, addr, time),
-            21 => touch_reply(touch::touch(memory, addr, time)),
-            23 => reply(demote::demote(memory, addr)),
-            _ => reply(sweeps::clear(memory)),
+            Call::Get { time } => get_reply(memory, addr, time),
+            Call::Touch { time } => touch_reply(touch::touch(memory, addr, time)),
+            Call::Demote => reply(demote::demote(memory, addr)),
+            Call::Clear => reply(sweeps::clear(memory)),
         }
     }
 }

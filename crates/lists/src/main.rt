@@ -9,7 +9,7 @@ mod print;
 ghost use Rattle.std.specs.Prelude.{◌≡◌, length};
 ghost use Rattle.rules.specs.Layout.{memory_size};
 
-use line::{Call, Line};
+use line::{Calls, Line, Step};
 use memory::bounds::MAX_ROWS;
 use raw::layout::{HEAD, ROW, STAMP_SEQ};
 
@@ -20,12 +20,18 @@ const SHORT: usize = HEAD + FEW as usize * ROW;
 const LONG: usize = HEAD + MAX_ROWS as usize * ROW;
 
 // Only the last line is printed.
-fn make(rt: &impl Print, memory: &mut [u8], call: Call) {
-    for key in call.key..call.last {
+fn make(rt: &impl Print, memory: &mut [u8], calls: Calls) {
+    let Calls {
+        list,
+        call,
+        key: first,
+        last,
+    } = calls;
+    for key in first..last {
         call.on(memory, key);
     }
-    let reply = call.on(memory, call.key.max(call.last));
-    print::reply(rt, memory, call.list, reply);
+    let reply = call.on(memory, first.max(last));
+    print::reply(rt, memory, list, reply);
 }
 
 // The low byte of row 0's stamp, seq.
@@ -35,12 +41,11 @@ fn stamp(memory: &mut [u8], seq: u64) {
     }
 }
 
-// Codes past 01's are no calls.
-fn take(rt: &impl Print, memory: &mut [u8], call: Call) {
-    match call.code {
-        98 => print::row(rt, memory),
-        99 => stamp(memory, call.key),
-        _ => make(rt, memory, call),
+fn take(rt: &impl Print, memory: &mut [u8], step: Step) {
+    match step {
+        Step::PrintRow => print::row(rt, memory),
+        Step::Stamp(seq) => stamp(memory, seq),
+        Step::Calls(calls) => make(rt, memory, calls),
     }
 }
 
@@ -55,7 +60,7 @@ fn run(rt: &impl Print, text: &[u8], memory: &mut [u8], rows: u64)
     for line in lines {
         match Line::parse(line) {
             Some(Line::Only(for_rows)) => only = for_rows,
-            Some(Line::Call(call)) if only.unwrap_or(rows) == rows => take(rt, memory, call),
+            Some(Line::Step(step)) if only.unwrap_or(rows) == rows => take(rt, memory, step),
             _ => {}
         }
     }

@@ -1,5 +1,5 @@
 -- The part that get hands back is the path of the key's unexpired row, or nothing.
-use mathlib.Core.Path.{◌≡◌, refl, ap, ◌∙◌, subst}
+use mathlib.Core.Path.{◌≡◌, refl, ◌∙◌, subst}
 use Prim.Native.Nat.{ℕ, ◌+◌, ◌*◌, ◌-◌, ◌≤◌}
 use native.Mathlib.Omega.{arith}
 use mathlib.Core.List.{List, []}
@@ -15,18 +15,17 @@ use Rattle.rules.specs.Lookups.{unexpired_row}
 use Rattle.rules.specs.Calls.{Get, GetAndTouch, path_given, verified_write, draws_stamps}
 use Rattle.rules.specs.Refusals.{refusal, Asked, perform_request, perform, gives, serve}
 use Rattle.rules.specs.Answers.{refusal_of}
-use Rattle.rules.specs.Memory.{capacity, cut, view_rows, view}
-use Rattle.entries.specs.declared.path.PathPlace.{PathPlace}
+use Rattle.rules.specs.Memory.{capacity, view_rows, view}
 use Rattle.rules.specs.Lent.{Bytes, Typed, lent, call, path_part, found_part, got_part}
 use Rattle.rules.proofs.SoundTest.{RowOk}
 use Rattle.rules.proofs.RowLists.{every_at}
 use Rattle.rules.proofs.SoundKept.{step_sound}
 use Rattle.rules.proofs.LentMemory.{capacity_same, lent_request}
-use Rattle.rules.specs.Layout.{coord_entry_size, head_size, places_in_row, row_size}
+use Rattle.rules.specs.Layout.{coord_entry_size}
 use Rattle.types.specs.Paths.{path_places}
 use Rattle.refusals.proofs.SoundCalls.{done_rows, not_refused}
 use Rattle.refusals.proofs.SearchedKeys.{Found, inside}
-use Rattle.lookups.specs.Steps.{StandsAt, place_found}
+use Rattle.lookups.specs.Steps.{StandsAt, path_start, place_found}
 
 get_allowed : (l : List ℕ) (k : NodeAddr) (time : ℕ) → sound (capacity l) (view l) ≡ true → refusal (capacity l) (view l) (Asked (Get k time)) ≡ None
 unfolding path_given verified_write draws_stamps
@@ -55,32 +54,33 @@ module _ {k : NodeAddr} {n : ℕ} {o : Option ℕ} {l : List ℕ} (f : Found k n
     unfolding got_part found_part
     got_part_lem = rw (get_allowed l k time f.sound, unexpired, f.memory.same)
 
-  nothing_stands : (r : PathPlace) → unexpired_row k time (view_rows n l) ≡ None → r ≡ record { at = 0; bytes = 0 } → StandsAt k time l r.at r.bytes
+  nothing_stands : unexpired_row k time (view_rows n l) ≡ None → StandsAt k time l 0 0
   unfolding place_found
-  nothing_stands r e z = rw z (record { part = got_part_lem None e; inside = omega arith; own = rw (unexpired None e) })
+  nothing_stands e = record { part = got_part_lem None e; ordered = omega arith; inside = omega arith; own = rw (unexpired None e) }
 
 -- ---- where the part stands
 
-module _ {k : NodeAddr} {n : ℕ} {l : List ℕ} (time : ℕ) (r : PathPlace) where
-  pub absent_stands : Found k n None l → r ≡ record { at = 0; bytes = 0 } → StandsAt k time l r.at r.bytes
+module _ {k : NodeAddr} {n : ℕ} {l : List ℕ} (time : ℕ) where
+  pub absent_stands : Found k n None l → StandsAt k time l 0 0
   unfolding unexpired_row
-  absent_stands f z = nothing_stands f time r (rw f.row) z
+  absent_stands f = nothing_stands f time (rw f.row)
 
-  pub expired_stands : {i : ℕ} → Found k n (Some i) l → expired time (row_at i (view_rows n l).rows).entry ≡ true → r ≡ record { at = 0; bytes = 0 }
-      → StandsAt k time l r.at r.bytes
+  pub expired_stands : {i : ℕ} → Found k n (Some i) l → expired time (row_at i (view_rows n l).rows).entry ≡ true → StandsAt k time l 0 0
   unfolding unexpired_row
-  expired_stands f x z = nothing_stands f time r (rw (f.row, x)) z
+  expired_stands f x = nothing_stands f time (rw (f.row, x))
 
-  pub path_stands : {i : ℕ} → Found k n (Some i) l → expired time (row_at i (view_rows n l).rows).entry ≡ false
-      → r ≡ record { at = head_size + i * row_size + places_in_row; bytes = (row_at i (view_rows n l).rows).entry.path.len * coord_entry_size }
-      → StandsAt k time l r.at r.bytes
+  pub path_stands : {i start end : ℕ} → Found k n (Some i) l → expired time (row_at i (view_rows n l).rows).entry ≡ false
+      → start ≡ path_start i → end ≡ start + (row_at i (view_rows n l).rows).entry.path.len * coord_entry_size → StandsAt k time l start end
   unfolding unexpired_row path_part place_found
-  path_stands {i} f x z =
+  path_stands {i} {start} {end} f x a b =
       let e : unexpired_row k time (view_rows n l) ≡ Some i = rw (f.row, x) in
-      rw z (record { part = got_part_lem f time (Some i) e; inside = omega (arith, inside f, f.memory.long, path_short f); own = rw (unexpired f time (Some i) e) })
-
-pub part_from : (at bytes : ℕ) (l p : List ℕ) → cut at bytes l ≡ p → cut at (at + bytes - at) l ≡ p
-part_from at bytes l p e = ap (λ (j : ℕ). cut at j l) (let z : at + bytes - at ≡ bytes = omega arith in z) ∙ e
+      let z : end - start ≡ (row_at i (view_rows n l).rows).entry.path.len * coord_entry_size = omega arith in
+      record {
+        part = rw (z, a) (got_part_lem f time (Some i) e);
+        ordered = omega arith;
+        inside = omega (arith, inside f, f.memory.long, path_short f);
+        own = a ∙ rw (unexpired f time (Some i) e);
+      }
 
 -- ---- get_and_touch
 

@@ -3,7 +3,7 @@ use mathlib.Core.Path.{◌≡◌, refl, sym, ap, ◌∙◌, subst}
 use Prim.Native.Nat.{ℕ, ◌+◌, ◌*◌, ◌≤◌}
 use native.Mathlib.Omega.{arith}
 use mathlib.Core.List.{List}
-use Rattle.std.specs.Prelude.{Option, None, Some, is_some}
+use Rattle.std.specs.Prelude.{Option, None, Some}
 use mathlib.Core.Bool.{Bool, true, false, cond}
 use lib.ListN.{length}
 use Rattle.types.specs.declared.node_addr.NodeAddr.{NodeAddr}
@@ -17,51 +17,54 @@ use Rattle.rules.specs.Lookups.{rewrite, with_entry}
 use Rattle.rules.specs.Calls.{GetAndTouch}
 use Rattle.rules.specs.Memory.{capacity, view_rows, view}
 use Rattle.rules.specs.Lent.{Bytes, Typed, call}
-use Rattle.rules.proofs.Addresses.{contradiction}
 use Rattle.rules.proofs.RowLists.{cores, find_at, length_change, rising_unique}
 use Rattle.rules.proofs.Others.{take_out_gone}
 use Rattle.rules.proofs.Sizes.{small8_less}
 use Rattle.rules.proofs.Public.{sound_memory}
 use Rattle.rules.proofs.GotPart.{RefreshedRow, refreshed_row, find_gone}
-use Rattle.rules.specs.Layout.{coord_entry_size, head_size, places_in_row, row_size}
+use Rattle.rules.specs.Layout.{coord_entry_size}
 use Rattle.rules.proofs.Foreign.{view_length}
-use Rattle.entries.specs.declared.path.PathPlace.{PathPlace}
+use Rattle.std.specs.declared.ops.Range.{Range}
 use Rattle.refusals.proofs.SearchedKeys.{Found, inside}
-use Rattle.lookups.specs.Steps.{touched_at, touch_says, touched_place, StandsAt}
+use Rattle.lookups.specs.Steps.{path_start, touched_at, touch_says, touched_place, StandsAt}
 use Rattle.lookups.proofs.FoundRows.{absent_stands, path_stands, touch_sound}
 use Rattle.lookups.proofs.TouchedRows.{touched_at_lem, touched_absent}
 
 -- ---- row i
 
 -- the path's place in row i
-abbrev standing : ℕ → State → PathPlace
-standing i s = record { at = head_size + i * row_size + places_in_row; bytes = (row_at i s.rows).entry.path.len * coord_entry_size }
+abbrev standing : ℕ → State → Range ℕ
+standing i s = record { start = path_start i; end = path_start i + (row_at i s.rows).entry.path.len * coord_entry_size }
 
-abbrev nowhere : PathPlace
-nowhere = record { at = 0; bytes = 0 }
+abbrev nowhere : Range ℕ
+nowhere = record { start = 0; end = 0 }
 
-module _ (i time : ℕ) (s : State) (a : Option ℕ) (p : PathPlace) (e : a ≡ touch_says i time s) where
-  pub placed : is_some a ≡ true → p ≡ standing i s → p ≡ touched_place i time s
+module _ (i time : ℕ) (s : State) {a : Option ℕ} (e : a ≡ touch_says i time s) where
+  pub placed : (p : Range ℕ) {n : ℕ} → a ≡ Some n → p.start ≡ path_start i → p.end ≡ p.start + (row_at i s.rows).entry.path.len * coord_entry_size
+      → p ≡ touched_place i time s
   unfolding touch_says touched_place
-  placed f g = go (expired time (row_at i s.rows).entry) e
+  placed p {n} f x y = go (expired time (row_at i s.rows).entry) (sym f ∙ e)
     where
-      go : (b : Bool) → a ≡ cond b None (Some (row_at i s.rows).entry.path.len) → p ≡ cond b nowhere (standing i s)
-      go true h = contradiction f (ap is_some h)
+      g : ◌≡◌ {A = Range ℕ} (record { start = p.start; end = p.end }) (standing i s)
+      g = rw (y, x)
+
+      go : (b : Bool) → Some n ≡ cond b None (Some (row_at i s.rows).entry.path.len) → p ≡ cond b nowhere (standing i s)
+      go true h = absurd (cc)
       go false h = g
 
-  pub unplaced : is_some a ≡ false → p ≡ nowhere → p ≡ touched_place i time s
+  pub unplaced : a ≡ None → nowhere ≡ touched_place i time s
   unfolding touch_says touched_place
-  unplaced f g = go (expired time (row_at i s.rows).entry) e
+  unplaced f = go (expired time (row_at i s.rows).entry) (sym f ∙ e)
     where
-      go : (b : Bool) → a ≡ cond b None (Some (row_at i s.rows).entry.path.len) → p ≡ cond b nowhere (standing i s)
-      go true h = g
-      go false h = contradiction (ap is_some h) f
+      go : (b : Bool) → None ≡ cond b None (Some (row_at i s.rows).entry.path.len) → nowhere ≡ cond b nowhere (standing i s)
+      go true h = refl
+      go false h = absurd (cc)
 
 -- ---- the call
 
 -- what touch_place tells
-abbrev pub Placed : List ℕ → NodeAddr → ℕ → PathPlace → List ℕ → Type 0
-Placed l k time r m = StandsAt k time m r.at r.bytes × (m ≡ (call l (GetAndTouch k time)).memory)
+abbrev pub Placed : List ℕ → NodeAddr → ℕ → Range ℕ → List ℕ → Type 0
+Placed l k time r m = StandsAt k time m r.start r.end × (m ≡ (call l (GetAndTouch k time)).memory)
 
 refreshed_count : (n : ℕ) (l m : List ℕ) (i time : ℕ) → view_rows n m ≡ rewrite (refresh time (view_rows n l).default_ttl) i (view_rows n l) → (view_rows 0 m).row_count ≡ (view_rows n l).row_count
 unfolding view_rows rewrite with_rows
@@ -75,21 +78,23 @@ out_count : (j i : ℕ) (s : State) (m : List ℕ) → j ≡ length (take_out i 
 unfolding view_rows take_out with_only_rows
 out_count j i s m e v = e ∙ sym (ap (λ (x : State). x.row_count) v)
 
-module _ {k : NodeAddr} {n : ℕ} {l : List ℕ} (time : ℕ) (r : PathPlace) where
-  module _ {i : ℕ} (f : Found k n (Some i) l) (m : List ℕ) where
+module _ {k : NodeAddr} {n : ℕ} {l : List ℕ} (time : ℕ) where
+  module _ {i : ℕ} (f : Found k n (Some i) l) (r : Range ℕ) (m : List ℕ) where
     -- a row that stays: its path stands where it stood
     kept_stands : time ≤ last_time → sound (capacity m) (view m) ≡ true → view_rows n m ≡ rewrite (refresh time (view_rows n l).default_ttl) i (view_rows n l)
-        → r ≡ standing i (view_rows n l) → StandsAt k time m r.at r.bytes
+        → r ≡ standing i (view_rows n l) → StandsAt k time m r.start r.end
     kept_stands t h v e =
         let d : RefreshedRow k time i (view_rows n l) (view_rows n m) =
         subst (RefreshedRow k time i (view_rows n l)) (sym v) (refreshed_row k time (view_rows n l) i t f.row (omega (arith, inside f, f.memory.rows))) in
         let c : n ≡ (view_rows 0 m).row_count = sym (refreshed_count n l m i time v ∙ f.memory.sound.counted ∙ f.memory.rows) in
         let g : Found k n (Some i) m = record { sound = h; memory = sound_memory m n h c; row = d.held } in
-        path_stands time r g d.unexpired (e ∙ ap (λ (p : Path). record { at = head_size + i * row_size + places_in_row; bytes = p.len * coord_entry_size }) (sym d.path))
+        let y = e ∙ ap (λ (p : Path). record { start = path_start i; end = path_start i + p.len * coord_entry_size }) (sym d.path) in
+        let a = ap (λ (p : Range ℕ). p.start) y in
+        path_stands time g d.unexpired a (ap (λ (p : Range ℕ). p.end) y ∙ rw a)
 
     -- a row that leaves: its key has none
     out_stands : (j : ℕ) → sound (capacity m) (view m) ≡ true → j ≡ length (take_out i (view_rows n l)).rows → view_rows j m ≡ take_out i (view_rows n l) → r ≡ nowhere
-        → StandsAt k time m r.at r.bytes
+        → StandsAt k time m r.start r.end
     out_stands j h ej v e =
         let a = find_at k (view_rows n l).rows i f.row in
         let g = find_gone k _ (take_out_gone k i (view_rows n l) (rising_unique (cores (view_rows n l).rows) f.memory.sound.rising) a.inside a.key) in
@@ -98,7 +103,7 @@ module _ {k : NodeAddr} {n : ℕ} {l : List ℕ} (time : ℕ) (r : PathPlace) wh
           memory = sound_memory m j h (out_count j i (view_rows n l) m ej v);
           row = ap (λ (x : State). find k x.rows) v ∙ g;
         } in
-        absent_stands time r o e
+        rw e (absent_stands time o)
 
     pub placed_at : Bytes l → Typed (GetAndTouch k time) → Bytes m → length m ≡ length l → r ≡ touched_place i time (view_rows n l)
         → view_rows (length (touched_at i time (view_rows n l)).rows) m ≡ touched_at i time (view_rows n l) → Placed l k time r m
@@ -120,5 +125,5 @@ module _ {k : NodeAddr} {n : ℕ} {l : List ℕ} (time : ℕ) (r : PathPlace) wh
             let u = ap (λ (z : State). length z.rows) y ∙ refreshed_length (refresh time (view_rows n l).default_ttl) i n l in
             (kept_stands (omega (arith, small8_less time g.1)) q (ap (λ (z : ℕ). view_rows z m) (sym u) ∙ v ∙ y) (e ∙ rw x), t)
 
-  pub placed_absent : Found k n None l → Bytes l → r ≡ nowhere → Placed l k time r l
-  placed_absent f b e = (absent_stands time r f e, (touched_absent time f b).2)
+  pub placed_absent : Found k n None l → Bytes l → Placed l k time nowhere l
+  placed_absent f b = (absent_stands time f, (touched_absent time f b).2)

@@ -1,5 +1,6 @@
 -- Parts of the calls' rules, by row.
-use Rattle.std.specs.Prelude.{ℕ, Option, None, Some, ◌+◌, ◌*◌, ◌≤◌, ◌≡◌, List, cond, length}
+use Rattle.std.specs.Prelude.{ℕ, Option, None, Some, ◌+◌, ◌-◌, ◌*◌, ◌≤◌, ◌≡◌, List, cond, length}
+use Rattle.std.specs.declared.ops.Range.{Range}
 use Rattle.types.specs.declared.node_addr.NodeAddr.{NodeAddr}
 use Rattle.rules.specs.Cases.{maybe}
 use Rattle.rules.specs.Records.{State}
@@ -8,7 +9,6 @@ use Rattle.rules.specs.Entries.{expired, refresh}
 use Rattle.rules.specs.Room.{take_out}
 use Rattle.rules.specs.Lookups.{rewrite, unexpired_row}
 use Rattle.rules.specs.Memory.{cut, view}
-use Rattle.entries.specs.declared.path.PathPlace.{PathPlace}
 use Rattle.rules.specs.Lent.{got_part}
 use Rattle.rules.specs.Layout.{coord_entry_size, entry_offset, head_size, places_offset, row_size}
 
@@ -28,14 +28,15 @@ unfoldable pub place_found : NodeAddr → ℕ → List ℕ → ℕ
 place_found k now l = maybe (unexpired_row k now (view l)) 0 path_start
 
 -- the part that a lookup hands back stands at these bytes of the memory, in the key's own row; no bytes where nothing is found
-pub record StandsAt (k : NodeAddr) (now : ℕ) (l : List ℕ) (at bytes : ℕ) : Type 0 where
-  pub part : cut at bytes l ≡ got_part k now l
-  pub inside : at + bytes ≤ length l
-  pub own : at ≡ place_found k now l
+pub record StandsAt (k : NodeAddr) (now : ℕ) (l : List ℕ) (start end : ℕ) : Type 0 where
+  pub part : cut start (end - start) l ≡ got_part k now l
+  pub ordered : start ≤ end
+  pub inside : end ≤ length l
+  pub own : start ≡ place_found k now l
 
 -- where the path of row i stands after it; nowhere where the row leaves
-unfoldable pub touched_place : ℕ → ℕ → State → PathPlace
+unfoldable pub touched_place : ℕ → ℕ → State → Range ℕ
 touched_place i now s =
     cond (expired now (row_at i s.rows).entry)
-    (record { at = 0; bytes = 0 })
-    (record { at = path_start i; bytes = (row_at i s.rows).entry.path.len * coord_entry_size })
+    (record { start = 0; end = 0 })
+    (record { start = path_start i; end = path_start i + (row_at i s.rows).entry.path.len * coord_entry_size })

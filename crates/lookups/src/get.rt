@@ -7,46 +7,36 @@ ghost use Rattle.rules.specs.Memory.{capacity, view};
 ghost use Rattle.rules.specs.Lent.{call, got_part};
 ghost use Rattle.lookups.specs.Steps.{StandsAt};
 
-use entries::path::PathPlace;
 use memory::row::row_at;
 use state::check::check_sound;
+use std::ops::Range;
 use types::node_addr::NodeAddr;
 
-// Nothing is found.
-pub(crate) fn no_path() -> PathPlace
-    ensures { result ≡ record { at = 0; bytes = 0 } }
-{
-    PathPlace { at: 0, bytes: 0 }
-}
-
 // Where the path that get hands back stands in the memory; no bytes where nothing is found.
-pub fn get_place(state: &[u8], key: NodeAddr, time: u64) -> PathPlace
+pub fn get_place(state: &[u8], key: NodeAddr, time: u64) -> Range<usize>
     requires { sound (capacity state.now) (view state.now) ≡ true }
-    ensures { StandsAt key time state.now result.at result.bytes × (state.now ≡ (call state.now (Get key time)).memory) }
+    ensures { StandsAt key time state.now result.start result.end × (state.now ≡ (call state.now (Get key time)).memory) }
 {
     let n = memory::head::row_count(state) as usize;
     let at = search::keys::search(state, n, key);
     match at {
         Ok(i) => {
             if entries::times::is_expired(&row_at(state, n, i), time) {
-                return no_path();
+                return 0..0;
             }
             entries::path::path_place(state, n, i)
         }
-        Err(_) => no_path(),
+        Err(_) => 0..0,
     }
 }
 
-#[tactic(auto, using(crate::proofs::FoundRows::part_from))]
 pub fn get_unchecked<'a>(state: &'a [u8], key: NodeAddr, time: u64) -> &'a [u8]
     requires { sound (capacity state.now) (view state.now) ≡ true }
     ensures part { result.now ≡ got_part key time state.now }
     ensures left { state.now ≡ (call state.now (Get key time)).memory }
 {
     let place = get_place(state, key, time);
-    let start = place.at;
-    let end = start + place.bytes;
-    &state[start..end]
+    &state[place]
 }
 
 // The number lent beside the state is the refusal, 0 if done.

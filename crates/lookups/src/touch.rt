@@ -12,10 +12,9 @@ ghost use Rattle.rules.specs.Lent.{call, got_part};
 ghost use Rattle.rules.specs.Layout.{head_size, row_size};
 ghost use Rattle.lookups.specs.Steps.{touched_at, touch_says, touched_place, StandsAt};
 
-use crate::get::no_path;
-use entries::path::PathPlace;
 use memory::row::row_at;
 use state::check::check_sound;
+use std::ops::Range;
 use types::node_addr::NodeAddr;
 use types::refusal::Refusal;
 
@@ -32,7 +31,8 @@ fn refresh_at(state: &mut [u8], n: usize, i: usize, time: u64)
 // Row i leaves if it is expired, and is refreshed otherwise.
 fn touch_at(state: &mut [u8], n: usize, i: usize, time: u64) -> Option<u64>
     requires { (i < n) × (head_size + n * row_size ≤ length state.old) × ((view_rows n state.old).stored_weight ≡ main_weight (view_rows n state.old)) }
-    ensures { (result ≡ touch_says i time (view_rows n state.old)) × (view_rows (length (touched_at i time (view_rows n state.old)).rows) state.new ≡ touched_at i time (view_rows n state.old)) }
+    ensures says { result ≡ touch_says i time (view_rows n state.old) }
+    ensures left { view_rows (length (touched_at i time (view_rows n state.old)).rows) state.new ≡ touched_at i time (view_rows n state.old) }
 {
     let row = row_at(state, n, i);
     if entries::times::is_expired(&row, time) {
@@ -65,43 +65,41 @@ pub fn touch(state: &mut [u8], key: NodeAddr, time: u64) -> Result<Option<u64>, 
 }
 
 // Row i is touched; where its path then stands.
-#[tactic(auto, using(crate::proofs::PathPlaces::placed, crate::proofs::PathPlaces::unplaced))]
-fn touch_row(state: &mut [u8], n: usize, i: usize, time: u64) -> PathPlace
+#[tactic(auto, using(crate::proofs::PathPlaces::unplaced))]
+fn touch_row(state: &mut [u8], n: usize, i: usize, time: u64) -> Range<usize>
     requires { (i < n) × (head_size + n * row_size ≤ length state.old) × ((view_rows n state.old).stored_weight ≡ main_weight (view_rows n state.old)) }
-    ensures { (result ≡ touched_place i time (view_rows n state.old)) × (view_rows (length (touched_at i time (view_rows n state.old)).rows) state.new ≡ touched_at i time (view_rows n state.old)) }
+    ensures place { result ≡ touched_place i time (view_rows n state.old) }
+    ensures left { view_rows (length (touched_at i time (view_rows n state.old)).rows) state.new ≡ touched_at i time (view_rows n state.old) }
 {
     let place = entries::path::path_place(state, n, i);
     match touch_at(state, n, i, time) {
         Some(_) => place,
-        None => no_path(),
+        None => 0..0,
     }
 }
 
 // What touch does, and where the path that get_and_touch hands back stands in the memory after it.
-pub fn touch_place(state: &mut [u8], key: NodeAddr, time: u64) -> PathPlace
+pub fn touch_place(state: &mut [u8], key: NodeAddr, time: u64) -> Range<usize>
     requires { sound (capacity state.old) (view state.old) ≡ true }
-    ensures { StandsAt key time state.new result.at result.bytes × (state.new ≡ (call state.old (GetAndTouch key time)).memory) }
+    ensures { StandsAt key time state.new result.start result.end × (state.new ≡ (call state.old (GetAndTouch key time)).memory) }
 {
     let n = memory::head::row_count(state) as usize;
     let at = search::keys::search(state, n, key);
     match at {
         Ok(i) => touch_row(state, n, i, time),
-        Err(_) => no_path(),
+        Err(_) => 0..0,
     }
 }
 
 // The part is read from the memory after the touch. A parameter that lends a part out has no memory at exit to speak of, so
 // the equation of the memory stands at touch and touch_place.
-#[tactic(auto, using(crate::proofs::FoundRows::part_from))]
 pub fn get_and_touch_unchecked<'a>(state: &'a mut [u8], key: NodeAddr, time: u64) -> &'a [u8]
     requires { sound (capacity state.old) (view state.old) ≡ true }
     ensures { result.now ≡ got_part key time (call state.old (GetAndTouch key time)).memory }
 {
     let place = touch_place(state, key, time);
-    let start = place.at;
-    let end = start + place.bytes;
     let after = &state[..];
-    &after[start..end]
+    &after[place]
 }
 
 pub fn get_and_touch<'a>(

@@ -1,6 +1,6 @@
--- The reply follows from how many bytes the part has, and the part stands where the found place says, in the key's row.
-use Rattle.coordcache.proofs.ToldLookups.{got_told, part_there, place_told_lem}
+-- The reply follows from how many bytes the part has.
+use Rattle.coordcache.proofs.ToldLookups.{got_told}
 use Rattle.coordcache.proofs.unchecked.coord_cache_get_unchecked.Goals as goal
 
-pub returns : goal.returns
-returns c = search (got_told, part_there, place_told_lem)
+pub returns-clause-told : goal.returns-clause-told
+returns-clause-told c = search got_told

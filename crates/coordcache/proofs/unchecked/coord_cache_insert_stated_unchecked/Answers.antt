@@ -1,10 +1,6 @@
 -- That the hint is stated is in the rules' call alone, so kind, key and path are treated as for any funded hint.
 use Rattle.coordcache.proofs.ToldReplies.{told_funded}
-use Rattle.coordcache.proofs.ToldRefusals.{six_told}
 use Rattle.coordcache.proofs.unchecked.coord_cache_insert_stated_unchecked.Goals as goal
-
-pub returns-then-kind-gt1 : goal.returns-then-kind-gt1
-returns-then-kind-gt1 c = search six_told
 
 pub returns : goal.returns
 returns c = search told_funded

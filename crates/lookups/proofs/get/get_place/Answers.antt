@@ -25,7 +25,7 @@ returns-then-is_expired c =
     let key_searched : Searched c.args.key c.row_count-n.result c.search-at.result c.args.state.now = record { sound = c.requires; counted = c.row_count-n.ensures; outcome = c.search-at.ensures } in
     let bytes : Bytes c.args.state.now = all_bytes c.args.state.now (λ i. (c.shared_slice_known-1.given i).fits) in
     let f = held key_searched c.in-Ok.is in
-    (expired_stands _ _ f (sym (c.is_expired.ensures ∙ ap (λ (r : Row). expired c.args.time r.entry) c.row_at.ensures) ∙ c.if-is_expired.true) c.no_path.ensures, get_left f _ bytes)
+    (expired_stands _ f (sym (c.is_expired.ensures ∙ ap (λ (r : Row). expired c.args.time r.entry) c.row_at.ensures) ∙ c.if-is_expired.true), get_left f _ bytes)
 
 pub path_place-requires : goal.path_place-requires
 path_place-requires c =
@@ -37,11 +37,11 @@ returns-else-is_expired c =
     let key_searched : Searched c.args.key c.row_count-n.result c.search-at.result c.args.state.now = record { sound = c.requires; counted = c.row_count-n.ensures; outcome = c.search-at.ensures } in
     let bytes : Bytes c.args.state.now = all_bytes c.args.state.now (λ i. (c.shared_slice_known-1.given i).fits) in
     let f = held key_searched c.in-Ok.is in
-    (path_stands _ _ f (sym (c.is_expired.ensures ∙ ap (λ (r : Row). expired c.args.time r.entry) c.row_at.ensures) ∙ c.if-is_expired.false) c.path_place.ensures, get_left f _ bytes)
+    (path_stands _ f (sym (c.is_expired.ensures ∙ ap (λ (r : Row). expired c.args.time r.entry) c.row_at.ensures) ∙ c.if-is_expired.false) c.path_place.ensures.starts c.path_place.ensures.ends, get_left f _ bytes)
 
 pub returns-in-Err : goal.returns-in-Err
 returns-in-Err c =
     let key_searched : Searched c.args.key c.row_count-n.result c.search-at.result c.args.state.now = record { sound = c.requires; counted = c.row_count-n.ensures; outcome = c.search-at.ensures } in
     let bytes : Bytes c.args.state.now = all_bytes c.args.state.now (λ i. (c.shared_slice_known-1.given i).fits) in
     let f = absent key_searched c.in-Err.is in
-    (absent_stands _ _ f c.no_path-in-Err.ensures, get_left f _ bytes)
+    (absent_stands _ f, get_left f _ bytes)

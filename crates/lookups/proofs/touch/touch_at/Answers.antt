@@ -6,7 +6,12 @@ use Rattle.rules.specs.Entries.{expired}
 use Rattle.lookups.proofs.touch.touch_at.Goals as goal
 
 pub returns-then-is_expired : goal.returns-then-is_expired
-returns-then-is_expired c = touched_out _ _ _ _ _ (sym (c.is_expired.ensures ∙ ap (λ (r : Row). expired c.args.time r.entry) c.row_at-row.ensures) ∙ c.if-is_expired.true) c.remove_row.ensures
+returns-then-is_expired c =
+    let t = touched_out _ _ _ _ _ (sym (c.is_expired.ensures ∙ ap (λ (r : Row). expired c.args.time r.entry) c.row_at-row.ensures) ∙ c.if-is_expired.true) c.remove_row.ensures in
+    record { says = t.0; left = t.1 }
 
 pub returns : goal.returns
-returns c = touched_kept _ _ _ _ _ _ (sym (c.is_expired.ensures ∙ ap (λ (r : Row). expired c.args.time r.entry) c.row_at-row.ensures) ∙ c.if-is_expired.false) (c.wide-len.ensures.0 ∙ (c.path_len.ensures ∙ ap (λ (r : Row). r.entry.path.len) c.row_at-row.ensures)) c.refresh_at.ensures
+returns c =
+    let t = touched_kept _ _ _ _ _ _ (sym (c.is_expired.ensures ∙ ap (λ (r : Row). expired c.args.time r.entry) c.row_at-row.ensures) ∙ c.if-is_expired.false)
+    (c.wide-len.ensures.0 ∙ (c.path_len.ensures ∙ ap (λ (r : Row). r.entry.path.len) c.row_at-row.ensures)) c.refresh_at.ensures in
+    record { says = t.0; left = t.1 }

@@ -20,7 +20,7 @@ pub returns-in-Ok : goal.returns-in-Ok
 returns-in-Ok c =
     let key_searched : Searched c.args.key c.row_count-n.result c.search-at.result c.args.state.now = record { sound = c.requires; counted = c.row_count-n.ensures; outcome = c.search-at.ensures } in
     let bytes = all_bytes c.touch_at.new.state (λ i. (c.slice_known-in-Ok-1.given i).fits) in
-    touched_at_lem _ (held key_searched c.in-Ok.is) _ _ bytes c.touch_at.auto.state c.touch_at.ensures
+    touched_at_lem _ (held key_searched c.in-Ok.is) _ _ bytes c.touch_at.auto.state (c.touch_at.ensures.says, c.touch_at.ensures.left)
 
 pub returns-in-Err : goal.returns-in-Err
 returns-in-Err c =
