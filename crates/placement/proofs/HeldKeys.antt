@@ -15,9 +15,10 @@ use Rattle.types.specs.Paths.{same_path}
 use Rattle.rules.specs.Records.{Row, State}
 use Rattle.rules.specs.Rows.{row_at, in_main, in_probation, at_place, total, main_count, probation_count, main_weight, with_only_rows}
 use Rattle.rules.specs.Sound.{sound}
-use Rattle.rules.specs.Entries.{verified, update}
+use Rattle.rules.specs.Entries.{verified}
 use Rattle.rules.specs.Room.{file_new, take_out, make_room, main_visits}
-use Rattle.rules.specs.Placement.{place_result, stays_verified, promote}
+use Rattle.rules.specs.Placement.{place_result, stays_verified}
+use Rattle.rules.specs.Placement as rule
 use Rattle.rules.specs.Refusals.{last_seq}
 use Rattle.rules.specs.Memory.{cut, row_of, capacity, view_rows}
 use Rattle.rules.proofs.Addresses.{contradiction}
@@ -39,6 +40,8 @@ use Rattle.entries.specs.declared.new_entry.NewEntry.{NewEntry}
 use Rattle.entries.specs.NewEntries.{entry_from}
 use Rattle.filing.specs.InRoom.{Takes}
 use Rattle.filing.proofs.RoomSought.{Sought, room_asks, free_main, free_state, still_without, takes}
+use Rattle.placement.specs.declared.operands.Hint.{Hint}
+use Rattle.placement.specs.Operands.{update, promote}
 use Rattle.placement.specs.Placements.{Placing, row_in, Holds, HeldHint, promoted_as}
 
 -- ---- a row that is there
@@ -64,53 +67,53 @@ not_main : (r : Row) → r.place ≤ 2 → in_main r ≡ false → at_place 2 r 
 unfolding in_main at_place
 not_main r h e = eq-eqb r.place 2 (omega (arith, ltb-false r.place 2 e))
 
--- row i, that of key k, is out of the n rows of memory l, and m is left
-pub record Out (k : NodeAddr) (n i : ℕ) (l m : List ℕ) : Type 0 where
-  pub holds : Holds k n i l
+-- row i, that of the hint's key, is out of the n rows of memory l, and m is left
+pub record Out (h : Hint) (n i : ℕ) (l m : List ℕ) : Type 0 where
+  pub holds : Holds h.key n i l
   pub size : length m ≡ length l
   pub state : view_rows (n - 1) m ≡ take_out i (view_rows n l)
 
-module _ {k : NodeAddr} {n i : ℕ} {l m : List ℕ} (u : Out k n i l m) where
+module _ {h : Hint} {n i : ℕ} {l m : List ℕ} (u : Out h n i l m) where
   inside : i < length (view_rows n l).rows
   inside = rw (view_length n l) u.holds.inside
 
   whole : Sound (capacity l) (view_rows n l)
   whole = shown n l u.holds.sound
 
-  pub out_without : Without k (n - 1) m
+  pub out_without : Without h.key (n - 1) m
   out_without =
-      reached_without k l m (n - 1) (take_out i (view_rows n l)) (record { size = u.size; state = u.state }) (take_out_sound (capacity l) i (view_rows n l) whole)
-      (take_out_gone k i (view_rows n l) (rising_unique (cores (view_rows n l).rows) whole.rising) inside u.holds.key)
+      reached_without h.key l m (n - 1) (take_out i (view_rows n l)) (record { size = u.size; state = u.state }) (take_out_sound (capacity l) i (view_rows n l) whole)
+      (take_out_gone h.key i (view_rows n l) (rising_unique (cores (view_rows n l).rows) whole.rising) inside u.holds.key)
 
   out_seq : (view_rows n l).seq ≤ last_seq → (view_rows (n - 1) m).seq ≤ last_seq
   out_seq q = rw u.state (omega (arith, take_out_seq i (view_rows n l)))
 
-  pub out_room_asks : (time : ℕ) → (view_rows n l).seq ≤ last_seq
+  pub out_room_asks : (view_rows n l).seq ≤ last_seq
       → (head_size + (n - 1) * row_size ≤ length m) × (sound (capacity m) (view_rows (n - 1) m) ≡ true)
-      × ((view_rows (n - 1) m).seq + total (main_visits time) (view_rows (n - 1) m).rows < number_limit)
-  out_room_asks time q = room_asks time (n - 1) m out_without.sound (out_seq q)
+      × ((view_rows (n - 1) m).seq + total (main_visits h.time) (view_rows (n - 1) m).rows < number_limit)
+  out_room_asks q = room_asks h.time (n - 1) m out_without.sound (out_seq q)
 
-  module _ {x : List ℕ} {time w : ℕ} {r : RoomAnswer} (so : Sought m x (n - 1) time w r) where
-    made : Roomed time w (view_rows (n - 1) m) (make_room time w (view_rows (n - 1) m))
-    made = room_roomed time w (view_rows (n - 1) m) (ready (shown (n - 1) m out_without.sound))
+  module _ {x : List ℕ} {w : ℕ} {r : RoomAnswer} (so : Sought m x (n - 1) h.time w r) where
+    made : Roomed h.time w (view_rows (n - 1) m) (make_room h.time w (view_rows (n - 1) m))
+    made = room_roomed h.time w (view_rows (n - 1) m) (ready (shown (n - 1) m out_without.sound))
 
-    limits_kept : limits_of (make_room time w (view_rows (n - 1) m)).state ≡ limits_of (view_rows n l)
+    limits_kept : limits_of (make_room h.time w (view_rows (n - 1) m)).state ≡ limits_of (view_rows n l)
     limits_kept = made.limits ∙ rw u.state (take_out_limits i (view_rows n l))
 
     -- the row that was taken out left one free
     freed : (b : Bool) → in_main (row_in n i l) ≡ b → r.victim ≡ None → r.rows < capacity x
     freed true e v =
         let a : main_count (view_rows (n - 1) m) + 1 ≡ main_count (view_rows n l) = rw u.state (take_out_main i (view_rows n l) inside e) in
-        free_main k (n - 1) m x time w r out_without so (omega (arith, ap probation_of limits_kept, capacity_same l m u.size, made.mains, a, whole.mains)) v
+        free_main h.key (n - 1) m x h.time w r out_without so (omega (arith, ap probation_of limits_kept, capacity_same l m u.size, made.mains, a, whole.mains)) v
     freed false e v =
         let p = not_main (row_in n i l) (every_at (RowOk (view_rows n l).seq) i (view_rows n l).rows inside whole.each).place e in
         let a : probation_count (view_rows (n - 1) m) + 1 ≡ probation_count (view_rows n l) = rw u.state (probation_one_less i (view_rows n l) inside p) in
-        free_in_probation r.rows x (still_without k (n - 1) m x time w r out_without so v).sound
-        (rw (free_state k (n - 1) m x time w r out_without so v) (omega (arith, ap probation_of limits_kept, made.probations, a, whole.probations)))
+        free_in_probation r.rows x (still_without h.key (n - 1) m x h.time w r out_without so v).sound
+        (rw (free_state h.key (n - 1) m x h.time w r out_without so v) (omega (arith, ap probation_of limits_kept, made.probations, a, whole.probations)))
 
     -- what filing asks
-    pub out_takes : {p : Path} {o : HintOutcome} {b : Bool} → HeldHint k p o b n i l → Takes k r.victim r.stored r.rows x
-    out_takes {b = b} h = takes k (n - 1) m x time w r out_without so (freed b h.main) (out_seq h.seq)
+    pub out_takes : {o : HintOutcome} {b : Bool} → HeldHint h o b n i l → Takes h.key r.victim r.stored r.rows x
+    out_takes {b = b} held = takes h.key (n - 1) m x h.time w r out_without so (freed b held.main) (out_seq held.seq)
 
     -- nothing was made, and no victim left
     pub unmade : (stated : Bool) → r.made || stated ≡ false → r.victim ≡ None
@@ -121,18 +124,18 @@ module _ {k : NodeAddr} {n i : ℕ} {l m : List ℕ} (u : Out k n i l m) where
         go false e = e
 
     -- the room that was sought, by the rules
-    pub room_there : room_of r (view_rows r.rows x) ≡ make_room time w (take_out i (view_rows n l))
+    pub room_there : room_of r (view_rows r.rows x) ≡ make_room h.time w (take_out i (view_rows n l))
     room_there = so.room ∙ rw u.state
 
     -- filed in main or in probation
-    pub promoted_is : {p : Path} {o : HintOutcome} {b : Bool} → HeldHint k p o b n i l → (ttl : ℕ) (e : NewEntry) {a v : ℕ} {d : Placed} {y : List ℕ}
-        → entry_from e ≡ update p time ttl (row_in n i l).entry → a ≡ cond r.made 0 2 → v ≡ w → d ≡ promoted_as o r.made v r.examined
-        → (let s = file_new k (entry_from e) w a (without_victim r.victim (view_rows r.rows x)) in view_rows (length s.rows) y ≡ s) → Placing (promote k p time ttl w i (view_rows n l)) d y
-    unfolding promote place_result room_of
-    promoted_is {o = o} h ttl e {a} {d = d} {y} ee ea ev ed ef = rw (← room_there, ← h.outcome, ← ee) (go r.made refl)
+    pub promoted_is : {o : HintOutcome} {b : Bool} → HeldHint h o b n i l → (e : NewEntry) {a v : ℕ} {d : Placed} {y : List ℕ}
+        → entry_from e ≡ update h (row_in n i l).entry → a ≡ cond r.made 0 2 → v ≡ w → d ≡ promoted_as o r.made v r.examined
+        → (let s = file_new h.key (entry_from e) w a (without_victim r.victim (view_rows r.rows x)) in view_rows (length s.rows) y ≡ s) → Placing (promote h w i (view_rows n l)) d y
+    unfolding rule.promote place_result room_of
+    promoted_is {o = o} held e {a} {d = d} {y} ee ea ev ed ef = rw (← room_there, ← held.outcome, ← ee) (go r.made refl)
       where
         row_at_place : ℕ → State
-        row_at_place c = file_new k (entry_from e) w c (without_victim r.victim (view_rows r.rows x))
+        row_at_place c = file_new h.key (entry_from e) w c (without_victim r.victim (view_rows r.rows x))
 
         go : (c : Bool) → r.made ≡ c
             → Placing (cond r.made (place_result o w Main false r.examined (row_at_place 0)) (place_result o 0 Probation false r.examined (row_at_place 2))) d y

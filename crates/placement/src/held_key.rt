@@ -3,15 +3,13 @@ ghost use Rattle.std.specs.Prelude.{◌≡◌, true, false, cond, ◌-◌, ◌�
 ghost use Rattle.types.specs.declared.placed.HintOutcome.TheVariants.{Changed, Unchanged};
 ghost use Rattle.rules.specs.Records.{by_use, probation};
 ghost use Rattle.rules.specs.Sound.{sound};
-ghost use Rattle.rules.specs.Entries.{update};
-ghost use Rattle.rules.specs.Room.{refile};
-ghost use Rattle.rules.specs.Placement.{place_result, held_outcome, promote, place_probation, grow, place_main, place_held};
 ghost use Rattle.rules.specs.Refusals.{last_seq};
 ghost use Rattle.rules.specs.Memory.{capacity, view_rows};
-ghost use Rattle.filing.specs.Filings.{Writable};
+ghost use Rattle.placement.specs.Operands.{held_outcome, refile_held, promote, place_probation, grow, place_main, place_held};
 ghost use Rattle.placement.specs.Placements.{Placing, Holds, HeldHint, row_in, promoted_as};
 
-use crate::new_key::{reject, row_weight};
+use crate::new_key::reject;
+use crate::operands::Hint;
 use entries::new_entry::updated_entry;
 use entries::path::path_is;
 use entries::times::is_verified;
@@ -24,9 +22,7 @@ use memory::rows::remove_row;
 use raw::numbers::wide;
 use room::victims::make_room;
 use rows::saved::save_row;
-use types::coord::Path;
-use types::node_addr::NodeAddr;
-use types::placed::{Funding, HintOutcome, Placed, Segment};
+use types::placed::{HintOutcome, Placed, Segment};
 
 // Unchanged where the paths are the same, else Changed.
 fn outcome_of(same: bool) -> HintOutcome
@@ -45,17 +41,15 @@ fn refile_held(
     state: &mut [u8],
     n: usize,
     i: usize,
-    path: Path,
-    time: u64,
-    ttl: u64,
+    hint: &Hint,
     weight: u8,
     segment: Segment,
     outcome: HintOutcome,
 ) -> Placed
-    requires { (sound (capacity state.old) (view_rows n state.old) ≡ true) × (i < n) × Writable path × ((view_rows n state.old).seq ≤ last_seq) × (outcome ≡ held_outcome path (row_in n i state.old)) }
-    ensures { Placing (place_result (held_outcome path (row_in n i state.old)) 0 segment false 0 (refile (update path time ttl (row_in n i state.old).entry) weight i (view_rows n state.old))) result state.new }
+    requires { (sound (capacity state.old) (view_rows n state.old) ≡ true) × (i < n) × ((view_rows n state.old).seq ≤ last_seq) × (outcome ≡ held_outcome hint.now (row_in n i state.old)) }
+    ensures { Placing (refile_held hint.now weight segment i (view_rows n state.old)) result state.new }
 {
-    update_in_place(state, n, i, path, time, ttl, weight);
+    update_in_place(state, n, i, hint.path, hint.time, hint.ttl, weight);
     Placed {
         outcome: outcome,
         added_weight: 0,
@@ -99,22 +93,28 @@ fn promote(
     state: &mut [u8],
     n: usize,
     i: usize,
-    key: NodeAddr,
-    path: Path,
-    time: u64,
-    ttl: u64,
+    hint: &Hint,
     weight: u8,
     outcome: HintOutcome,
 ) -> Placed
-    requires { HeldHint key path outcome false n i state.old }
-    ensures { Placing (promote key path time ttl weight i (view_rows n state.old)) result state.new }
+    requires { HeldHint hint.now outcome false n i state.old }
+    ensures { Placing (promote hint.now weight i (view_rows n state.old)) result state.new }
 {
-    let e = updated_entry(&row_at(state, n, i), path, time, ttl);
+    let e = updated_entry(&row_at(state, n, i), hint.path, hint.time, hint.ttl);
     remove_row(state, n, i);
-    let room = make_room(state, n - 1, wide(weight), time);
+    let room = make_room(state, n - 1, wide(weight), hint.time);
     let victim = room.victim;
     let place = place_for(room.made);
-    file_in_room(state, room.rows, victim, room.stored, key, e, weight, place);
+    file_in_room(
+        state,
+        room.rows,
+        victim,
+        room.stored,
+        hint.key,
+        e,
+        weight,
+        place,
+    );
     promoted(outcome, room.made, wide(weight), room.examined)
 }
 
@@ -123,21 +123,17 @@ fn place_probation(
     state: &mut [u8],
     n: usize,
     i: usize,
-    key: NodeAddr,
-    path: Path,
-    time: u64,
-    ttl: u64,
-    funding: Funding,
+    hint: &Hint,
     outcome: HintOutcome,
 ) -> Placed
-    requires { HeldHint key path outcome false n i state.old }
-    ensures { Placing (place_probation key path time ttl funding i (view_rows n state.old)) result state.new }
+    requires { HeldHint hint.now outcome false n i state.old }
+    ensures { Placing (place_probation hint.now i (view_rows n state.old)) result state.new }
 {
-    let w = row_weight(path).max(row_at(state, n, i).weight());
-    if !funding.covers(wide(w)) {
-        return refile_held(state, n, i, path, time, ttl, w, Segment::Probation, outcome);
+    let w = hint.weight().max(row_at(state, n, i).weight());
+    if !hint.funding.covers(wide(w)) {
+        return refile_held(state, n, i, hint, w, Segment::Probation, outcome);
     }
-    promote(state, n, i, key, path, time, ttl, w, outcome)
+    promote(state, n, i, hint, w, outcome)
 }
 
 // Growth to this weight: row out, room sought for it; without room an unstated one goes back unchanged but newly stamped.
@@ -145,31 +141,27 @@ fn grow(
     state: &mut [u8],
     n: usize,
     i: usize,
-    key: NodeAddr,
-    path: Path,
-    time: u64,
-    ttl: u64,
-    stated: bool,
+    hint: &Hint,
     weight: u8,
     added: u64,
     outcome: HintOutcome,
 ) -> Placed
-    requires { HeldHint key path outcome true n i state.old × (added ≡ weight - (row_in n i state.old).weight) }
-    ensures { Placing (grow key path time ttl stated weight i (view_rows n state.old)) result state.new }
+    requires { HeldHint hint.now outcome true n i state.old × (added ≡ weight - (row_in n i state.old).weight) }
+    ensures { Placing (grow hint.now weight i (view_rows n state.old)) result state.new }
 {
-    let e = updated_entry(&row_at(state, n, i), path, time, ttl);
+    let e = updated_entry(&row_at(state, n, i), hint.path, hint.time, hint.ttl);
     let saved = save_row(state, n, i);
     remove_row(state, n, i);
     let w = wide(weight);
-    let room = make_room(state, n - 1, w, time);
-    if room.made | stated {
+    let room = make_room(state, n - 1, w, hint.time);
+    if room.made | hint.stated {
         let victim = room.victim;
         file_in_room(
             state,
             room.rows,
             victim,
             room.stored,
-            key,
+            hint.key,
             e,
             weight,
             BY_USE,
@@ -182,66 +174,45 @@ fn grow(
             examined: room.examined,
         };
     }
-    file_unchanged(state, room.rows, key, saved);
+    file_unchanged(state, room.rows, hint.key, saved);
     reject(false, room.examined)
 }
 
 // 5. In main.
-fn place_main(
-    state: &mut [u8],
-    n: usize,
-    i: usize,
-    key: NodeAddr,
-    path: Path,
-    time: u64,
-    ttl: u64,
-    funding: Funding,
-    stated: bool,
-    outcome: HintOutcome,
-) -> Placed
-    requires { HeldHint key path outcome true n i state.old }
-    ensures { Placing (place_main key path time ttl funding stated i (view_rows n state.old)) result state.new }
+fn place_main(state: &mut [u8], n: usize, i: usize, hint: &Hint, outcome: HintOutcome) -> Placed
+    requires { HeldHint hint.now outcome true n i state.old }
+    ensures { Placing (place_main hint.now i (view_rows n state.old)) result state.new }
 {
-    let w = row_weight(path);
+    let w = hint.weight();
     let old = row_at(state, n, i).weight();
     if w <= old {
-        return refile_held(state, n, i, path, time, ttl, old, Segment::Main, outcome);
+        return refile_held(state, n, i, hint, old, Segment::Main, outcome);
     }
     let added = wide(w) - wide(old);
-    if !funding.covers(added) {
+    if !hint.funding.covers(added) {
         return reject(true, 0);
     }
-    grow(state, n, i, key, path, time, ttl, stated, w, added, outcome)
+    grow(state, n, i, hint, w, added, outcome)
 }
 
 // 3. A verified key is Rejected, unless stated and differing. The paths are compared at most once, and not for a verified key that
 // isn't stated.
-pub fn place_held(
-    state: &mut [u8],
-    n: usize,
-    i: usize,
-    key: NodeAddr,
-    path: Path,
-    time: u64,
-    ttl: u64,
-    funding: Funding,
-    stated: bool,
-) -> Placed
-    requires { Holds key n i state.old × Writable path × ((view_rows n state.old).seq ≤ last_seq) }
-    ensures { Placing (place_held key path time ttl funding stated i (view_rows n state.old)) result state.new }
+pub fn place_held(state: &mut [u8], n: usize, i: usize, hint: &Hint) -> Placed
+    requires { Holds hint.now.key n i state.old × ((view_rows n state.old).seq ≤ last_seq) }
+    ensures { Placing (place_held hint.now i (view_rows n state.old)) result state.new }
 {
     let row = row_at(state, n, i);
-    let verified = is_verified(&row, time);
-    if verified & !stated {
+    let verified = is_verified(&row, hint.time);
+    if verified & !hint.stated {
         return reject(false, 0);
     }
-    let same = path_is(&row, path);
+    let same = path_is(&row, hint.path);
     if verified & same {
         return reject(false, 0);
     }
     let outcome = outcome_of(same);
     if row.place() < PROBATION {
-        return place_main(state, n, i, key, path, time, ttl, funding, stated, outcome);
+        return place_main(state, n, i, hint, outcome);
     }
-    place_probation(state, n, i, key, path, time, ttl, funding, outcome)
+    place_probation(state, n, i, hint, outcome)
 }

@@ -16,13 +16,13 @@ row_at-requires c = search row_there
 pub returns-then-not-covers : goal.returns-then-not-covers
 unfolding place_probation
 returns-then-not-covers c =
-    let charged : (max (path_weight c.args.path) (row_in c.args.n c.args.i c.args.state.now).weight ≡ c.max-w.result) = cc (c.max-w.ensures, (c.weight.ensures ∙ ap (λ (r : Row). r.weight) c.row_at.ensures), c.row_weight.ensures.0) in
-    let covered : (x : Bool) → c.covers.result ≡ x → covers c.args.funding c.max-w.result ≡ x = λ x e. sym (c.covers.ensures ∙ ap (covers _) c.wide.ensures.0) ∙ e in
+    let charged : (max (path_weight c.args.hint.now.path) (row_in c.args.n c.args.i c.args.state.now).weight ≡ c.max-w.result) = cc (c.max-w.ensures, (c.weight-2.ensures ∙ ap (λ (r : Row). r.weight) c.row_at.ensures), c.weight.ensures.0) in
+    let covered : (x : Bool) → c.covers.result ≡ x → covers c.args.hint.now.funding c.max-w.result ≡ x = λ x e. sym (c.covers.ensures ∙ ap (covers _) c.wide.ensures.0) ∙ e in
     rw (charged, covered _ c.if-not-covers.true) c.refile_held.ensures
 
 pub returns : goal.returns
 unfolding place_probation
 returns c =
-    let charged : (max (path_weight c.args.path) (row_in c.args.n c.args.i c.args.state.now).weight ≡ c.max-w.result) = cc (c.max-w.ensures, (c.weight.ensures ∙ ap (λ (r : Row). r.weight) c.row_at.ensures), c.row_weight.ensures.0) in
-    let covered : (x : Bool) → c.covers.result ≡ x → covers c.args.funding c.max-w.result ≡ x = λ x e. sym (c.covers.ensures ∙ ap (covers _) c.wide.ensures.0) ∙ e in
+    let charged : (max (path_weight c.args.hint.now.path) (row_in c.args.n c.args.i c.args.state.now).weight ≡ c.max-w.result) = cc (c.max-w.ensures, (c.weight-2.ensures ∙ ap (λ (r : Row). r.weight) c.row_at.ensures), c.weight.ensures.0) in
+    let covered : (x : Bool) → c.covers.result ≡ x → covers c.args.hint.now.funding c.max-w.result ≡ x = λ x e. sym (c.covers.ensures ∙ ap (covers _) c.wide.ensures.0) ∙ e in
     rw (charged, covered _ c.if-not-covers.false) c.promote.ensures

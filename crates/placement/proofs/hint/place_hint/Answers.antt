@@ -3,7 +3,7 @@ use mathlib.Core.Path.{◌∙◌}
 use Rattle.rules.proofs.MemoryLaws.{all_bytes}
 use Rattle.refusals.proofs.SoundCalls.{head_there}
 use Rattle.refusals.proofs.WriteRefusals.{passed}
-use Rattle.placement.proofs.PlacedHints.{Allowed, hint_refused, rows_sound_lem, stood_held, stood_new, held_asks, new_asks, hint_placed}
+use Rattle.placement.proofs.PlacedHints.{Allowed, writable, hint_refused, rows_sound_lem, stood_held, stood_new, held_asks, new_asks, hint_placed}
 use Rattle.placement.proofs.hint.place_hint.Goals as goal
 
 pub write_refusal-requires : goal.write_refusal-requires
@@ -11,6 +11,9 @@ write_refusal-requires c = head_there _ c.requires
 
 pub returns-in_err-write_refusal : goal.returns-in_err-write_refusal
 returns-in_err-write_refusal c = hint_refused _ _ _ c.requires c.write_refusal.ensures (c.in_err-write_refusal.was {u = tt}) c.from_residual.ensures.1
+
+pub invariant_of-hint : goal.invariant_of-hint
+invariant_of-hint c = record { writable = writable (passed _ _ c.write_refusal.ensures (c.in_ok-write_refusal.was)) }
 
 pub row_count-n-requires : goal.row_count-n-requires
 row_count-n-requires c = head_there _ c.requires
@@ -36,7 +39,7 @@ returns-in-At c =
     let held = stood_held _ c.remove_expired-at.ensures c.in-At.is in
     let size = c.place_held.auto.state ∙ c.remove_expired-at.auto.state in
     hint_placed allowed (all_bytes c.place_held.new.state (λ i. (c.slice_known-in-At-1.given i).fits)) size
-    (rw (held.placed _ _ _ _, ← held.same) c.place_held.ensures)
+    (rw (held.placed, ← held.same) c.place_held.ensures)
 
 pub returns-in-New : goal.returns-in-New
 returns-in-New c =
@@ -44,4 +47,4 @@ returns-in-New c =
     let new = stood_new _ c.remove_expired-at.ensures c.in-New.is in
     let size = c.place_new.auto.state ∙ c.remove_expired-at.auto.state in
     hint_placed allowed (all_bytes c.place_new.new.state (λ i. (c.slice_known-in-New-1.given i).fits)) size
-    (rw (new.placed _ _ _ _) c.place_new.ensures)
+    (rw new.placed c.place_new.ensures)
