@@ -13,50 +13,50 @@ use Rattle.rules.specs.Entries as entry
 use Rattle.rules.specs.Placement as rule
 use Rattle.placement.specs.declared.operands.Hint.{Hint}
 
-abbrev pub new_entry : Hint → Entry
+unfoldable pub new_entry : Hint → Entry
 new_entry h = entry.new_entry h.path h.time h.ttl
 
-abbrev pub update : Hint → Entry → Entry
+unfoldable pub update : Hint → Entry → Entry
 update h e = entry.update h.path h.time h.ttl e
 
 -- ---- a new key
 
-abbrev pub new_in_probation : Hint → Bool → ℕ → State → PlaceResult
+unfoldable pub new_in_probation : Hint → Bool → ℕ → State → PlaceResult
 new_in_probation h unfunded n s = rule.new_in_probation h.key (new_entry h) (path_weight h.path) unfunded n s
 
 -- s is without the victim
-abbrev pub new_in_main : Hint → ℕ → State → PlaceResult
+unfoldable pub new_in_main : Hint → ℕ → State → PlaceResult
 new_in_main h examined s = place_result Inserted (path_weight h.path) Main false examined (file_new h.key (new_entry h) (path_weight h.path) by_use s)
 
-abbrev pub new_without_room : Hint → Room → PlaceResult
+unfoldable pub new_without_room : Hint → Room → PlaceResult
 new_without_room h m = rule.new_without_room h.funding h.key (new_entry h) (path_weight h.path) m
 
-abbrev pub place_new : Hint → State → PlaceResult
+unfoldable pub place_new : Hint → State → PlaceResult
 place_new h s = rule.place_new h.key h.path h.time h.ttl h.funding s
 
 -- ---- a held key, that of row i
 
-abbrev pub held_outcome : Hint → Row → HintOutcome
+unfoldable pub held_outcome : Hint → Row → HintOutcome
 held_outcome h r = rule.held_outcome h.path r
 
 -- updated and refiled at weight w, with nothing added
-abbrev pub refile_held : Hint → ℕ → Segment → ℕ → State → PlaceResult
+unfoldable pub refile_held : Hint → ℕ → Segment → ℕ → State → PlaceResult
 refile_held h w g i s = place_result (held_outcome h (row_at i s.rows)) 0 g false 0 (refile (update h (row_at i s.rows).entry) w i s)
 
-abbrev pub promote : Hint → ℕ → ℕ → State → PlaceResult
+unfoldable pub promote : Hint → ℕ → ℕ → State → PlaceResult
 promote h charge i s = rule.promote h.key h.path h.time h.ttl charge i s
 
-abbrev pub place_probation : Hint → ℕ → State → PlaceResult
+unfoldable pub place_probation : Hint → ℕ → State → PlaceResult
 place_probation h i s = rule.place_probation h.key h.path h.time h.ttl h.funding i s
 
-abbrev pub grow : Hint → ℕ → ℕ → State → PlaceResult
+unfoldable pub grow : Hint → ℕ → ℕ → State → PlaceResult
 grow h w i s = rule.grow h.key h.path h.time h.ttl h.stated w i s
 
-abbrev pub place_main : Hint → ℕ → State → PlaceResult
+unfoldable pub place_main : Hint → ℕ → State → PlaceResult
 place_main h i s = rule.place_main h.key h.path h.time h.ttl h.funding h.stated i s
 
-abbrev pub place_held : Hint → ℕ → State → PlaceResult
+unfoldable pub place_held : Hint → ℕ → State → PlaceResult
 place_held h i s = rule.place_held h.key h.path h.time h.ttl h.funding h.stated i s
 
-abbrev pub place_hint : Hint → State → PlaceResult
+unfoldable pub place_hint : Hint → State → PlaceResult
 place_hint h s = rule.place_hint h.key h.path h.time h.ttl h.funding h.stated s

@@ -1,8 +1,8 @@
 -- What a branch of placement meets, and what it leaves: its answer, and its state in the memory.
-use Rattle.std.specs.Prelude.{◌≡◌, List, Bool, true, false, cond, ℕ, ◌≤◌, ◌<◌, length}
+use Rattle.std.specs.Prelude.{◌≡◌, List, Bool, true, false, ℕ, ◌≤◌, ◌<◌, length}
 use Rattle.types.specs.declared.node_addr.NodeAddr.{NodeAddr}
 use Rattle.types.specs.declared.placed.Segment.{Segment}
-use Rattle.types.specs.declared.placed.Segment.TheVariants.{Main, Probation}
+use Rattle.types.specs.declared.placed.Segment.TheVariants.{Main}
 use Rattle.types.specs.declared.placed.HintOutcome.{HintOutcome}
 use Rattle.types.specs.declared.placed.HintOutcome.TheVariants.{Inserted, Rejected}
 use Rattle.types.specs.declared.placed.Placed.{Placed}
@@ -48,7 +48,3 @@ pub record HeldHint (h : Hint) (o : HintOutcome) (b : Bool) (n i : ℕ) (l : Lis
   pub seq : (view_rows n l).seq ≤ last_seq
   pub main : in_main (row_in n i l) ≡ b
   pub outcome : o ≡ held_outcome h (row_in n i l)
-
--- the charge is added only where room was made
-abbrev pub promoted_as : HintOutcome → Bool → ℕ → ℕ → Placed
-promoted_as o made w examined = cond made (record { outcome = o; added_weight = w; segment = Main; unfunded = false; examined = examined }) (record { outcome = o; added_weight = 0; segment = Probation; unfunded = false; examined = examined })

@@ -1,12 +1,11 @@
 // A held key: 3. verified, 4. in probation, 5. in main.
 ghost use Rattle.std.specs.Prelude.{◌≡◌, true, false, cond, ◌-◌, ◌≤◌, ◌<◌, max};
 ghost use Rattle.types.specs.declared.placed.HintOutcome.TheVariants.{Changed, Unchanged};
-ghost use Rattle.rules.specs.Records.{by_use, probation};
 ghost use Rattle.rules.specs.Sound.{sound};
 ghost use Rattle.rules.specs.Refusals.{last_seq};
 ghost use Rattle.rules.specs.Memory.{capacity, view_rows};
 ghost use Rattle.placement.specs.Operands.{held_outcome, refile_held, promote, place_probation, grow, place_main, place_held};
-ghost use Rattle.placement.specs.Placements.{Placing, Holds, HeldHint, row_in, promoted_as};
+ghost use Rattle.placement.specs.Placements.{Placing, Holds, HeldHint, row_in};
 
 use crate::new_key::reject;
 use crate::operands::Hint;
@@ -36,7 +35,7 @@ fn outcome_of(same: bool) -> HintOutcome
 }
 
 // Updated and refiled at this weight, with nothing added.
-#[tactic(auto, using(room::proofs::RoomToFile::laid_out, filing::proofs::FiledInRoom::rows_there), unfolding(rules::specs::Placement::place_result))]
+#[tactic(auto, using(room::proofs::RoomToFile::laid_out, filing::proofs::FiledInRoom::rows_there), unfolding(rules::specs::Placement::place_result, crate::specs::Operands::refile_held, crate::specs::Operands::held_outcome, crate::specs::Operands::update))]
 fn refile_held(
     state: &mut [u8],
     n: usize,
@@ -51,44 +50,16 @@ fn refile_held(
 {
     update_in_place(state, n, i, hint.path, hint.time, hint.ttl, weight);
     Placed {
-        outcome: outcome,
+        outcome,
         added_weight: 0,
-        segment: segment,
+        segment,
         unfunded: false,
         examined: 0,
     }
 }
 
-// Where a row goes that was to be promoted.
-fn place_for(made: bool) -> u8
-    ensures { result ≡ cond made by_use probation }
-{
-    if made { BY_USE } else { PROBATION }
-}
-
-// The charge is added only where room was made.
-fn promoted(outcome: HintOutcome, made: bool, weight: u64, examined: u64) -> Placed
-    ensures { result ≡ promoted_as outcome made weight examined }
-{
-    if made {
-        return Placed {
-            outcome: outcome,
-            added_weight: weight,
-            segment: Segment::Main,
-            unfunded: false,
-            examined: examined,
-        };
-    }
-    Placed {
-        outcome: outcome,
-        added_weight: 0,
-        segment: Segment::Probation,
-        unfunded: false,
-        examined: examined,
-    }
-}
-
 // Covered: taken out, updated, and with room made filed in main, or without room back in probation.
+#[tactic(auto, using(room::proofs::RoomToFile::laid_out, filing::proofs::RoomSought::room_asks, crate::proofs::HeldKeys::weight_stored, crate::proofs::HeldKeys::taken_sound, rules::proofs::Others::take_out_seq))]
 fn promote(
     state: &mut [u8],
     n: usize,
@@ -104,7 +75,12 @@ fn promote(
     remove_row(state, n, i);
     let room = make_room(state, n - 1, wide(weight), hint.time);
     let victim = room.victim;
-    let place = place_for(room.made);
+    // The charge is added only where room was made.
+    let (place, segment, added) = if room.made {
+        (BY_USE, Segment::Main, wide(weight))
+    } else {
+        (PROBATION, Segment::Probation, 0)
+    };
     file_in_room(
         state,
         room.rows,
@@ -115,10 +91,17 @@ fn promote(
         weight,
         place,
     );
-    promoted(outcome, room.made, wide(weight), room.examined)
+    Placed {
+        outcome,
+        added_weight: added,
+        segment,
+        unfunded: false,
+        examined: room.examined,
+    }
 }
 
 // 4. In probation.
+#[tactic(auto, using(room::proofs::RoomToFile::laid_out, crate::proofs::HeldKeys::probation_covered, crate::proofs::HeldKeys::probation_uncovered))]
 fn place_probation(
     state: &mut [u8],
     n: usize,
@@ -130,13 +113,15 @@ fn place_probation(
     ensures { Placing (place_probation hint.now i (view_rows n state.old)) result state.new }
 {
     let w = hint.weight().max(row_at(state, n, i).weight());
-    if !hint.funding.covers(wide(w)) {
-        return refile_held(state, n, i, hint, w, Segment::Probation, outcome);
+    if hint.funding.covers(wide(w)) {
+        promote(state, n, i, hint, w, outcome)
+    } else {
+        refile_held(state, n, i, hint, w, Segment::Probation, outcome)
     }
-    promote(state, n, i, hint, w, outcome)
 }
 
 // Growth to this weight: row out, room sought for it; without room an unstated one goes back unchanged but newly stamped.
+#[tactic(auto, using(room::proofs::RoomToFile::laid_out, filing::proofs::RoomSought::room_asks, crate::proofs::HeldKeys::weight_stored, crate::proofs::HeldKeys::taken_sound, rules::proofs::Others::take_out_seq))]
 fn grow(
     state: &mut [u8],
     n: usize,
@@ -167,7 +152,7 @@ fn grow(
             BY_USE,
         );
         return Placed {
-            outcome: outcome,
+            outcome,
             added_weight: added,
             segment: Segment::Main,
             unfunded: false,
@@ -179,6 +164,7 @@ fn grow(
 }
 
 // 5. In main.
+#[tactic(auto, using(room::proofs::RoomToFile::laid_out, crate::proofs::HeldKeys::main_kept, crate::proofs::HeldKeys::main_grown, crate::proofs::HeldKeys::main_rejected, crate::proofs::HeldKeys::rejected_there))]
 fn place_main(state: &mut [u8], n: usize, i: usize, hint: &Hint, outcome: HintOutcome) -> Placed
     requires { HeldHint hint.now outcome true n i state.old }
     ensures { Placing (place_main hint.now i (view_rows n state.old)) result state.new }
@@ -197,6 +183,7 @@ fn place_main(state: &mut [u8], n: usize, i: usize, hint: &Hint, outcome: HintOu
 
 // 3. A verified key is Rejected, unless stated and differing. The paths are compared at most once, and not for a verified key that
 // isn't stated.
+#[tactic(auto, using(room::proofs::RoomToFile::laid_out, crate::proofs::HeldKeys::stays_unstated, crate::proofs::HeldKeys::stays_same, crate::proofs::HeldKeys::goes_to_main, crate::proofs::HeldKeys::goes_to_probation, crate::proofs::HeldKeys::held_in_main, crate::proofs::HeldKeys::held_in_probation, crate::proofs::HeldKeys::rejected_there), unfolding(crate::specs::Operands::held_outcome, rules::specs::Placement::held_outcome))]
 pub fn place_held(state: &mut [u8], n: usize, i: usize, hint: &Hint) -> Placed
     requires { Holds hint.now.key n i state.old × ((view_rows n state.old).seq ≤ last_seq) }
     ensures { Placing (place_held hint.now i (view_rows n state.old)) result state.new }
@@ -212,7 +199,8 @@ pub fn place_held(state: &mut [u8], n: usize, i: usize, hint: &Hint) -> Placed
     }
     let outcome = outcome_of(same);
     if row.place() < PROBATION {
-        return place_main(state, n, i, hint, outcome);
+        place_main(state, n, i, hint, outcome)
+    } else {
+        place_probation(state, n, i, hint, outcome)
     }
-    place_probation(state, n, i, hint, outcome)
 }

@@ -13,7 +13,7 @@ use entries::new_entry::new_entry;
 use filing::in_room::file_in_room;
 use memory::codes::{BY_USE, PROBATION};
 use room::probation::make_probation_room;
-use room::victims::make_room;
+use room::victims::{Room, make_room};
 use types::placed::{Funding, HintOutcome, Placed, Segment};
 
 fn inserted(added: u64, segment: Segment, unfunded: bool, examined: u64) -> Placed
@@ -22,14 +22,14 @@ fn inserted(added: u64, segment: Segment, unfunded: bool, examined: u64) -> Plac
     Placed {
         outcome: HintOutcome::Inserted,
         added_weight: added,
-        segment: segment,
-        unfunded: unfunded,
-        examined: examined,
+        segment,
+        unfunded,
+        examined,
     }
 }
 
 // To probation, with room made there; `before` keys were examined already.
-#[tactic(auto, using(room::proofs::RoomToFile::laid_out, crate::proofs::NewKeys::probation_few, crate::proofs::NewKeys::probation_takes), unfolding(rules::specs::Placement::new_in_probation, rules::specs::Placement::place_result))]
+#[tactic(auto, using(room::proofs::RoomToFile::laid_out, crate::proofs::NewKeys::probation_few, crate::proofs::NewKeys::probation_takes), unfolding(crate::specs::Operands::new_in_probation, crate::specs::Operands::new_entry, rules::specs::Placement::new_in_probation, rules::specs::Placement::place_result))]
 fn new_in_probation(state: &mut [u8], n: usize, hint: &Hint, unfunded: bool, before: u64) -> Placed
     requires { Without hint.now.key n state.old × StampsLeft n state.old × (before ≤ 2 * max_rows) }
     ensures { Placing (new_in_probation hint.now unfunded before (view_rows n state.old)) result state.new }
@@ -43,33 +43,36 @@ fn new_in_probation(state: &mut [u8], n: usize, hint: &Hint, unfunded: bool, bef
 }
 
 // Covered, and room was made: to main, at its weight.
-#[tactic(auto, unfolding(rules::specs::Placement::place_result))]
-fn new_in_main(
-    state: &mut [u8],
-    n: usize,
-    victim: Option<usize>,
-    stored: u64,
-    hint: &Hint,
-    examined: u64,
-) -> Placed
-    requires { Takes hint.now.key victim stored n state.old }
-    ensures { Placing (new_in_main hint.now examined (without_victim victim (view_rows n state.old))) result state.new }
+#[tactic(auto, unfolding(crate::specs::Operands::new_in_main, crate::specs::Operands::new_entry, rules::specs::Placement::place_result))]
+fn new_in_main(state: &mut [u8], room: Room, hint: &Hint) -> Placed
+    requires { Takes hint.now.key room.victim room.stored room.rows state.old }
+    ensures { Placing (new_in_main hint.now room.examined (without_victim room.victim (view_rows room.rows state.old))) result state.new }
 {
     let w = hint.weight();
     let e = new_entry(hint.path, hint.time, hint.ttl);
-    file_in_room(state, n, victim, stored, hint.key, e, w, BY_USE);
-    inserted(raw::numbers::wide(w), Segment::Main, false, examined)
+    let victim = room.victim;
+    file_in_room(
+        state,
+        room.rows,
+        victim,
+        room.stored,
+        hint.key,
+        e,
+        w,
+        BY_USE,
+    );
+    inserted(raw::numbers::wide(w), Segment::Main, false, room.examined)
 }
 
 // No room: Upto to probation, but not unfunded; Uncharged is Rejected.
-#[tactic(auto, using(filing::proofs::FiledInRoom::rows_there), unfolding(rules::specs::Placement::new_without_room, rules::specs::Placement::place_result, rules::specs::Placement::rejected))]
-fn new_without_room(state: &mut [u8], n: usize, hint: &Hint, examined: u64) -> Placed
-    requires { Without hint.now.key n state.old × StampsLeft n state.old × (examined ≤ 2 * max_rows) }
-    ensures { Placing (new_without_room hint.now (no_room (view_rows n state.old) examined)) result state.new }
+#[tactic(auto, using(filing::proofs::FiledInRoom::rows_there), unfolding(crate::specs::Operands::new_without_room, crate::specs::Operands::new_in_probation, rules::specs::Placement::new_without_room, rules::specs::Placement::place_result, rules::specs::Placement::rejected))]
+fn new_without_room(state: &mut [u8], room: Room, hint: &Hint) -> Placed
+    requires { Without hint.now.key room.rows state.old × StampsLeft room.rows state.old × (room.examined ≤ 2 * max_rows) }
+    ensures { Placing (new_without_room hint.now (no_room (view_rows room.rows state.old) room.examined)) result state.new }
 {
     match hint.funding {
-        Funding::Uncharged => reject(false, examined),
-        Funding::Upto(_) => new_in_probation(state, n, hint, false, examined),
+        Funding::Uncharged => reject(false, room.examined),
+        Funding::Upto(_) => new_in_probation(state, room.rows, hint, false, room.examined),
     }
 }
 
@@ -81,12 +84,13 @@ pub fn reject(unfunded: bool, examined: u64) -> Placed
         outcome: HintOutcome::Rejected,
         added_weight: 0,
         segment: Segment::Main,
-        unfunded: unfunded,
-        examined: examined,
+        unfunded,
+        examined,
     }
 }
 
 // Not covered, to probation, unfunded; covered and room made, to main.
+#[tactic(auto, using(room::proofs::RoomToFile::laid_out, filing::proofs::RoomSought::stamps_left, filing::proofs::RoomSought::room_asks, crate::proofs::NewKeys::new_uncovered, crate::proofs::NewKeys::new_covered, crate::proofs::NewKeys::in_made, crate::proofs::NewKeys::in_unmade, crate::proofs::NewKeys::made_takes))]
 pub fn place_new(state: &mut [u8], n: usize, hint: &Hint) -> Placed
     requires { Without hint.now.key n state.old × ((view_rows n state.old).seq ≤ last_seq) }
     ensures { Placing (place_new hint.now (view_rows n state.old)) result state.new }
@@ -97,8 +101,8 @@ pub fn place_new(state: &mut [u8], n: usize, hint: &Hint) -> Placed
     }
     let room = make_room(state, n, w, hint.time);
     if room.made {
-        let victim = room.victim;
-        return new_in_main(state, room.rows, victim, room.stored, hint, room.examined);
+        new_in_main(state, room, hint)
+    } else {
+        new_without_room(state, room, hint)
     }
-    new_without_room(state, room.rows, hint, room.examined)
 }
