@@ -9,7 +9,6 @@ use borrow.Author.Tests.{lt-ltb, le-ltb, le-leb, lt-leb, eq-eqb, ltb-false}
 use Rattle.types.specs.declared.node_addr.NodeAddr.{NodeAddr}
 use Rattle.types.specs.declared.placed.Segment.{Segment}
 use Rattle.types.specs.declared.placed.Segment.TheVariants.{Main, Probation}
-use Rattle.types.specs.declared.placed.HintOutcome.{HintOutcome}
 use Rattle.types.specs.declared.placed.Placed.{Placed}
 use Rattle.types.specs.Paths.{same_path, path_weight}
 use Rattle.types.specs.Values.{covers}
@@ -45,6 +44,7 @@ use Rattle.filing.specs.InRoom.{Takes}
 use Rattle.filing.proofs.FiledInRoom.{rows_there}
 use Rattle.filing.proofs.RoomSought.{Sought, free_main, free_state, still_without, takes}
 use Rattle.placement.specs.declared.operands.Hint.{Hint}
+use Rattle.placement.specs.declared.held_key.Held.{Held}
 use Rattle.placement.specs.Operands.{update, held_outcome, refile_held, promote, place_probation, grow, place_main, place_held}
 use Rattle.placement.specs.Placements.{Placing, row_in, Holds, HeldHint, rejected_as}
 
@@ -91,67 +91,68 @@ module _ {k : NodeAddr} {n i : ℕ} {l m : List ℕ} (u : Out k n i l m) where
   out_seq : (view_rows n l).seq ≤ last_seq → (view_rows (n - 1) m).seq ≤ last_seq
   out_seq q = rw u.state (omega (arith, take_out_seq i (view_rows n l)))
 
--- the row of a held hint is out of memory l, as m is left, and room was sought there for w, as r and x tell
-pub record Lifted (h : Hint) (o : HintOutcome) (b : Bool) (n i w : ℕ) (r : RoomAnswer) (l m x : List ℕ) : Type 0 where
-  pub held : HeldHint h o b n i l
+-- the row of a held hint is out of memory l, as m is left, and room was sought there for w, as r and x tell; b: it was in main
+pub record Lifted (h : Hint) (at : Held) (b : Bool) (w : ℕ) (r : RoomAnswer) (l m x : List ℕ) : Type 0 where
+  pub held : HeldHint h at l
+  pub main : in_main (row_in at.n at.i l) ≡ b
   pub out_size : length m ≡ length l
-  pub out : view_rows (n - 1) m ≡ take_out i (view_rows n l)
+  pub out : view_rows (at.n - 1) m ≡ take_out at.i (view_rows at.n l)
   pub size : length x ≡ length m
-  pub room : room_of r (view_rows r.rows x) ≡ make_room h.time w (view_rows (n - 1) m)
-  pub rows : r.rows ≤ n - 1
-  pub leaves : Leaves r.victim r.stored (view_rows (n - 1) m).rows (view_rows r.rows x).rows
+  pub room : room_of r (view_rows r.rows x) ≡ make_room h.time w (view_rows (at.n - 1) m)
+  pub rows : r.rows ≤ at.n - 1
+  pub leaves : Leaves r.victim r.stored (view_rows (at.n - 1) m).rows (view_rows r.rows x).rows
   pub none : r.made ≡ false → r.victim ≡ None
 
 -- the same, from what the functions promise
-pub lifted : {h : Hint} {o : HintOutcome} {b : Bool} {n i v w : ℕ} {r : RoomAnswer} {l m x : List ℕ} → HeldHint h o b n i l → length m ≡ length l
-    → view_rows (n - 1) m ≡ take_out i (view_rows n l) → v ≡ w → length x ≡ length m
-    → (room_of r (view_rows r.rows x) ≡ make_room h.time v (view_rows (n - 1) m)) × (r.rows ≤ n - 1)
-    × Leaves r.victim r.stored (view_rows (n - 1) m).rows (view_rows r.rows x).rows × (r.made ≡ false → r.victim ≡ None) → Lifted h o b n i w r l m x
-lifted held z e g y f = record { held = held; out_size = z; out = e; size = y; room = rw (← g) f.0; rows = f.1; leaves = f.2; none = f.3 }
+pub lifted : {h : Hint} {at : Held} {b : Bool} {v w : ℕ} {r : RoomAnswer} {l m x : List ℕ} → HeldHint h at l × (in_main (row_in at.n at.i l) ≡ b) → length m ≡ length l
+    → view_rows (at.n - 1) m ≡ take_out at.i (view_rows at.n l) → v ≡ w → length x ≡ length m
+    → (room_of r (view_rows r.rows x) ≡ make_room h.time v (view_rows (at.n - 1) m)) × (r.rows ≤ at.n - 1)
+    × Leaves r.victim r.stored (view_rows (at.n - 1) m).rows (view_rows r.rows x).rows × (r.made ≡ false → r.victim ≡ None) → Lifted h at b w r l m x
+lifted held z e g y f = record { held = held.0; main = held.1; out_size = z; out = e; size = y; room = rw (← g) f.0; rows = f.1; leaves = f.2; none = f.3 }
 
 -- the row with its entry updated, filed at place c
 abbrev pub filed : Hint → ℕ → NewEntry → RoomAnswer → List ℕ → ℕ → State
 filed h w a r x c = file_new h.key (entry_from a) w c (without_victim r.victim (view_rows r.rows x))
 
-module _ {h : Hint} {o : HintOutcome} {b : Bool} {n i w : ℕ} {r : RoomAnswer} {l m x : List ℕ} (t : Lifted h o b n i w r l m x) where
-  u : Out h.key n i l m
+module _ {h : Hint} {at : Held} {b : Bool} {w : ℕ} {r : RoomAnswer} {l m x : List ℕ} (t : Lifted h at b w r l m x) where
+  u : Out h.key at.n at.i l m
   u = record { holds = t.held.holds; size = t.out_size; state = t.out }
 
-  so : Sought m x (n - 1) h.time w r
+  so : Sought m x (at.n - 1) h.time w r
   so = record { size = t.size; room = t.room; rows = t.rows; leaves = t.leaves; none = t.none }
 
-  without : Without h.key (n - 1) m
+  without : Without h.key (at.n - 1) m
   without = out_without u
 
-  made : Roomed h.time w (view_rows (n - 1) m) (make_room h.time w (view_rows (n - 1) m))
-  made = room_roomed h.time w (view_rows (n - 1) m) (ready (shown (n - 1) m without.sound))
+  made : Roomed h.time w (view_rows (at.n - 1) m) (make_room h.time w (view_rows (at.n - 1) m))
+  made = room_roomed h.time w (view_rows (at.n - 1) m) (ready (shown (at.n - 1) m without.sound))
 
-  limits_kept : limits_of (make_room h.time w (view_rows (n - 1) m)).state ≡ limits_of (view_rows n l)
-  limits_kept = made.limits ∙ rw t.out (take_out_limits i (view_rows n l))
+  limits_kept : limits_of (make_room h.time w (view_rows (at.n - 1) m)).state ≡ limits_of (view_rows at.n l)
+  limits_kept = made.limits ∙ rw t.out (take_out_limits at.i (view_rows at.n l))
 
   -- the row that was taken out left one free
-  freed : (c : Bool) → in_main (row_in n i l) ≡ c → r.victim ≡ None → r.rows < capacity x
+  freed : (c : Bool) → in_main (row_in at.n at.i l) ≡ c → r.victim ≡ None → r.rows < capacity x
   freed true p q =
-      let a : main_count (view_rows (n - 1) m) + 1 ≡ main_count (view_rows n l) = rw t.out (take_out_main i (view_rows n l) (inside u) p) in
-      free_main h.key (n - 1) m x h.time w r without so (omega (arith, ap probation_of limits_kept, capacity_same l m t.out_size, made.mains, a, (whole u).mains)) q
+      let a : main_count (view_rows (at.n - 1) m) + 1 ≡ main_count (view_rows at.n l) = rw t.out (take_out_main at.i (view_rows at.n l) (inside u) p) in
+      free_main h.key (at.n - 1) m x h.time w r without so (omega (arith, ap probation_of limits_kept, capacity_same l m t.out_size, made.mains, a, (whole u).mains)) q
   freed false p q =
-      let y = not_main (row_in n i l) (every_at (RowOk (view_rows n l).seq) i (view_rows n l).rows (inside u) (whole u).each).place p in
-      let a : probation_count (view_rows (n - 1) m) + 1 ≡ probation_count (view_rows n l) = rw t.out (probation_one_less i (view_rows n l) (inside u) y) in
-      free_in_probation r.rows x (still_without h.key (n - 1) m x h.time w r without so q).sound
-      (rw (free_state h.key (n - 1) m x h.time w r without so q) (omega (arith, ap probation_of limits_kept, made.probations, a, (whole u).probations)))
+      let y = not_main (row_in at.n at.i l) (every_at (RowOk (view_rows at.n l).seq) at.i (view_rows at.n l).rows (inside u) (whole u).each).place p in
+      let a : probation_count (view_rows (at.n - 1) m) + 1 ≡ probation_count (view_rows at.n l) = rw t.out (probation_one_less at.i (view_rows at.n l) (inside u) y) in
+      free_in_probation r.rows x (still_without h.key (at.n - 1) m x h.time w r without so q).sound
+      (rw (free_state h.key (at.n - 1) m x h.time w r without so q) (omega (arith, ap probation_of limits_kept, made.probations, a, (whole u).probations)))
 
   -- what filing asks
   pub out_takes : Takes h.key r.victim r.stored r.rows x
-  out_takes = takes h.key (n - 1) m x h.time w r without so (freed b t.held.main) (out_seq u t.held.seq)
+  out_takes = takes h.key (at.n - 1) m x h.time w r without so (freed b t.main) (out_seq u t.held.seq)
 
   -- the room that was sought, by the rules
-  room_there : room_of r (view_rows r.rows x) ≡ make_room h.time w (take_out i (view_rows n l))
+  room_there : room_of r (view_rows r.rows x) ≡ make_room h.time w (take_out at.i (view_rows at.n l))
   room_there = t.room ∙ rw t.out
 
   -- filed in main or in probation: to is where, in which segment, and the charge that is added
-  pub promoted_is : (a : NewEntry) {to : ℕ × Segment × ℕ} {y : List ℕ} → entry_from a ≡ update h (row_in n i l).entry
+  pub promoted_is : (a : NewEntry) {to : ℕ × Segment × ℕ} {y : List ℕ} → entry_from a ≡ update h (row_in at.n at.i l).entry
       → to ≡ cond r.made (by_use, Main, w) (probation, Probation, 0) → view_rows (length (filed h w a r x to.0).rows) y ≡ filed h w a r x to.0
-      → Placing (promote h w i (view_rows n l)) (record { outcome = o; added_weight = to.2; segment = to.1; unfunded = false; examined = r.examined }) y
+      → Placing (promote h w at.i (view_rows at.n l)) (record { outcome = at.outcome; added_weight = to.2; segment = to.1; unfunded = false; examined = r.examined }) y
   unfolding promote update held_outcome rule.promote place_result room_of
   promoted_is a {to} {y} ea et ef = rw (← room_there, ← t.held.outcome, ← ea, et) (go r.made (rw et at ef))
     where
@@ -159,39 +160,39 @@ module _ {h : Hint} {o : HintOutcome} {b : Bool} {n i w : ℕ} {r : RoomAnswer} 
       goes c = cond c (by_use, Main, w) (probation, Probation, 0)
 
       go : (c : Bool) → view_rows (length (filed h w a r x (goes c).0).rows) y ≡ filed h w a r x (goes c).0
-          → Placing (cond c (place_result o w Main false r.examined (filed h w a r x by_use)) (place_result o 0 Probation false r.examined (filed h w a r x probation)))
-          (record { outcome = o; added_weight = (goes c).2; segment = (goes c).1; unfunded = false; examined = r.examined }) y
+          → Placing (cond c (place_result at.outcome w Main false r.examined (filed h w a r x by_use)) (place_result at.outcome 0 Probation false r.examined (filed h w a r x probation)))
+          (record { outcome = at.outcome; added_weight = (goes c).2; segment = (goes c).1; unfunded = false; examined = r.examined }) y
       go true f = record { says = refl; state = f }
       go false f = record { says = refl; state = f }
 
   -- grown, where room was made or the hint is stated
-  pub grown_is : (a : NewEntry) {q : ℕ} {y : List ℕ} → entry_from a ≡ update h (row_in n i l).entry → q ≡ w - (row_in n i l).weight → r.made || h.stated ≡ true
+  pub grown_is : (a : NewEntry) {q : ℕ} {y : List ℕ} → entry_from a ≡ update h (row_in at.n at.i l).entry → q ≡ w - (row_in at.n at.i l).weight → r.made || h.stated ≡ true
       → view_rows (length (filed h w a r x by_use).rows) y ≡ filed h w a r x by_use
-      → Placing (grow h w i (view_rows n l)) (record { outcome = o; added_weight = q; segment = Main; unfunded = false; examined = r.examined }) y
+      → Placing (grow h w at.i (view_rows at.n l)) (record { outcome = at.outcome; added_weight = q; segment = Main; unfunded = false; examined = r.examined }) y
   unfolding grow update held_outcome rule.grow place_result room_of
   grown_is a ea eq c ef = rw (← room_there, c, ← t.held.outcome, ← ea, ← eq) (record { says = refl; state = ef })
 
   -- no room was made, and the hint is not stated: a, the row's bytes, go back
-  module _ {a : List ℕ} (ea : a ≡ cut (head_size + i * row_size) row_size l) (c : r.made || h.stated ≡ false) where
+  module _ {a : List ℕ} (ea : a ≡ cut (head_size + at.i * row_size) row_size l) (c : r.made || h.stated ≡ false) where
     unmade : (d : Bool) → r.made ≡ d → r.victim ≡ None
     unmade true e = contradiction (rw e) c
     unmade false e = t.none e
 
     pub goes_back_asks : Free h.key r.rows x × ((row_of a).key ≡ h.key)
-    goes_back_asks = (out_takes.free (unmade r.made refl), rw (saved_row n i l t.held.holds.inside ea) t.held.holds.key)
+    goes_back_asks = (out_takes.free (unmade r.made refl), rw (saved_row at.n at.i l t.held.holds.inside ea) t.held.holds.key)
 
     pub goes_back : {d : Placed} {y : List ℕ} → d ≡ rejected_as false r.examined
-        → view_rows (r.rows + 1) y ≡ file_new h.key (row_of a).entry (row_of a).weight by_use (view_rows r.rows x) → Placing (grow h w i (view_rows n l)) d y
+        → view_rows (r.rows + 1) y ≡ file_new h.key (row_of a).entry (row_of a).weight by_use (view_rows r.rows x) → Placing (grow h w at.i (view_rows at.n l)) d y
     unfolding grow rule.grow rejected place_result room_of
-    goes_back ed ey = rw (← room_there, c, ← (saved_row n i l t.held.holds.inside ea), without_none _ _ (unmade r.made refl)) (record { says = ed; state = rows_there _ _ _ ey })
+    goes_back ed ey = rw (← room_there, c, ← (saved_row at.n at.i l t.held.holds.inside ea), without_none _ _ (unmade r.made refl)) (record { says = ed; state = rows_there _ _ _ ey })
 
 -- ---- 3. a verified row
 
-main_of : (r : Row) → r.place < 2 → in_main r ≡ true
+pub main_of : (r : Row) → r.place < 2 → in_main r ≡ true
 unfolding in_main
 main_of r h = lt-ltb r.place 2 h
 
-main_not : (r : Row) → 2 ≤ r.place → in_main r ≡ false
+pub main_not : (r : Row) → 2 ≤ r.place → in_main r ≡ false
 unfolding in_main
 main_not r h = le-ltb r.place 2 h
 
@@ -220,13 +221,6 @@ module _ (h : Hint) (i : ℕ) (s : State) where
     pub goes_to_probation : 2 ≤ (row_at i s.rows).place → place_probation h i s ≡ place_held h i s
     unfolding place_held place_probation rule.place_held rule.stays_verified
     goes_to_probation e = rw ((stays_as (verified h.time (row_at i s.rows).entry) h.stated (same_path (row_at i s.rows).entry.path h.path)).2 a b, main_not (row_at i s.rows) e)
-
-module _ (h : Hint) (o : HintOutcome) (n i : ℕ) (l : List ℕ) (at : Holds h.key n i l) (q : (view_rows n l).seq ≤ last_seq) (e : o ≡ held_outcome h (row_in n i l)) where
-  pub held_in_main : (row_in n i l).place < 2 → HeldHint h o true n i l
-  held_in_main p = record { holds = at; seq = q; main = main_of (row_in n i l) p; outcome = e }
-
-  pub held_in_probation : 2 ≤ (row_in n i l).place → HeldHint h o false n i l
-  held_in_probation p = record { holds = at; seq = q; main = main_not (row_in n i l) p; outcome = e }
 
 -- ---- 4. in probation
 

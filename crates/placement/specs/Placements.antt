@@ -3,17 +3,17 @@ use Rattle.std.specs.Prelude.{◌≡◌, List, Bool, true, false, ℕ, ◌≤◌
 use Rattle.types.specs.declared.node_addr.NodeAddr.{NodeAddr}
 use Rattle.types.specs.declared.placed.Segment.{Segment}
 use Rattle.types.specs.declared.placed.Segment.TheVariants.{Main}
-use Rattle.types.specs.declared.placed.HintOutcome.{HintOutcome}
 use Rattle.types.specs.declared.placed.HintOutcome.TheVariants.{Inserted, Rejected}
 use Rattle.types.specs.declared.placed.Placed.{Placed}
 use Rattle.rules.specs.Records.{Row, State}
 use Rattle.rules.specs.Room.{Room}
-use Rattle.rules.specs.Rows.{row_at, in_main}
+use Rattle.rules.specs.Rows.{row_at}
 use Rattle.rules.specs.Sound.{sound}
 use Rattle.rules.specs.Placement.{PlaceResult}
 use Rattle.rules.specs.Refusals.{last_seq}
 use Rattle.rules.specs.Memory.{capacity, view_rows}
 use Rattle.placement.specs.declared.operands.Hint.{Hint}
+use Rattle.placement.specs.declared.held_key.Held.{Held}
 use Rattle.placement.specs.Operands.{held_outcome}
 
 pub record Placing (u : PlaceResult) (r : Placed) (m : List ℕ) : Type 0 where
@@ -42,9 +42,8 @@ pub record Holds (k : NodeAddr) (n i : ℕ) (l : List ℕ) : Type 0 where
   pub inside : i < n
   pub key : (row_in n i l).key ≡ k
 
--- a hint for the key of row i, past step 3: the row is in main as b says, and the outcome is o
-pub record HeldHint (h : Hint) (o : HintOutcome) (b : Bool) (n i : ℕ) (l : List ℕ) : Type 0 where
-  pub holds : Holds h.key n i l
-  pub seq : (view_rows n l).seq ≤ last_seq
-  pub main : in_main (row_in n i l) ≡ b
-  pub outcome : o ≡ held_outcome h (row_in n i l)
+-- a hint past step 3: its key holds the row, and the outcome is that of the two paths
+pub record HeldHint (h : Hint) (at : Held) (l : List ℕ) : Type 0 where
+  pub holds : Holds h.key at.n at.i l
+  pub seq : (view_rows at.n l).seq ≤ last_seq
+  pub outcome : at.outcome ≡ held_outcome h (row_in at.n at.i l)

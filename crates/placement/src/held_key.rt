@@ -1,10 +1,10 @@
 // A held key: 3. verified, 4. in probation, 5. in main.
 ghost use Rattle.std.specs.Prelude.{◌≡◌, true, false, cond, ◌-◌, ◌≤◌, ◌<◌, max};
 ghost use Rattle.types.specs.declared.placed.HintOutcome.TheVariants.{Changed, Unchanged};
-ghost use Rattle.rules.specs.Sound.{sound};
+ghost use Rattle.rules.specs.Rows.{in_main};
 ghost use Rattle.rules.specs.Refusals.{last_seq};
-ghost use Rattle.rules.specs.Memory.{capacity, view_rows};
-ghost use Rattle.placement.specs.Operands.{held_outcome, refile_held, promote, place_probation, grow, place_main, place_held};
+ghost use Rattle.rules.specs.Memory.{view_rows};
+ghost use Rattle.placement.specs.Operands.{refile_held, promote, place_probation, grow, place_main, place_held};
 ghost use Rattle.placement.specs.Placements.{Placing, Holds, HeldHint, row_in};
 
 use crate::new_key::reject;
@@ -23,6 +23,14 @@ use room::victims::make_room;
 use rows::saved::save_row;
 use types::placed::{HintOutcome, Placed, Segment};
 
+// The hint's key stands in row i of n; its outcome where the row is written.
+#[derive(Clone, Copy)]
+struct Held {
+    n: usize,
+    i: usize,
+    outcome: HintOutcome,
+}
+
 // Unchanged where the paths are the same, else Changed.
 fn outcome_of(same: bool) -> HintOutcome
     ensures { result ≡ cond same Unchanged Changed }
@@ -36,21 +44,15 @@ fn outcome_of(same: bool) -> HintOutcome
 
 // Updated and refiled at this weight, with nothing added.
 #[tactic(auto, using(room::proofs::RoomToFile::laid_out, filing::proofs::FiledInRoom::rows_there), unfolding(rules::specs::Placement::place_result, crate::specs::Operands::refile_held, crate::specs::Operands::held_outcome, crate::specs::Operands::update))]
-fn refile_held(
-    state: &mut [u8],
-    n: usize,
-    i: usize,
-    hint: &Hint,
-    weight: u8,
-    segment: Segment,
-    outcome: HintOutcome,
-) -> Placed
-    requires { (sound (capacity state.old) (view_rows n state.old) ≡ true) × (i < n) × ((view_rows n state.old).seq ≤ last_seq) × (outcome ≡ held_outcome hint.now (row_in n i state.old)) }
-    ensures { Placing (refile_held hint.now weight segment i (view_rows n state.old)) result state.new }
+fn refile_held(state: &mut [u8], held: Held, hint: &Hint, weight: u8, segment: Segment) -> Placed
+    requires { HeldHint hint.now held state.old }
+    ensures { Placing (refile_held hint.now weight segment held.i (view_rows held.n state.old)) result state.new }
 {
-    update_in_place(state, n, i, hint.path, hint.time, hint.ttl, weight);
+    update_in_place(
+        state, held.n, held.i, hint.path, hint.time, hint.ttl, weight,
+    );
     Placed {
-        outcome,
+        outcome: held.outcome,
         added_weight: 0,
         segment,
         unfunded: false,
@@ -60,20 +62,18 @@ fn refile_held(
 
 // Covered: taken out, updated, and with room made filed in main, or without room back in probation.
 #[tactic(auto, using(room::proofs::RoomToFile::laid_out, filing::proofs::RoomSought::room_asks, crate::proofs::HeldKeys::weight_stored, crate::proofs::HeldKeys::taken_sound, rules::proofs::Others::take_out_seq))]
-fn promote(
-    state: &mut [u8],
-    n: usize,
-    i: usize,
-    hint: &Hint,
-    weight: u8,
-    outcome: HintOutcome,
-) -> Placed
-    requires { HeldHint hint.now outcome false n i state.old }
-    ensures { Placing (promote hint.now weight i (view_rows n state.old)) result state.new }
+fn promote(state: &mut [u8], held: Held, hint: &Hint, weight: u8) -> Placed
+    requires { HeldHint hint.now held state.old × (in_main (row_in held.n held.i state.old) ≡ false) }
+    ensures { Placing (promote hint.now weight held.i (view_rows held.n state.old)) result state.new }
 {
-    let e = updated_entry(&row_at(state, n, i), hint.path, hint.time, hint.ttl);
-    remove_row(state, n, i);
-    let room = make_room(state, n - 1, wide(weight), hint.time);
+    let e = updated_entry(
+        &row_at(state, held.n, held.i),
+        hint.path,
+        hint.time,
+        hint.ttl,
+    );
+    remove_row(state, held.n, held.i);
+    let room = make_room(state, held.n - 1, wide(weight), hint.time);
     let victim = room.victim;
     // The charge is added only where room was made.
     let (place, segment, added) = if room.made {
@@ -92,7 +92,7 @@ fn promote(
         place,
     );
     Placed {
-        outcome,
+        outcome: held.outcome,
         added_weight: added,
         segment,
         unfunded: false,
@@ -102,43 +102,34 @@ fn promote(
 
 // 4. In probation.
 #[tactic(auto, using(room::proofs::RoomToFile::laid_out, crate::proofs::HeldKeys::probation_covered, crate::proofs::HeldKeys::probation_uncovered))]
-fn place_probation(
-    state: &mut [u8],
-    n: usize,
-    i: usize,
-    hint: &Hint,
-    outcome: HintOutcome,
-) -> Placed
-    requires { HeldHint hint.now outcome false n i state.old }
-    ensures { Placing (place_probation hint.now i (view_rows n state.old)) result state.new }
+fn place_probation(state: &mut [u8], held: Held, hint: &Hint) -> Placed
+    requires { HeldHint hint.now held state.old × (in_main (row_in held.n held.i state.old) ≡ false) }
+    ensures { Placing (place_probation hint.now held.i (view_rows held.n state.old)) result state.new }
 {
-    let w = hint.weight().max(row_at(state, n, i).weight());
+    let w = hint.weight().max(row_at(state, held.n, held.i).weight());
     if hint.funding.covers(wide(w)) {
-        promote(state, n, i, hint, w, outcome)
+        promote(state, held, hint, w)
     } else {
-        refile_held(state, n, i, hint, w, Segment::Probation, outcome)
+        refile_held(state, held, hint, w, Segment::Probation)
     }
 }
 
 // Growth to this weight: row out, room sought for it; without room an unstated one goes back unchanged but newly stamped.
 #[tactic(auto, using(room::proofs::RoomToFile::laid_out, filing::proofs::RoomSought::room_asks, crate::proofs::HeldKeys::weight_stored, crate::proofs::HeldKeys::taken_sound, rules::proofs::Others::take_out_seq))]
-fn grow(
-    state: &mut [u8],
-    n: usize,
-    i: usize,
-    hint: &Hint,
-    weight: u8,
-    added: u64,
-    outcome: HintOutcome,
-) -> Placed
-    requires { HeldHint hint.now outcome true n i state.old × (added ≡ weight - (row_in n i state.old).weight) }
-    ensures { Placing (grow hint.now weight i (view_rows n state.old)) result state.new }
+fn grow(state: &mut [u8], held: Held, hint: &Hint, weight: u8, added: u64) -> Placed
+    requires { HeldHint hint.now held state.old × (in_main (row_in held.n held.i state.old) ≡ true) × (added ≡ weight - (row_in held.n held.i state.old).weight) }
+    ensures { Placing (grow hint.now weight held.i (view_rows held.n state.old)) result state.new }
 {
-    let e = updated_entry(&row_at(state, n, i), hint.path, hint.time, hint.ttl);
-    let saved = save_row(state, n, i);
-    remove_row(state, n, i);
+    let e = updated_entry(
+        &row_at(state, held.n, held.i),
+        hint.path,
+        hint.time,
+        hint.ttl,
+    );
+    let saved = save_row(state, held.n, held.i);
+    remove_row(state, held.n, held.i);
     let w = wide(weight);
-    let room = make_room(state, n - 1, w, hint.time);
+    let room = make_room(state, held.n - 1, w, hint.time);
     if room.made | hint.stated {
         let victim = room.victim;
         file_in_room(
@@ -152,7 +143,7 @@ fn grow(
             BY_USE,
         );
         return Placed {
-            outcome,
+            outcome: held.outcome,
             added_weight: added,
             segment: Segment::Main,
             unfunded: false,
@@ -165,25 +156,25 @@ fn grow(
 
 // 5. In main.
 #[tactic(auto, using(room::proofs::RoomToFile::laid_out, crate::proofs::HeldKeys::main_kept, crate::proofs::HeldKeys::main_grown, crate::proofs::HeldKeys::main_rejected, crate::proofs::HeldKeys::rejected_there))]
-fn place_main(state: &mut [u8], n: usize, i: usize, hint: &Hint, outcome: HintOutcome) -> Placed
-    requires { HeldHint hint.now outcome true n i state.old }
-    ensures { Placing (place_main hint.now i (view_rows n state.old)) result state.new }
+fn place_main(state: &mut [u8], held: Held, hint: &Hint) -> Placed
+    requires { HeldHint hint.now held state.old × (in_main (row_in held.n held.i state.old) ≡ true) }
+    ensures { Placing (place_main hint.now held.i (view_rows held.n state.old)) result state.new }
 {
     let w = hint.weight();
-    let old = row_at(state, n, i).weight();
+    let old = row_at(state, held.n, held.i).weight();
     if w <= old {
-        return refile_held(state, n, i, hint, old, Segment::Main, outcome);
+        return refile_held(state, held, hint, old, Segment::Main);
     }
     let added = wide(w) - wide(old);
     if !hint.funding.covers(added) {
         return reject(true, 0);
     }
-    grow(state, n, i, hint, w, added, outcome)
+    grow(state, held, hint, w, added)
 }
 
 // 3. A verified key is Rejected, unless stated and differing. The paths are compared at most once, and not for a verified key that
 // isn't stated.
-#[tactic(auto, using(room::proofs::RoomToFile::laid_out, crate::proofs::HeldKeys::stays_unstated, crate::proofs::HeldKeys::stays_same, crate::proofs::HeldKeys::goes_to_main, crate::proofs::HeldKeys::goes_to_probation, crate::proofs::HeldKeys::held_in_main, crate::proofs::HeldKeys::held_in_probation, crate::proofs::HeldKeys::rejected_there), unfolding(crate::specs::Operands::held_outcome, rules::specs::Placement::held_outcome))]
+#[tactic(auto, using(room::proofs::RoomToFile::laid_out, crate::proofs::HeldKeys::stays_unstated, crate::proofs::HeldKeys::stays_same, crate::proofs::HeldKeys::goes_to_main, crate::proofs::HeldKeys::goes_to_probation, crate::proofs::HeldKeys::main_of, crate::proofs::HeldKeys::main_not, crate::proofs::HeldKeys::rejected_there), unfolding(crate::specs::Operands::held_outcome, rules::specs::Placement::held_outcome))]
 pub fn place_held(state: &mut [u8], n: usize, i: usize, hint: &Hint) -> Placed
     requires { Holds hint.now.key n i state.old × ((view_rows n state.old).seq ≤ last_seq) }
     ensures { Placing (place_held hint.now i (view_rows n state.old)) result state.new }
@@ -197,10 +188,14 @@ pub fn place_held(state: &mut [u8], n: usize, i: usize, hint: &Hint) -> Placed
     if verified & same {
         return reject(false, 0);
     }
-    let outcome = outcome_of(same);
+    let held = Held {
+        n,
+        i,
+        outcome: outcome_of(same),
+    };
     if row.place() < PROBATION {
-        place_main(state, n, i, hint, outcome)
+        place_main(state, held, hint)
     } else {
-        place_probation(state, n, i, hint, outcome)
+        place_probation(state, held, hint)
     }
 }
