@@ -3,14 +3,16 @@ use mathlib.Core.Path.{◌≡◌, sym, ap, ◌∙◌}
 use Prim.Native.Nat.{ℕ, ◌*◌, ◌≤◌, ◌<◌}
 use native.Mathlib.Omega.{arith}
 use mathlib.Core.List.{List}
-use mathlib.Core.Bool.{true, false}
+use mathlib.Core.Bool.{true, false, cond}
 use lib.ListN.{length}
 use Rattle.types.specs.declared.node_addr.NodeAddr.{NodeAddr}
 use Rattle.types.specs.declared.coord.Path.{Path}
 use Rattle.types.specs.Paths.{path_weight}
-use Rattle.types.specs.Values.{largest_number}
+use Rattle.types.specs.Values.{largest_number, covers}
 use Rattle.rules.specs.Records.{State, max_rows, weight_limit}
-use Rattle.rules.specs.Room.{Walk, make_probation_room}
+use Rattle.rules.specs.Room.{Walk, Room, make_room, make_probation_room}
+use Rattle.rules.specs.Placement.{PlaceResult}
+use Rattle.rules.specs.Placement as rule
 use Rattle.rules.specs.Refusals.{last_seq}
 use Rattle.rules.specs.Memory.{capacity, view_rows}
 use Rattle.rules.proofs.Moves.{ProbationRoomMade, probation_evict}
@@ -19,10 +21,13 @@ use Rattle.stamps.specs.Walked.{walk_from}
 use Rattle.std.specs.Prelude.{None}
 use Rattle.room.specs.declared.victims.Room.{Room as RoomAnswer}
 use Rattle.room.specs.declared.probation.ProbationRoom.{ProbationRoom}
-use Rattle.room.specs.Rooms.{without_victim, Leaves, Without, StampsLeft}
+use Rattle.room.specs.Rooms.{room_of, without_victim, Leaves, Without, StampsLeft}
 use Rattle.room.proofs.ClosedForm.{probation_visits_lem}
 use Rattle.room.proofs.LeftVictims.{without_none}
 use Rattle.room.proofs.RoomToFile.{shown, few, free_in_probation, reached_without, without_gone}
+use Rattle.placement.specs.declared.operands.Hint.{Hint}
+use Rattle.placement.specs.Operands.{new_entry, new_in_probation, new_in_main, new_without_room, place_new}
+use Rattle.placement.specs.Placements.{no_room}
 use Rattle.filing.specs.Filings.{Writable}
 use Rattle.filing.specs.InRoom.{Takes}
 use Rattle.filing.proofs.RoomSought.{Sought, victim_seq, left_takes, takes, made_in_main, still_without, examined_few, stamps_after}
@@ -32,6 +37,29 @@ use Rattle.filing.proofs.RoomSought.{Sought, victim_seq, left_takes, takes, made
 pub light : (p : Path) → Writable p → path_weight p ≤ weight_limit
 unfolding path_weight
 light p w = omega (arith, w.short)
+
+-- ---- the new key's place
+
+pub new_uncovered : (h : Hint) (s : State) → covers h.funding (path_weight h.path) ≡ false → new_in_probation h true 0 s ≡ place_new h s
+unfolding place_new new_in_probation new_entry rule.place_new
+new_uncovered h s c = rw c
+
+-- covered, once room was sought
+pub placed_in : Hint → Room → PlaceResult
+placed_in h m = cond m.made (new_in_main h m.examined m.state) (new_without_room h m)
+
+pub new_covered : (h : Hint) (s : State) → covers h.funding (path_weight h.path) ≡ true → place_new h s ≡ placed_in h (make_room h.time (path_weight h.path) s)
+unfolding place_new placed_in new_in_main new_without_room new_entry rule.place_new
+new_covered h s c = rw c
+
+module _ (h : Hint) (r : RoomAnswer) (s : State) where
+  pub in_made : r.made ≡ true → placed_in h (room_of r s) ≡ new_in_main h r.examined (without_victim r.victim s)
+  unfolding placed_in room_of
+  in_made d = rw d
+
+  pub in_unmade : r.made ≡ false → r.victim ≡ None → placed_in h (room_of r s) ≡ new_without_room h (no_room s r.examined)
+  unfolding placed_in room_of
+  in_unmade d v = rw (d, without_none r.victim s v)
 
 -- ---- room in main
 

@@ -1,20 +1,20 @@
 -- What a branch of placement meets, and what it leaves: its answer, and its state in the memory.
-use Rattle.std.specs.Prelude.{◌≡◌, List, Bool, true, false, cond, ℕ, ◌≤◌, ◌<◌, length}
+use Rattle.std.specs.Prelude.{◌≡◌, List, Bool, true, false, ℕ, ◌≤◌, ◌<◌, length}
 use Rattle.types.specs.declared.node_addr.NodeAddr.{NodeAddr}
-use Rattle.types.specs.declared.coord.Path.{Path}
 use Rattle.types.specs.declared.placed.Segment.{Segment}
-use Rattle.types.specs.declared.placed.Segment.TheVariants.{Main, Probation}
-use Rattle.types.specs.declared.placed.HintOutcome.{HintOutcome}
+use Rattle.types.specs.declared.placed.Segment.TheVariants.{Main}
 use Rattle.types.specs.declared.placed.HintOutcome.TheVariants.{Inserted, Rejected}
 use Rattle.types.specs.declared.placed.Placed.{Placed}
 use Rattle.rules.specs.Records.{Row, State}
 use Rattle.rules.specs.Room.{Room}
-use Rattle.rules.specs.Rows.{row_at, in_main}
+use Rattle.rules.specs.Rows.{row_at}
 use Rattle.rules.specs.Sound.{sound}
-use Rattle.rules.specs.Placement.{PlaceResult, held_outcome}
+use Rattle.rules.specs.Placement.{PlaceResult}
 use Rattle.rules.specs.Refusals.{last_seq}
 use Rattle.rules.specs.Memory.{capacity, view_rows}
-use Rattle.filing.specs.Filings.{Writable}
+use Rattle.placement.specs.declared.operands.Hint.{Hint}
+use Rattle.placement.specs.declared.held_key.Held.{Held}
+use Rattle.placement.specs.Operands.{held_outcome}
 
 pub record Placing (u : PlaceResult) (r : Placed) (m : List ℕ) : Type 0 where
   pub says : r ≡ u.placed
@@ -42,14 +42,8 @@ pub record Holds (k : NodeAddr) (n i : ℕ) (l : List ℕ) : Type 0 where
   pub inside : i < n
   pub key : (row_in n i l).key ≡ k
 
--- a hint of path p for the key of row i, past step 3: the row is in main as b says, and the outcome is o
-pub record HeldHint (k : NodeAddr) (p : Path) (o : HintOutcome) (b : Bool) (n i : ℕ) (l : List ℕ) : Type 0 where
-  pub holds : Holds k n i l
-  pub path : Writable p
-  pub seq : (view_rows n l).seq ≤ last_seq
-  pub main : in_main (row_in n i l) ≡ b
-  pub outcome : o ≡ held_outcome p (row_in n i l)
-
--- the charge is added only where room was made
-abbrev pub promoted_as : HintOutcome → Bool → ℕ → ℕ → Placed
-promoted_as o made w examined = cond made (record { outcome = o; added_weight = w; segment = Main; unfunded = false; examined = examined }) (record { outcome = o; added_weight = 0; segment = Probation; unfunded = false; examined = examined })
+-- a hint past step 3: its key holds the row, and the outcome is that of the two paths
+pub record HeldHint (h : Hint) (at : Held) (l : List ℕ) : Type 0 where
+  pub holds : Holds h.key at.n at.i l
+  pub seq : (view_rows at.n l).seq ≤ last_seq
+  pub outcome : at.outcome ≡ held_outcome h (row_in at.n at.i l)

@@ -1,17 +1,14 @@
 // A held key: 3. verified, 4. in probation, 5. in main.
 ghost use Rattle.std.specs.Prelude.{◌≡◌, true, false, cond, ◌-◌, ◌≤◌, ◌<◌, max};
 ghost use Rattle.types.specs.declared.placed.HintOutcome.TheVariants.{Changed, Unchanged};
-ghost use Rattle.rules.specs.Records.{by_use, probation};
-ghost use Rattle.rules.specs.Sound.{sound};
-ghost use Rattle.rules.specs.Entries.{update};
-ghost use Rattle.rules.specs.Room.{refile};
-ghost use Rattle.rules.specs.Placement.{place_result, held_outcome, promote, place_probation, grow, place_main, place_held};
+ghost use Rattle.rules.specs.Rows.{in_main};
 ghost use Rattle.rules.specs.Refusals.{last_seq};
-ghost use Rattle.rules.specs.Memory.{capacity, view_rows};
-ghost use Rattle.filing.specs.Filings.{Writable};
-ghost use Rattle.placement.specs.Placements.{Placing, Holds, HeldHint, row_in, promoted_as};
+ghost use Rattle.rules.specs.Memory.{view_rows};
+ghost use Rattle.placement.specs.Operands.{refile_held, promote, place_probation, grow, place_main, place_held};
+ghost use Rattle.placement.specs.Placements.{Placing, Holds, HeldHint, row_in};
 
-use crate::new_key::{reject, row_weight};
+use crate::new_key::reject;
+use crate::operands::Hint;
 use entries::new_entry::updated_entry;
 use entries::path::path_is;
 use entries::times::is_verified;
@@ -24,9 +21,15 @@ use memory::rows::remove_row;
 use raw::numbers::wide;
 use room::victims::make_room;
 use rows::saved::save_row;
-use types::coord::Path;
-use types::node_addr::NodeAddr;
-use types::placed::{Funding, HintOutcome, Placed, Segment};
+use types::placed::{HintOutcome, Placed, Segment};
+
+// The hint's key stands in row i of n; its outcome where the row is written.
+#[derive(Clone, Copy)]
+struct Held {
+    n: usize,
+    i: usize,
+    outcome: HintOutcome,
+}
 
 // Unchanged where the paths are the same, else Changed.
 fn outcome_of(same: bool) -> HintOutcome
@@ -40,208 +43,159 @@ fn outcome_of(same: bool) -> HintOutcome
 }
 
 // Updated and refiled at this weight, with nothing added.
-#[tactic(auto, using(room::proofs::RoomToFile::laid_out, filing::proofs::FiledInRoom::rows_there), unfolding(rules::specs::Placement::place_result))]
-fn refile_held(
-    state: &mut [u8],
-    n: usize,
-    i: usize,
-    path: Path,
-    time: u64,
-    ttl: u64,
-    weight: u8,
-    segment: Segment,
-    outcome: HintOutcome,
-) -> Placed
-    requires { (sound (capacity state.old) (view_rows n state.old) ≡ true) × (i < n) × Writable path × ((view_rows n state.old).seq ≤ last_seq) × (outcome ≡ held_outcome path (row_in n i state.old)) }
-    ensures { Placing (place_result (held_outcome path (row_in n i state.old)) 0 segment false 0 (refile (update path time ttl (row_in n i state.old).entry) weight i (view_rows n state.old))) result state.new }
+#[tactic(auto, using(room::proofs::RoomToFile::laid_out, filing::proofs::FiledInRoom::rows_there), unfolding(rules::specs::Placement::place_result, crate::specs::Operands::refile_held, crate::specs::Operands::held_outcome, crate::specs::Operands::update))]
+fn refile_held(state: &mut [u8], held: Held, hint: &Hint, weight: u8, segment: Segment) -> Placed
+    requires { HeldHint hint.now held state.old }
+    ensures { Placing (refile_held hint.now weight segment held.i (view_rows held.n state.old)) result state.new }
 {
-    update_in_place(state, n, i, path, time, ttl, weight);
+    update_in_place(
+        state, held.n, held.i, hint.path, hint.time, hint.ttl, weight,
+    );
     Placed {
-        outcome: outcome,
+        outcome: held.outcome,
         added_weight: 0,
-        segment: segment,
+        segment,
         unfunded: false,
         examined: 0,
     }
 }
 
-// Where a row goes that was to be promoted.
-fn place_for(made: bool) -> u8
-    ensures { result ≡ cond made by_use probation }
-{
-    if made { BY_USE } else { PROBATION }
-}
-
-// The charge is added only where room was made.
-fn promoted(outcome: HintOutcome, made: bool, weight: u64, examined: u64) -> Placed
-    ensures { result ≡ promoted_as outcome made weight examined }
-{
-    if made {
-        return Placed {
-            outcome: outcome,
-            added_weight: weight,
-            segment: Segment::Main,
-            unfunded: false,
-            examined: examined,
-        };
-    }
-    Placed {
-        outcome: outcome,
-        added_weight: 0,
-        segment: Segment::Probation,
-        unfunded: false,
-        examined: examined,
-    }
-}
-
 // Covered: taken out, updated, and with room made filed in main, or without room back in probation.
-fn promote(
-    state: &mut [u8],
-    n: usize,
-    i: usize,
-    key: NodeAddr,
-    path: Path,
-    time: u64,
-    ttl: u64,
-    weight: u8,
-    outcome: HintOutcome,
-) -> Placed
-    requires { HeldHint key path outcome false n i state.old }
-    ensures { Placing (promote key path time ttl weight i (view_rows n state.old)) result state.new }
+#[tactic(auto, using(room::proofs::RoomToFile::laid_out, filing::proofs::RoomSought::room_asks, crate::proofs::HeldKeys::weight_stored, crate::proofs::HeldKeys::taken_sound, rules::proofs::Others::take_out_seq))]
+fn promote(state: &mut [u8], held: Held, hint: &Hint, weight: u8) -> Placed
+    requires { HeldHint hint.now held state.old × (in_main (row_in held.n held.i state.old) ≡ false) }
+    ensures { Placing (promote hint.now weight held.i (view_rows held.n state.old)) result state.new }
 {
-    let e = updated_entry(&row_at(state, n, i), path, time, ttl);
-    remove_row(state, n, i);
-    let room = make_room(state, n - 1, wide(weight), time);
+    let e = updated_entry(
+        &row_at(state, held.n, held.i),
+        hint.path,
+        hint.time,
+        hint.ttl,
+    );
+    remove_row(state, held.n, held.i);
+    let room = make_room(state, held.n - 1, wide(weight), hint.time);
     let victim = room.victim;
-    let place = place_for(room.made);
-    file_in_room(state, room.rows, victim, room.stored, key, e, weight, place);
-    promoted(outcome, room.made, wide(weight), room.examined)
+    // The charge is added only where room was made.
+    let (place, segment, added) = if room.made {
+        (BY_USE, Segment::Main, wide(weight))
+    } else {
+        (PROBATION, Segment::Probation, 0)
+    };
+    file_in_room(
+        state,
+        room.rows,
+        victim,
+        room.stored,
+        hint.key,
+        e,
+        weight,
+        place,
+    );
+    Placed {
+        outcome: held.outcome,
+        added_weight: added,
+        segment,
+        unfunded: false,
+        examined: room.examined,
+    }
 }
 
 // 4. In probation.
-fn place_probation(
-    state: &mut [u8],
-    n: usize,
-    i: usize,
-    key: NodeAddr,
-    path: Path,
-    time: u64,
-    ttl: u64,
-    funding: Funding,
-    outcome: HintOutcome,
-) -> Placed
-    requires { HeldHint key path outcome false n i state.old }
-    ensures { Placing (place_probation key path time ttl funding i (view_rows n state.old)) result state.new }
+#[tactic(auto, using(room::proofs::RoomToFile::laid_out, crate::proofs::HeldKeys::probation_covered, crate::proofs::HeldKeys::probation_uncovered))]
+fn place_probation(state: &mut [u8], held: Held, hint: &Hint) -> Placed
+    requires { HeldHint hint.now held state.old × (in_main (row_in held.n held.i state.old) ≡ false) }
+    ensures { Placing (place_probation hint.now held.i (view_rows held.n state.old)) result state.new }
 {
-    let w = row_weight(path).max(row_at(state, n, i).weight());
-    if !funding.covers(wide(w)) {
-        return refile_held(state, n, i, path, time, ttl, w, Segment::Probation, outcome);
+    let w = hint.weight().max(row_at(state, held.n, held.i).weight());
+    if hint.funding.covers(wide(w)) {
+        promote(state, held, hint, w)
+    } else {
+        refile_held(state, held, hint, w, Segment::Probation)
     }
-    promote(state, n, i, key, path, time, ttl, w, outcome)
 }
 
 // Growth to this weight: row out, room sought for it; without room an unstated one goes back unchanged but newly stamped.
-fn grow(
-    state: &mut [u8],
-    n: usize,
-    i: usize,
-    key: NodeAddr,
-    path: Path,
-    time: u64,
-    ttl: u64,
-    stated: bool,
-    weight: u8,
-    added: u64,
-    outcome: HintOutcome,
-) -> Placed
-    requires { HeldHint key path outcome true n i state.old × (added ≡ weight - (row_in n i state.old).weight) }
-    ensures { Placing (grow key path time ttl stated weight i (view_rows n state.old)) result state.new }
+#[tactic(auto, using(room::proofs::RoomToFile::laid_out, filing::proofs::RoomSought::room_asks, crate::proofs::HeldKeys::weight_stored, crate::proofs::HeldKeys::taken_sound, rules::proofs::Others::take_out_seq))]
+fn grow(state: &mut [u8], held: Held, hint: &Hint, weight: u8, added: u64) -> Placed
+    requires { HeldHint hint.now held state.old × (in_main (row_in held.n held.i state.old) ≡ true) × (added ≡ weight - (row_in held.n held.i state.old).weight) }
+    ensures { Placing (grow hint.now weight held.i (view_rows held.n state.old)) result state.new }
 {
-    let e = updated_entry(&row_at(state, n, i), path, time, ttl);
-    let saved = save_row(state, n, i);
-    remove_row(state, n, i);
+    let e = updated_entry(
+        &row_at(state, held.n, held.i),
+        hint.path,
+        hint.time,
+        hint.ttl,
+    );
+    let saved = save_row(state, held.n, held.i);
+    remove_row(state, held.n, held.i);
     let w = wide(weight);
-    let room = make_room(state, n - 1, w, time);
-    if room.made | stated {
+    let room = make_room(state, held.n - 1, w, hint.time);
+    if room.made | hint.stated {
         let victim = room.victim;
         file_in_room(
             state,
             room.rows,
             victim,
             room.stored,
-            key,
+            hint.key,
             e,
             weight,
             BY_USE,
         );
         return Placed {
-            outcome: outcome,
+            outcome: held.outcome,
             added_weight: added,
             segment: Segment::Main,
             unfunded: false,
             examined: room.examined,
         };
     }
-    file_unchanged(state, room.rows, key, saved);
+    file_unchanged(state, room.rows, hint.key, saved);
     reject(false, room.examined)
 }
 
 // 5. In main.
-fn place_main(
-    state: &mut [u8],
-    n: usize,
-    i: usize,
-    key: NodeAddr,
-    path: Path,
-    time: u64,
-    ttl: u64,
-    funding: Funding,
-    stated: bool,
-    outcome: HintOutcome,
-) -> Placed
-    requires { HeldHint key path outcome true n i state.old }
-    ensures { Placing (place_main key path time ttl funding stated i (view_rows n state.old)) result state.new }
+#[tactic(auto, using(room::proofs::RoomToFile::laid_out, crate::proofs::HeldKeys::main_kept, crate::proofs::HeldKeys::main_grown, crate::proofs::HeldKeys::main_rejected, crate::proofs::HeldKeys::rejected_there))]
+fn place_main(state: &mut [u8], held: Held, hint: &Hint) -> Placed
+    requires { HeldHint hint.now held state.old × (in_main (row_in held.n held.i state.old) ≡ true) }
+    ensures { Placing (place_main hint.now held.i (view_rows held.n state.old)) result state.new }
 {
-    let w = row_weight(path);
-    let old = row_at(state, n, i).weight();
+    let w = hint.weight();
+    let old = row_at(state, held.n, held.i).weight();
     if w <= old {
-        return refile_held(state, n, i, path, time, ttl, old, Segment::Main, outcome);
+        return refile_held(state, held, hint, old, Segment::Main);
     }
     let added = wide(w) - wide(old);
-    if !funding.covers(added) {
+    if !hint.funding.covers(added) {
         return reject(true, 0);
     }
-    grow(state, n, i, key, path, time, ttl, stated, w, added, outcome)
+    grow(state, held, hint, w, added)
 }
 
 // 3. A verified key is Rejected, unless stated and differing. The paths are compared at most once, and not for a verified key that
 // isn't stated.
-pub fn place_held(
-    state: &mut [u8],
-    n: usize,
-    i: usize,
-    key: NodeAddr,
-    path: Path,
-    time: u64,
-    ttl: u64,
-    funding: Funding,
-    stated: bool,
-) -> Placed
-    requires { Holds key n i state.old × Writable path × ((view_rows n state.old).seq ≤ last_seq) }
-    ensures { Placing (place_held key path time ttl funding stated i (view_rows n state.old)) result state.new }
+#[tactic(auto, using(room::proofs::RoomToFile::laid_out, crate::proofs::HeldKeys::stays_unstated, crate::proofs::HeldKeys::stays_same, crate::proofs::HeldKeys::goes_to_main, crate::proofs::HeldKeys::goes_to_probation, crate::proofs::HeldKeys::main_of, crate::proofs::HeldKeys::main_not, crate::proofs::HeldKeys::rejected_there), unfolding(crate::specs::Operands::held_outcome, rules::specs::Placement::held_outcome))]
+pub fn place_held(state: &mut [u8], n: usize, i: usize, hint: &Hint) -> Placed
+    requires { Holds hint.now.key n i state.old × ((view_rows n state.old).seq ≤ last_seq) }
+    ensures { Placing (place_held hint.now i (view_rows n state.old)) result state.new }
 {
     let row = row_at(state, n, i);
-    let verified = is_verified(&row, time);
-    if verified & !stated {
+    let verified = is_verified(&row, hint.time);
+    if verified & !hint.stated {
         return reject(false, 0);
     }
-    let same = path_is(&row, &path);
+    let same = path_is(&row, &hint.path);
     if verified & same {
         return reject(false, 0);
     }
-    let outcome = outcome_of(same);
+    let held = Held {
+        n,
+        i,
+        outcome: outcome_of(same),
+    };
     if row.place() < PROBATION {
-        return place_main(state, n, i, key, path, time, ttl, funding, stated, outcome);
+        place_main(state, held, hint)
+    } else {
+        place_probation(state, held, hint)
     }
-    place_probation(state, n, i, key, path, time, ttl, funding, outcome)
 }

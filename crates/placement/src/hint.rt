@@ -9,6 +9,7 @@ ghost use Rattle.placement.specs.Hints.{Places, Stands};
 
 use crate::held_key::place_held;
 use crate::new_key::place_new;
+use crate::operands::Hint;
 use memory::row::row_at;
 use memory::rows::remove_row;
 use refusals::write::write_refusal;
@@ -25,25 +26,24 @@ pub enum KeyRow {
 }
 
 // 1. The key's row; an expired one is removed, and the key is new.
-fn remove_expired(state: &mut [u8], n: usize, key: NodeAddr, time: u64) -> KeyRow
+#[tactic(auto, using(room::proofs::RoomToFile::rows_searchable, room::proofs::RoomToFile::laid_out, crate::proofs::HeldKeys::weight_stored, crate::proofs::PlacedHints::found_inside, crate::proofs::PlacedHints::new_missing))]
+fn remove_expired(state: &mut [u8], n: usize, hint: &Hint) -> KeyRow
     requires { sound (capacity state.old) (view_rows n state.old) ≡ true }
-    ensures { Stands result key time n state.old state.new }
+    ensures { Stands result hint.now n state.old state.new }
 {
-    let at = search::keys::search(state, n, key);
-    match at {
-        Ok(i) => {
-            if entries::times::is_expired(&row_at(state, n, i), time) {
-                remove_row(state, n, i);
-                return KeyRow::New(n - 1);
-            }
-            KeyRow::At(i)
+    match search::keys::search(state, n, hint.key) {
+        Ok(i) if entries::times::is_expired(&row_at(state, n, i), hint.time) => {
+            remove_row(state, n, i);
+            KeyRow::New(n - 1)
         }
+        Ok(i) => KeyRow::At(i),
         Err(_) => KeyRow::New(n),
     }
 }
 
-// A hint of one of the four calls, with the operands that such a call gives: refused by 2 or 3, or placed. A path is a thousand bytes and
-// passed by value, so few functions lie between this one and those that write it.
+// A hint of one of the four calls, with the operands that such a call gives: refused by 2 or 3, or placed. A path is a thousand bytes, so
+// the functions that place it are lent the hint.
+#[tactic(auto, using(refusals::proofs::SoundCalls::head_there, crate::proofs::PlacedHints::rows_sound))]
 pub fn place_hint(
     state: &mut [u8],
     key: NodeAddr,
@@ -57,10 +57,17 @@ pub fn place_hint(
     ensures { (q : Call) → Places q key path time ttl funding stated (view state.old) → (said Hinted result ≡ (call state.old q).answer) × (state.new ≡ (call state.old q).memory) }
 {
     write_refusal(state, path)?;
+    let hint = Hint {
+        key,
+        path,
+        time,
+        ttl,
+        funding,
+        stated,
+    };
     let n = memory::head::row_count(state) as usize;
-    let at = remove_expired(state, n, key, time);
-    Ok(match at {
-        KeyRow::At(i) => place_held(state, n, i, key, path, time, ttl, funding, stated),
-        KeyRow::New(rows) => place_new(state, rows, key, path, time, ttl, funding),
+    Ok(match remove_expired(state, n, &hint) {
+        KeyRow::At(i) => place_held(state, n, i, &hint),
+        KeyRow::New(rows) => place_new(state, rows, &hint),
     })
 }

@@ -5,3 +5,4 @@ pub mod calls;
 mod held_key;
 mod hint;
 mod new_key;
+mod operands;
