@@ -34,7 +34,7 @@ use Rattle.rules.proofs.Foreign.{view_length}
 use Rattle.memory.proofs.Fields.{row_at_lem}
 use Rattle.std.specs.Prelude.{None}
 use Rattle.room.specs.declared.victims.Room.{Room as RoomAnswer}
-use Rattle.room.specs.Rooms.{room_of, without_victim, Leaves, Without}
+use Rattle.room.specs.Rooms.{room_of, without_victim, Leaves, Settled, Without}
 use Rattle.room.proofs.LeftVictims.{without_none}
 use Rattle.room.proofs.RoomToFile.{shown, free_in_probation, reached_without}
 use Rattle.entries.specs.declared.new_entry.NewEntry.{NewEntry}
@@ -100,15 +100,14 @@ pub record Lifted (h : Hint) (at : Held) (b : Bool) (w : ℕ) (r : RoomAnswer) (
   pub size : length x ≡ length m
   pub room : room_of r (view_rows r.rows x) ≡ make_room h.time w (view_rows (at.n - 1) m)
   pub rows : r.rows ≤ at.n - 1
-  pub leaves : Leaves r.victim r.stored (view_rows (at.n - 1) m).rows (view_rows r.rows x).rows
+  pub leaves : Leaves r.victim (view_rows (at.n - 1) m).rows (view_rows r.rows x).rows
   pub none : r.made ≡ false → r.victim ≡ None
 
 -- the same, from what the functions promise
 pub lifted : {h : Hint} {at : Held} {b : Bool} {v w : ℕ} {r : RoomAnswer} {l m x : List ℕ} → HeldHint h at l × (in_main (row_in at.n at.i l) ≡ b) → length m ≡ length l
     → view_rows (at.n - 1) m ≡ take_out at.i (view_rows at.n l) → v ≡ w → length x ≡ length m
-    → (room_of r (view_rows r.rows x) ≡ make_room h.time v (view_rows (at.n - 1) m)) × (r.rows ≤ at.n - 1)
-    × Leaves r.victim r.stored (view_rows (at.n - 1) m).rows (view_rows r.rows x).rows × (r.made ≡ false → r.victim ≡ None) → Lifted h at b w r l m x
-lifted held z e g y f = record { held = held.0; main = held.1; out_size = z; out = e; size = y; room = rw (← g) f.0; rows = f.1; leaves = f.2; none = f.3 }
+    → Settled h.time v (at.n - 1) r m x → Lifted h at b w r l m x
+lifted held z e g y f = record { held = held.0; main = held.1; out_size = z; out = e; size = y; room = rw (← g) f.room; rows = f.rows; leaves = f.leaves; none = f.none }
 
 -- the row with its entry updated, filed at place c
 abbrev pub filed : Hint → ℕ → NewEntry → RoomAnswer → List ℕ → ℕ → State
@@ -142,7 +141,7 @@ module _ {h : Hint} {at : Held} {b : Bool} {w : ℕ} {r : RoomAnswer} {l m x : L
       (rw (free_state h.key (at.n - 1) m x h.time w r without so q) (omega (arith, ap probation_of limits_kept, made.probations, a, (whole u).probations)))
 
   -- what filing asks
-  pub out_takes : Takes h.key r.victim r.stored r.rows x
+  pub out_takes : Takes h.key r.victim r.rows x
   out_takes = takes h.key (at.n - 1) m x h.time w r without so (freed b t.main) (out_seq u t.held.seq)
 
   -- the room that was sought, by the rules

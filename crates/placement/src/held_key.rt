@@ -74,23 +74,13 @@ fn promote(state: &mut [u8], held: Held, hint: &Hint, weight: u8) -> Placed
     );
     remove_row(state, held.n, held.i);
     let room = make_room(state, held.n - 1, wide(weight), hint.time);
-    let victim = room.victim;
     // The charge is added only where room was made.
     let (place, segment, added) = if room.made {
         (BY_USE, Segment::Main, wide(weight))
     } else {
         (PROBATION, Segment::Probation, 0)
     };
-    file_in_room(
-        state,
-        room.rows,
-        victim,
-        room.stored,
-        hint.key,
-        e,
-        weight,
-        place,
-    );
+    file_in_room(state, room.rows, room.victim, hint.key, e, weight, place);
     Placed {
         outcome: held.outcome,
         added_weight: added,
@@ -131,17 +121,7 @@ fn grow(state: &mut [u8], held: Held, hint: &Hint, weight: u8, added: u64) -> Pl
     let w = wide(weight);
     let room = make_room(state, held.n - 1, w, hint.time);
     if room.made | hint.stated {
-        let victim = room.victim;
-        file_in_room(
-            state,
-            room.rows,
-            victim,
-            room.stored,
-            hint.key,
-            e,
-            weight,
-            BY_USE,
-        );
+        file_in_room(state, room.rows, room.victim, hint.key, e, weight, BY_USE);
         return Placed {
             outcome: held.outcome,
             added_weight: added,

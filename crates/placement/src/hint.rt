@@ -26,7 +26,7 @@ pub enum KeyRow {
 }
 
 // 1. The key's row; an expired one is removed, and the key is new.
-#[tactic(auto, using(room::proofs::RoomToFile::rows_searchable, room::proofs::RoomToFile::laid_out, crate::proofs::HeldKeys::weight_stored, crate::proofs::PlacedHints::found_inside, crate::proofs::PlacedHints::new_missing))]
+#[tactic(auto, using(room::proofs::RoomToFile::rises, room::proofs::RoomToFile::laid_out, crate::proofs::HeldKeys::weight_stored, crate::proofs::PlacedHints::found_inside, crate::proofs::PlacedHints::new_missing))]
 fn remove_expired(state: &mut [u8], n: usize, hint: &Hint) -> KeyRow
     requires { sound (capacity state.old) (view_rows n state.old) ≡ true }
     ensures { Stands result hint.now n state.old state.new }

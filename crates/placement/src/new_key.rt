@@ -36,31 +36,20 @@ fn new_in_probation(state: &mut [u8], n: usize, hint: &Hint, unfunded: bool, bef
 {
     let w = hint.weight();
     let room = make_probation_room(state, n);
-    let victim = room.victim;
     let e = new_entry(hint.path, hint.time, hint.ttl);
-    file_in_room(state, n, victim, room.stored, hint.key, e, w, PROBATION);
+    file_in_room(state, n, room.victim, hint.key, e, w, PROBATION);
     inserted(0, Segment::Probation, unfunded, before + room.examined)
 }
 
 // Covered, and room was made: to main, at its weight.
 #[tactic(auto, unfolding(crate::specs::Operands::new_in_main, crate::specs::Operands::new_entry, rules::specs::Placement::place_result))]
 fn new_in_main(state: &mut [u8], room: Room, hint: &Hint) -> Placed
-    requires { Takes hint.now.key room.victim room.stored room.rows state.old }
+    requires { Takes hint.now.key room.victim room.rows state.old }
     ensures { Placing (new_in_main hint.now room.examined (without_victim room.victim (view_rows room.rows state.old))) result state.new }
 {
     let w = hint.weight();
     let e = new_entry(hint.path, hint.time, hint.ttl);
-    let victim = room.victim;
-    file_in_room(
-        state,
-        room.rows,
-        victim,
-        room.stored,
-        hint.key,
-        e,
-        w,
-        BY_USE,
-    );
+    file_in_room(state, room.rows, room.victim, hint.key, e, w, BY_USE);
     inserted(raw::numbers::wide(w), Segment::Main, false, room.examined)
 }
 
