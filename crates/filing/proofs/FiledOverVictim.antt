@@ -26,8 +26,8 @@ use Rattle.memory.proofs.RowLaws.{length_without, view_length}
 use Rattle.memory.specs.Edits.{with_stored_weight, with_row_count}
 use Rattle.rows.specs.Insertions.{exchanged}
 use Rattle.room.specs.declared.victims.Victim.{Victim}
-use Rattle.filing.specs.Filings.{Over, stamped_row}
-use Rattle.filing.proofs.FiledRows.{in_order}
+use Rattle.filing.specs.Filings.{Over}
+use Rattle.filing.proofs.FiledRows.{stamped_row, in_order}
 
 -- ---- the place of a key once row i is gone
 

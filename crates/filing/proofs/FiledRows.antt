@@ -24,7 +24,7 @@ use Rattle.search.proofs.SearchLaws.{absent_inside, absent_insert}
 use Rattle.memory.specs.Edits.{with_stored_weight, stamped_as}
 use Rattle.memory.proofs.Fields.{same_head}
 use Rattle.rows.specs.Insertions.{inserted}
-use Rattle.filing.specs.Filings.{Free, stamped_row}
+use Rattle.filing.specs.Filings.{Free}
 
 -- ---- what a row that is filed meets
 
@@ -58,6 +58,10 @@ module _ {k : NodeAddr} {n : ℕ} {l : List ℕ} (f : Free k n l) where
   place_inside {i} h = omega (arith, absent_inside k (view_rows n l).rows i h, view_length n l)
 
 -- ---- a new row
+
+-- the row of an entry, under the stamp (last_used, q)
+abbrev pub stamped_row : NodeAddr → Entry → ℕ → ℕ → ℕ → Row
+stamped_row k e w p q = record { key = k; entry = e; place = p; stamp_first = e.last_used; stamp_seq = q; weight = w }
 
 one_longer : (i : ℕ) (r : Row) (rs : List Row) → i ≤ length rs → length (take i rs ++ (r ∷ drop i rs)) ≡ length rs + 1
 one_longer i r rs h = simp (length-append, length-take, length-drop) (omega arith)

@@ -1,10 +1,10 @@
--- A path that can be written; the row of an entry; a row that is free, or may leave for another.
+-- A path that can be written; a row that is free, or may leave for another.
 use Rattle.std.specs.Prelude.{ℕ, ◌+◌, ◌*◌, ◌≤◌, ◌<◌, ◌≡◌, true, List, length, None}
 use Rattle.types.specs.declared.coord.Path.{Path}
 use Rattle.types.specs.declared.node_addr.NodeAddr.{NodeAddr}
 use Rattle.types.specs.Paths.{path_places}
 use Rattle.types.specs.Values.{largest_number}
-use Rattle.rules.specs.Records.{Entry, Row, max_rows, weight_limit}
+use Rattle.rules.specs.Records.{max_rows, weight_limit}
 use Rattle.rules.specs.Rows.{find, in_main, weigh_rows, without_row}
 use Rattle.rules.specs.Sound.{ascends}
 use Rattle.rules.specs.Memory.{capacity, view_rows}
@@ -16,10 +16,6 @@ use Rattle.room.specs.Rooms.{Without}
 pub record Writable (p : Path) : Type 0 where
   pub long : 1 ≤ p.len
   pub short : p.len ≤ path_places
-
--- the row of an entry, under the stamp (last_used, q)
-abbrev pub stamped_row : NodeAddr → Entry → ℕ → ℕ → ℕ → Row
-stamped_row k e w p q = record { key = k; entry = e; place = p; stamp_first = e.last_used; stamp_seq = q; weight = w }
 
 -- n rows of a sound state without key k, a row free for it, and a stamp left to draw
 pub record Free (k : NodeAddr) (n : ℕ) (l : List ℕ) : Type 0 where

@@ -8,8 +8,7 @@ ghost use Rattle.rules.specs.Room.{file_new, take_out};
 ghost use Rattle.rules.specs.Memory.{row_of, view_rows};
 ghost use Rattle.rules.specs.Layout.{head_size, row_size};
 ghost use Rattle.search.specs.ByKey.{searched};
-ghost use Rattle.rows.specs.Insertions.{row_from};
-ghost use Rattle.filing.specs.Filings.{Free, Over, stamped_row};
+ghost use Rattle.filing.specs.Filings.{Free, Over};
 ghost use Rattle.entries.specs.NewEntries.{entry_from};
 
 use entries::new_entry::NewEntry;
@@ -69,30 +68,8 @@ fn stored_with(state: &[u8], weight: u8, place: u8) -> u64
     weight_with(head::stored_weight(state), weight, place)
 }
 
-// The row of an entry, under the stamp (last_used, seq).
-#[tactic(auto, unfolding(rows::specs::Insertions::row_from, entries::specs::NewEntries::entry_from))]
-fn new_row(key: NodeAddr, e: NewEntry, weight: u8, place: u8, seq: u64) -> NewRow
-    ensures row { row_from result ≡ stamped_row key (entry_from e) weight place seq }
-    ensures path { result.path ≡ e.path }
-{
-    NewRow {
-        key: key,
-        path: e.path,
-        created_at: e.created_at,
-        last_used: e.last_used,
-        expires_at: e.expires_at,
-        mtu_mark: e.mtu_mark,
-        mtu: e.mtu,
-        source: e.source,
-        verified_until: e.verified_until,
-        place: place,
-        stamp_first: e.last_used,
-        stamp_seq: seq,
-        weight: weight,
-    }
-}
-
-// A new row, under the stamp (last_used, seq + 1).
+// A new row, under the stamp (last_used, seq + 1). Its literal stands here and in file_over_victim: from a function of its own the row
+// would be copied once more.
 #[tactic(auto, using(crate::proofs::FiledRows::index_asks, crate::proofs::FiledRows::one_more_fits, crate::proofs::FiledRows::head_there, crate::proofs::FiledRows::stored_light, crate::proofs::FiledRows::place_inside), unfolding(memory::specs::Edits::with_stored_weight))]
 pub(crate) fn file_new(
     state: &mut [u8],
@@ -109,7 +86,27 @@ pub(crate) fn file_new(
     let stored = stored_with(state, weight, place);
     head::set_stored_weight(state, n, stored);
     let seq = head::next_key(state, n);
-    insert_row(state, n, i, new_row(key, e, weight, place, seq));
+    let path = e.path;
+    insert_row(
+        state,
+        n,
+        i,
+        NewRow {
+            key: key,
+            path: path,
+            created_at: e.created_at,
+            last_used: e.last_used,
+            expires_at: e.expires_at,
+            mtu_mark: e.mtu_mark,
+            mtu: e.mtu,
+            source: e.source,
+            verified_until: e.verified_until,
+            place: place,
+            stamp_first: e.last_used,
+            stamp_seq: seq,
+            weight: weight,
+        },
+    );
 }
 
 // The victim leaves, and a new row is filed under the stamp (last_used, seq + 1).
@@ -130,7 +127,28 @@ pub(crate) fn file_over_victim(
     head::set_stored_weight(state, n, weight_with(victim.stored, weight, place));
     let next = head::next_key(state, n);
     head::set_row_count(state, n, n as u64);
-    exchange_row(state, n, victim.at, j, new_row(key, e, weight, place, next));
+    let path = e.path;
+    exchange_row(
+        state,
+        n,
+        victim.at,
+        j,
+        NewRow {
+            key: key,
+            path: path,
+            created_at: e.created_at,
+            last_used: e.last_used,
+            expires_at: e.expires_at,
+            mtu_mark: e.mtu_mark,
+            mtu: e.mtu,
+            source: e.source,
+            verified_until: e.verified_until,
+            place: place,
+            stamp_first: e.last_used,
+            stamp_seq: next,
+            weight: weight,
+        },
+    );
 }
 
 // A saved row goes back as it was, but as ByUse and under the stamp (last_used, seq + 1).
