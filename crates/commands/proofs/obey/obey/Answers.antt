@@ -15,7 +15,7 @@ returns-in-Get c = does _ (ap (λ q. call_named q) c.in-Get.is) (c.part_reply.en
 
 pub returns-in-GetAndTouch : goal.returns-in-GetAndTouch
 unfolding call_named
-returns-in-GetAndTouch c = does _ (ap (λ q. call_named q) c.in-GetAndTouch.is) (c.touch_reply.ensures ∙ c.touch_unchecked.ensures.0) (refl, c.touch_unchecked.ensures.2)
+returns-in-GetAndTouch c = does _ (ap (λ q. call_named q) c.in-GetAndTouch.is) (c.touch_reply.ensures ∙ c.touch_unchecked.ensures.replied) (refl, c.touch_unchecked.ensures.left)
 
 pub returns-in-Remove : goal.returns-in-Remove
 unfolding call_named
