@@ -41,6 +41,7 @@ fn no_row(n: usize) -> Best
 }
 
 // The best so far stays if there is one and its stamp is before row i's.
+#[tactic(auto, unfolding(crate::specs::Walked::lower_best))]
 fn lower_of(best: Best, n: usize, i: usize, first: u64, seq: u64) -> Best
     ensures { result ≡ lower_best n best i first seq }
 {
@@ -50,6 +51,7 @@ fn lower_of(best: Best, n: usize, i: usize, first: u64, seq: u64) -> Best
     Best { row: i, first, seq }
 }
 
+#[tactic(auto, using(std::proofs::lemmas::Bool::Decides::nat_tests), unfolding(crate::specs::Walked::best_row))]
 fn row_of(best: Best, n: usize) -> Option<usize>
     ensures { result ≡ best_row n best }
 {
@@ -60,6 +62,7 @@ fn row_of(best: Best, n: usize) -> Option<usize>
 }
 
 // Row i against the best so far, if it is at this place.
+#[tactic(auto, using(std::proofs::lemmas::Bool::Decides::nat_tests), unfolding(crate::specs::Walked::lower_row, rules::specs::Rows::at_place))]
 fn lower_row(row: &Row<'_>, n: usize, i: usize, place: u8, best: Best) -> Best
     ensures { result ≡ lower_row n place i row.now best }
 {

@@ -13,7 +13,7 @@ use Rattle.stamps.proofs.walk.next_victim.Goals as goal
 pub loop-next-init : goal.loop-next-init
 loop-next-init c =
     let k = c.return_lapsed-returned.auto.state in
-    (seek_start c.args.state.now c.return_lapsed-returned.ensures.0 (omega arith) c.requires.1, c.return_lapsed-returned.ensures.1)
+    (seek_start c.args.state.now c.return_lapsed-returned.ensures.walked (omega arith) c.requires.1, c.return_lapsed-returned.ensures.next)
 
 pub overflow_add-examined : goal.overflow_add-examined
 overflow_add-examined c =
@@ -94,11 +94,11 @@ loop-next-preserved c =
     (parked.going, c.lowest_stamp-again-then-is_verified.ensures.row)
 
 pub returns-in-None : goal.returns-in-None
-returns-in-None c = none_yielded _ c.loop-next.invariant.0 (sym c.loop-next.invariant.1 ∙ c.in-None.is) c.return_lapsed-returned.ensures.0
+returns-in-None c = none_yielded _ c.loop-next.invariant.0 (sym c.loop-next.invariant.1 ∙ c.in-None.is) c.return_lapsed-returned.ensures.walked
 
 pub returns-else-is_verified : goal.returns-else-is_verified
 returns-else-is_verified c =
     let found : let l = c.loop-next in
     Found seeking by_use c.args.time c.args.n c.return_lapsed-returned.result.rows l.examined c.in-Some.i c.return_lapsed-returned.new.state l.state = let l = c.loop-next in found_row l.invariant.0 l.invariant.1 c.in-Some.is in
     let r = c.return_lapsed-returned.ensures in
-    yielded found (c.is_stale.ensures ∙ ap stale c.row_at-row.ensures) c.if-is_stale.false (c.is_verified.ensures ∙ ap (λ (r : Row). verified c.args.time r.entry) c.row_at-row.ensures) _ c.if-is_verified.false r.0
+    yielded found (c.is_stale.ensures ∙ ap stale c.row_at-row.ensures) c.if-is_stale.false (c.is_verified.ensures ∙ ap (λ (r : Row). verified c.args.time r.entry) c.row_at-row.ensures) _ c.if-is_verified.false r.walked

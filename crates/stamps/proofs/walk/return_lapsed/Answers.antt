@@ -13,7 +13,7 @@ loop-parked-init c =
 
 pub returns-in-None : goal.returns-in-None
 returns-in-None c =
-    let v = c.loop-parked.invariant in (lapsed_ends v.0 (sym v.1 ∙ c.in-None.is), v.2)
+    let v = c.loop-parked.invariant in record { walked = lapsed_ends v.0 (sym v.1 ∙ c.in-None.is); next = v.2 }
 
 pub row_at-requires : goal.row_at-requires
 row_at-requires c =
@@ -23,7 +23,7 @@ row_at-requires c =
 pub returns-then-time-stamp_first : goal.returns-then-time-stamp_first
 returns-then-time-stamp_first c =
     let found : Found waking parked c.args.time c.args.n 0 c.loop-parked.rows c.in-Some.i c.args.state.now c.loop-parked.state = let l = c.loop-parked in found_row l.invariant.0 l.invariant.1 c.in-Some.is in
-    (lapsed_rests found (rw (c.stamp_first.ensures ∙ ap (λ (r : Row). r.stamp_first) c.row_at.ensures) at c.if-time-stamp_first.true), c.loop-parked.invariant.2)
+    record { walked = lapsed_rests found (rw (c.stamp_first.ensures ∙ ap (λ (r : Row). r.stamp_first) c.row_at.ensures) at c.if-time-stamp_first.true); next = c.loop-parked.invariant.2 }
 
 pub restamp-requires : goal.restamp-requires
 restamp-requires c =
