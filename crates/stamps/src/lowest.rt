@@ -75,6 +75,7 @@ fn lower_row(row: &Row<'_>, n: usize, i: usize, place: u8, best: Best) -> Best
 }
 
 // From the last row to the first, so that equal stamps go to the lower key.
+#[tactic(auto, using(crate::proofs::LowestLaws::passed), unfolding(rules::specs::Rows::at_place))]
 pub fn lowest_stamp(state: &[u8], n: usize, place: u8) -> LowestStamp
     requires { head_size + n * row_size ≤ length state.now }
     ensures { LowestIs place result (view_rows n state.now).rows }
@@ -93,6 +94,7 @@ pub fn lowest_stamp(state: &[u8], n: usize, place: u8) -> LowestStamp
 }
 
 // Both places of main, in one pass.
+#[tactic(auto, using(crate::proofs::LowestLaws::passed), unfolding(rules::specs::Rows::in_main))]
 pub fn lowest_of_main(state: &[u8], n: usize) -> LowestOfMain
     requires { head_size + n * row_size ≤ length state.now }
     ensures { MainIs result (view_rows n state.now).rows }

@@ -28,6 +28,7 @@ pub struct Victim {
 
 // Parked rows with until < now return to ByUse, lowest stamp first. `lowest` is of the rows as they are; the pass that finds none lapsed
 // has also found the lowest ByUse stamp.
+#[tactic(auto, using(crate::proofs::WalkLaws::returning))]
 fn return_lapsed(state: &mut [u8], n: usize, time: u64, lowest: LowestOfMain) -> Returned
     requires { Walkable n time lowest state.old }
     ensures walked { walk_from (view_rows n state.new) result.rows ≡ return_lapsed (visits_left time (walk_from (view_rows n state.old) 0)) time (walk_from (view_rows n state.old) 0) }
@@ -55,6 +56,7 @@ fn return_lapsed(state: &mut [u8], n: usize, time: u64, lowest: LowestOfMain) ->
 
 // The walk over ByUse ends at the first entry that is neither restamped nor parked, and yields it. `lowest` is of the rows as they are;
 // each row that is taken up but not yielded costs a pass over the rows.
+#[tactic(auto, using(crate::proofs::WalkLaws::sought_on))]
 pub fn next_victim(state: &mut [u8], n: usize, time: u64, lowest: LowestOfMain) -> Victim
     requires { Walkable n time lowest state.old }
     ensures { sought_of result (view_rows n state.new) ≡ next_victim time (walk_from (view_rows n state.old) 0) }
