@@ -1,6 +1,6 @@
 -- A row marked a hint, and refiled where it was parked, is what demote leaves.
 use mathlib.Core.Path.{◌≡◌, refl, ap, ◌∙◌}
-use Prim.Native.Nat.{ℕ, ◌+◌, ◌*◌, ◌≤◌, ◌<◌}
+use Prim.Native.Nat.{ℕ, ◌+◌, ◌≤◌, ◌<◌}
 use native.Mathlib.Omega.{arith}
 use mathlib.Core.List.{List}
 use Rattle.std.specs.Prelude.{Option, None, Some}
@@ -22,9 +22,8 @@ use Rattle.rules.specs.Lent.{Bytes, call}
 use Rattle.rules.proofs.Refused.{refused_three, refused_only_one}
 use Rattle.refusals.proofs.SoundCalls.{Answered, done_rows, shown_seq}
 use Rattle.refusals.proofs.RefusalsSaid.{said}
-use Rattle.refusals.proofs.SearchedKeys.{Found, inside}
+use Rattle.refusals.proofs.SearchedKeys.{Found}
 use Rattle.memory.proofs.Fields.{same_head}
-use Rattle.rules.specs.Layout.{head_size, row_size}
 use Rattle.rules.proofs.RowLists.{change_at}
 use Rattle.rules.proofs.RowLists.{change_twice}
 use Rattle.lookups.specs.KeyedSteps.{demoted_at}
@@ -62,6 +61,10 @@ demote_refused l k {q} h e w =
     let d : q ≡ (view l).seq = e ∙ shown_seq l in
     said l (Demote k) 3 (refused_three (capacity l) (view l) (Demote k) h refl refl (rw (← d) (lt-ltb last_seq q w)))
 
+-- a stamp is left, with q the head's seq
+pub stamp_left : (n : ℕ) (l : List ℕ) {q : ℕ} → q ≡ (view_rows 0 l).seq → q ≤ last_seq → (view_rows n l).seq < largest_number
+stamp_left n l e w = omega (arith, e, w, (same_head 0 n l).seq)
+
 -- q is the head's seq
 module _ {k : NodeAddr} {n q : ℕ} {l : List ℕ} (e : q ≡ (view_rows 0 l).seq) (w : q ≤ last_seq) where
   demote_done : {o : Option ℕ} → Found k n o l → (m : List ℕ) → Bytes m → length m ≡ length l → view_rows n m ≡ (perform (view_rows n l) (Demote k)).state
@@ -70,9 +73,6 @@ module _ {k : NodeAddr} {n q : ℕ} {l : List ℕ} (e : q ≡ (view_rows 0 l).se
   demote_done f m b z v =
       let d : q ≡ (view l).seq = e ∙ shown_seq l in
       done_rows f.memory (Demote k) m n (refused_only_one (capacity l) (view l) (Demote k) f.sound refl refl (rw (← d) (le-ltb last_seq q w))) b z v
-
-  pub demote_asked : {i : ℕ} → Found k n (Some i) l → (i < n) × (head_size + n * row_size ≤ length l) × ((view_rows n l).seq < largest_number)
-  demote_asked f = (inside f, f.memory.long, omega (arith, e, w, (same_head 0 n l).seq))
 
   pub demoted_at_lem : {i : ℕ} → Found k n (Some i) l → (m : List ℕ) → Bytes m → length m ≡ length l → view_rows n m ≡ demoted_at i (view_rows n l)
       → Demoted k true l m

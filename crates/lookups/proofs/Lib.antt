@@ -6,3 +6,4 @@ pub mod ClearedMtu
 pub mod DemotedRows
 pub mod RemovedRows
 pub mod PartReply
+pub mod KeyRows

@@ -111,7 +111,7 @@ module _ {k : NodeAddr} {n : ℕ} {l : List ℕ} (time : ℕ) where
     placed_at b g bm z e v = go (expired time (row_at i (view_rows n l).rows).entry) refl
       where
         t : m ≡ (call l (GetAndTouch k time)).memory
-        t = (touched_at_lem time f (touch_says i time (view_rows n l)) m bm z (refl, v)).2
+        t = (touched_at_lem time f (touch_says i time (view_rows n l)) m bm z (refl, v)).left
 
         q : sound (capacity m) (view m) ≡ true
         q = touch_sound l k time m b g f.sound t
@@ -126,4 +126,4 @@ module _ {k : NodeAddr} {n : ℕ} {l : List ℕ} (time : ℕ) where
             (kept_stands (omega (arith, small8_less time g.1)) q (ap (λ (z : ℕ). view_rows z m) (sym u) ∙ v ∙ y) (e ∙ rw x), t)
 
   pub placed_absent : Found k n None l → Bytes l → Placed l k time nowhere l
-  placed_absent f b = (absent_stands time f, (touched_absent time f b).2)
+  placed_absent f b = (absent_stands time f, (touched_absent time f b).left)

@@ -1,6 +1,6 @@
 -- A row that is refreshed, or leaves where it is expired, is what get_and_touch leaves.
 use mathlib.Core.Path.{◌≡◌, refl, sym, ap, ◌∙◌}
-use Prim.Native.Nat.{ℕ, ◌-◌}
+use Prim.Native.Nat.{ℕ}
 use mathlib.Core.List.{List}
 use Rattle.std.specs.Prelude.{Option, None, Some, option_map, Result, Ok, Err, IsErrAnd}
 use mathlib.Core.Bool.{Bool, true, false, cond}
@@ -43,16 +43,26 @@ all_shown n m s e = ap (λ (j : ℕ). view_rows j m) (ap (λ (x : State). length
 abbrev pub Touched : List ℕ → ℕ → ℕ → ℕ → Option ℕ → List ℕ → Type 0
 Touched l n i time r m = (r ≡ touch_says i time (view_rows n l)) × (view_rows (length (touched_at i time (view_rows n l)).rows) m ≡ touched_at i time (view_rows n l))
 
-module _ (l : List ℕ) (n i time : ℕ) (m : List ℕ) where
-  pub touched_out : expired time (row_at i (view_rows n l).rows).entry ≡ true → view_rows (n - 1) m ≡ take_out i (view_rows n l)
-      → Touched l n i time None m
-  unfolding touch_says touched_at
-  touched_out x v = rw x (refl, all_shown (n - 1) m _ v)
+module _ (i time : ℕ) (s : State) where
+  pub says_none : expired time (row_at i s.rows).entry ≡ true → None ≡ touch_says i time s
+  unfolding touch_says
+  says_none x = rw x
 
-  pub touched_kept : (len : ℕ) → expired time (row_at i (view_rows n l).rows).entry ≡ false → len ≡ (row_at i (view_rows n l).rows).entry.path.len
-      → view_rows n m ≡ rewrite (refresh time (view_rows n l).default_ttl) i (view_rows n l) → Touched l n i time (Some len) m
-  unfolding touch_says touched_at
-  touched_kept len x e v = rw x (ap Some e, all_shown n m _ v)
+  pub says_length : (len : ℕ) → expired time (row_at i s.rows).entry ≡ false → len ≡ (row_at i s.rows).entry.path.len → Some len ≡ touch_says i time s
+  unfolding touch_says
+  says_length len x e = rw x (ap Some e)
+
+  pub left_out : (n : ℕ) (m : List ℕ) → expired time (row_at i s.rows).entry ≡ true → view_rows n m ≡ take_out i s
+      → view_rows (length (touched_at i time s).rows) m ≡ touched_at i time s
+  unfolding touched_at
+  left_out n m x v = rw x (all_shown n m _ v)
+
+  pub left_kept : (n : ℕ) (m : List ℕ) → expired time (row_at i s.rows).entry ≡ false → view_rows n m ≡ rewrite (refresh time s.default_ttl) i s
+      → view_rows (length (touched_at i time s).rows) m ≡ touched_at i time s
+  unfolding touched_at
+  left_kept n m x v = rw x (all_shown n m _ v)
+
+pub ruleset touched_row = (says_none, says_length, left_out, left_kept)
 
 -- ---- the call
 
@@ -71,8 +81,10 @@ unfolding path_given verified_write draws_stamps
 touch_allowed l k time h = not_refused l (GetAndTouch k time) h refl refl refl
 
 -- what touch tells: 01's number and values, the rules' answer, the memory
-abbrev pub Told : List ℕ → NodeAddr → ℕ → Result (Option ℕ) Refusal → List ℕ → Type 0
-Told l k time r m = (touch_reply r ≡ reply (call l (GetAndTouch k time)).answer) × (numbered r ≡ touch_answer (call l (GetAndTouch k time)).answer) × (m ≡ (call l (GetAndTouch k time)).memory)
+pub record Told (l : List ℕ) (k : NodeAddr) (time : ℕ) (r : Result (Option ℕ) Refusal) (m : List ℕ) : Type 0 where
+  pub replied : touch_reply r ≡ reply (call l (GetAndTouch k time)).answer
+  pub answered : numbered r ≡ touch_answer (call l (GetAndTouch k time)).answer
+  pub left : m ≡ (call l (GetAndTouch k time)).memory
 
 -- what touch tells of an answer is said by the number and the values that the rules give for it
 replied : (R : ℕ) (s : State) (k : NodeAddr) (time : ℕ) (r : Result (Option ℕ) Refusal) → numbered r ≡ touch_answer (serve R s (Asked (GetAndTouch k time))).answer
@@ -92,7 +104,7 @@ replied R s k time r e = go r (refusal R s (Asked (GetAndTouch k time))) (get k 
 
 told : (l : List ℕ) (k : NodeAddr) (time : ℕ) (r : Result (Option ℕ) Refusal) (m : List ℕ) → numbered r ≡ touch_answer (call l (GetAndTouch k time)).answer → m ≡ (call l (GetAndTouch k time)).memory → Told l k time r m
 unfolding lent
-told l k time r m e v = (replied (capacity l) (view l) k time r e, e, v)
+told l k time r m e v = record { replied = replied (capacity l) (view l) k time r e; answered = e; left = v }
 
 module _ {k : NodeAddr} {n : ℕ} {l : List ℕ} (time : ℕ) where
   touch_done : {o : Option ℕ} → Found k n o l → (m : List ℕ) (j : ℕ) → Bytes m → length m ≡ length l

@@ -15,6 +15,7 @@ use types::node_addr::NodeAddr;
 use types::refusal::Refusal;
 
 // Row i's entry becomes a hint; a parked row is refiled.
+#[tactic(auto, using(crate::proofs::DemotedRows::demoted_parked, crate::proofs::DemotedRows::demoted_in_place, crate::proofs::DemotedRows::hinted_seq))]
 fn demote_at(state: &mut [u8], n: usize, i: usize)
     requires { (i < n) × (head_size + n * row_size ≤ length state.old) × ((view_rows n state.old).seq < largest_number) }
     ensures { view_rows n state.new ≡ demoted_at i (view_rows n state.old) }
@@ -26,6 +27,7 @@ fn demote_at(state: &mut [u8], n: usize, i: usize)
     }
 }
 
+#[tactic(auto, using(crate::proofs::KeyRows::key_row, crate::proofs::DemotedRows::stamp_left))]
 pub fn demote_unchecked(state: &mut [u8], key: NodeAddr) -> Result<bool, Refusal>
     requires { sound (capacity state.old) (view state.old) ≡ true }
     ensures { (said KeyHeld result ≡ (call state.old (Demote key)).answer) × (state.new ≡ (call state.old (Demote key)).memory) }

@@ -40,6 +40,7 @@ pub fn get_unchecked<'a>(state: &'a [u8], key: NodeAddr, time: u64) -> &'a [u8]
 }
 
 // The number lent beside the state is the refusal, 0 if done.
+#[tactic(auto, using(crate::proofs::UnsoundLookups::told))]
 pub fn get<'a>(state: &'a [u8], key: NodeAddr, time: u64, refused: &mut u8) -> &'a [u8]
     ensures part { result.now ≡ got_part key time state.now }
     ensures why { refused.new ≡ refusal_of (call state.now (Get key time)).answer }

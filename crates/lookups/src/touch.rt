@@ -29,6 +29,7 @@ fn refresh_at(state: &mut [u8], n: usize, i: usize, time: u64)
 }
 
 // Row i leaves if it is expired, and is refreshed otherwise.
+#[tactic(auto, using(crate::proofs::TouchedRows::touched_row))]
 fn touch_at(state: &mut [u8], n: usize, i: usize, time: u64) -> Option<u64>
     requires { (i < n) × (head_size + n * row_size ≤ length state.old) × ((view_rows n state.old).stored_weight ≡ main_weight (view_rows n state.old)) }
     ensures says { result ≡ touch_says i time (view_rows n state.old) }
@@ -47,7 +48,9 @@ fn touch_at(state: &mut [u8], n: usize, i: usize, time: u64) -> Option<u64>
 // get_and_touch without the part: the length of the path found, and the memory.
 pub fn touch_unchecked(state: &mut [u8], key: NodeAddr, time: u64) -> Option<u64>
     requires { sound (capacity state.old) (view state.old) ≡ true }
-    ensures { (touch_reply (Ok result) ≡ reply (call state.old (GetAndTouch key time)).answer) × (Ok result ≡ touch_answer (call state.old (GetAndTouch key time)).answer) × (state.new ≡ (call state.old (GetAndTouch key time)).memory) }
+    ensures replied { touch_reply (Ok result) ≡ reply (call state.old (GetAndTouch key time)).answer }
+    ensures answered { Ok result ≡ touch_answer (call state.old (GetAndTouch key time)).answer }
+    ensures left { state.new ≡ (call state.old (GetAndTouch key time)).memory }
 {
     let n = memory::head::row_count(state) as usize;
     let at = search::keys::search(state, n, key);
@@ -58,7 +61,9 @@ pub fn touch_unchecked(state: &mut [u8], key: NodeAddr, time: u64) -> Option<u64
 }
 
 pub fn touch(state: &mut [u8], key: NodeAddr, time: u64) -> Result<Option<u64>, Refusal>
-    ensures { (touch_reply result ≡ reply (call state.old (GetAndTouch key time)).answer) × (numbered result ≡ touch_answer (call state.old (GetAndTouch key time)).answer) × (state.new ≡ (call state.old (GetAndTouch key time)).memory) }
+    ensures replied { touch_reply result ≡ reply (call state.old (GetAndTouch key time)).answer }
+    ensures answered { numbered result ≡ touch_answer (call state.old (GetAndTouch key time)).answer }
+    ensures left { state.new ≡ (call state.old (GetAndTouch key time)).memory }
 {
     check_sound(state)?;
     Ok(touch_unchecked(state, key, time))
@@ -102,6 +107,7 @@ pub fn get_and_touch_unchecked<'a>(state: &'a mut [u8], key: NodeAddr, time: u64
     &after[place]
 }
 
+#[tactic(auto, using(crate::proofs::UnsoundLookups::told))]
 pub fn get_and_touch<'a>(
     state: &'a mut [u8],
     key: NodeAddr,

@@ -13,7 +13,8 @@ use Rattle.rules.specs.Records.{Row}
 use Rattle.rules.specs.Rows.{row_at, at_place, stamp_before, lowest_stamp}
 use Rattle.rules.proofs.Loops.{from, better, lowest_down}
 use Rattle.stamps.specs.declared.lowest.Best.{Best}
-use Rattle.stamps.proofs.RowTotals.{Counted}
+use Rattle.stamps.proofs.RowTotals.{Counted, counted_start, counted_turn, counted_end, one_at_most}
+use Rattle.memory.proofs.RowLaws.{view_length}
 use Rattle.stamps.specs.Walked.{no_row, best_row, lower_best, lower_row}
 
 -- the rows from i on were searched
@@ -80,3 +81,5 @@ down_end {p} {n} {i} {rs} {b} h d =
     whole : (o : Option ℕ) → o ≡ from 0 o
     whole None = refl
     whole (Some j) = ap Some (let e : j ≡ 0 + j = omega arith in e)
+
+pub ruleset passed = (view_length, counted_start, counted_turn, counted_end, one_at_most, down_start, down_row, down_end)

@@ -22,6 +22,10 @@ use Rattle.stamps.specs.Walked.{walk_from, sought_of}
 
 -- ---- what was found
 
+-- row i has the lowest stamp of a place
+pub row_inside : (place n i : ℕ) (m : List ℕ) {r : Option ℕ} → r ≡ lowest_stamp place (view_rows n m).rows → r ≡ Some i → i < n
+row_inside place n i m h q = omega (arith, (lowest_at place (view_rows n m).rows i (sym h ∙ q)).inside, view_length n m)
+
 -- ---- a walk, from memory l after e₀ keys to memory m after e
 
 pub record Going {A : Type 0} (goal : ℕ → Walk → A) (now n e₀ e : ℕ) (l m : List ℕ) : Type 0 where
@@ -40,9 +44,7 @@ pub record Found {A : Type 0} (goal : ℕ → Walk → A) (place now n e₀ e i 
 
 pub found_row : {A : Type 0} {goal : ℕ → Walk → A} {place now n e₀ e i : ℕ} {l m : List ℕ} {r : Option ℕ} →
     Going goal now n e₀ e l m → r ≡ lowest_stamp place (view_rows n m).rows → r ≡ Some i → Found goal place now n e₀ e i l m
-found_row {place = place} {n = n} {i = i} {m = m} {r = r} g h q =
-    let k = sym h ∙ q in
-    record { lowest = k; inside = omega (arith, (lowest_at place (view_rows n m).rows i k).inside, view_length n m); going = g }
+found_row {place = place} {n = n} {i = i} {m = m} {r = r} g h q = record { lowest = sym h ∙ q; inside = row_inside place n i m h q; going = g }
 
 -- it was taken up, and memory x shows the rows then
 pub record Turned {A : Type 0} (goal : ℕ → Walk → A) (now n e₀ e : ℕ) (l m x : List ℕ) : Type 0 where
@@ -67,14 +69,25 @@ module _ {A : Type 0} {goal : ℕ → Walk → A} {now n e₀ e : ℕ} {l m x : 
 
 -- ---- parked rows return
 
+-- row i is the lowest parked one, and lapsed: a visit is left, and fewer once it is restamped
+module _ (now n i : ℕ) (m : List ℕ) {r : Option ℕ} (h : r ≡ lowest_stamp parked (view_rows n m).rows) (q : r ≡ Some i) (u : (row_at i (view_rows n m).rows).stamp_first < now) where
+  visited : total (main_visits now) (view_rows n m).rows ≡ suc (visits_left now (take_up restamp i (walk_from (view_rows n m) 0)))
+  visited = (lapsed_lapsed now (walk_from (view_rows n m) 0) i (sym h ∙ q) (lt-ltb (row_at i (view_rows n m).rows).stamp_first now u)).0
+
+  pub lapsed_left : 1 ≤ total (main_visits now) (view_rows n m).rows
+  lapsed_left = omega (arith, visited)
+
+  pub lapsed_less : (x : List ℕ) → view_rows n x ≡ restamp i (view_rows n m) → total (main_visits now) (view_rows n x).rows < total (main_visits now) (view_rows n m).rows
+  unfolding take_up restamp stamp raised with_rows
+  lapsed_less x v = rw v (omega (arith, visited))
+
+pub ruleset returning = (row_inside, lapsed_left, lapsed_less)
+
 module _ {now n e₀ e i : ℕ} {l m : List ℕ} (u : Found waking parked now n e₀ e i l m) where
   module _ (h : (row_at i (view_rows n m).rows).stamp_first < now) where
     lapsed : (total (main_visits now) (view_rows n m).rows ≡ suc (visits_left now (take_up restamp i (walk_from (view_rows n m) e))))
         × (waking now (walk_from (view_rows n m) e) ≡ waking now (take_up restamp i (walk_from (view_rows n m) e)))
     lapsed = lapsed_lapsed now (walk_from (view_rows n m) e) i u.lowest (lt-ltb (row_at i (view_rows n m).rows).stamp_first now h)
-
-    pub lapsed_left : 1 ≤ total (main_visits now) (view_rows n m).rows
-    lapsed_left = omega (arith, lapsed.0)
 
     pub lapsed_turn : {x : List ℕ} → length x ≡ length m → view_rows n x ≡ restamp i (view_rows n m) → Turned waking now n e₀ e l m x
     unfolding take_up restamp stamp raised with_rows
@@ -119,10 +132,11 @@ seek_start {now} {n} {e} z {l} q h b =
     let k : Paced now w (walk_from (view_rows n l) e) = subst (Paced now w) (sym q) (lapsed_paced now (visits_left now w) w) in
     record { long = refl; size = h; same = refl; keys = omega (arith, k.keys); stamps = omega (arith, k.stamps) }
 
-module _ {now n e₀ e i : ℕ} {l m : List ℕ} (u : Found seeking by_use now n e₀ e i l m) where
+-- row i is the lowest ByUse one: a visit is left, and fewer once it is restamped or parked
+module _ (now n i : ℕ) (m : List ℕ) {r : Option ℕ} (h : r ≡ lowest_stamp by_use (view_rows n m).rows) (q : r ≡ Some i) where
   pub some_left : 1 ≤ total (main_visits now) (view_rows n m).rows
   some_left =
-      let g = lowest_at by_use (view_rows n m).rows i u.lowest in
+      let g = lowest_at by_use (view_rows n m).rows i (sym h ∙ q) in
       let r = row_at i (view_rows n m).rows in
       omega (arith, total_some (main_visits now) i (view_rows n m).rows g.inside, once r (stale r) refl g.there)
     where
@@ -130,6 +144,19 @@ module _ {now n e₀ e i : ℕ} {l m : List ℕ} (u : Found seeking by_use now n
       once r true e a = omega (arith, turns_stale now r a e)
       once r false e a = omega (arith, turns_last now r a e)
 
+  module _ {b : Bool} (a : b ≡ stale (row_at i (view_rows n m).rows)) where
+    pub stale_less : (x : List ℕ) → b ≡ true → view_rows n x ≡ restamp i (view_rows n m) → total (main_visits now) (view_rows n x).rows < total (main_visits now) (view_rows n m).rows
+    unfolding take_up restamp stamp raised with_rows
+    stale_less x t v = rw v (omega (arith, (seek_stale now (walk_from (view_rows n m) 0) i (sym h ∙ q) (sym a ∙ t)).0))
+
+    pub park_less : (x : List ℕ) {v : Bool} → b ≡ false → v ≡ verified now (row_at i (view_rows n m).rows).entry → v ≡ true → view_rows n x ≡ park i (view_rows n m)
+        → total (main_visits now) (view_rows n x).rows < total (main_visits now) (view_rows n m).rows
+    unfolding take_up park stamp raised with_rows
+    park_less x f d t w = rw w (omega (arith, (seek_verified now (walk_from (view_rows n m) 0) i (sym h ∙ q) (sym a ∙ f) (sym d ∙ t)).0))
+
+pub ruleset sought_on = (row_inside, some_left, stale_less, park_less)
+
+module _ {now n e₀ e i : ℕ} {l m : List ℕ} (u : Found seeking by_use now n e₀ e i l m) where
   pub stale_turn : {b : Bool} {x : List ℕ} → b ≡ stale (row_at i (view_rows n m).rows) → b ≡ true → length x ≡ length m → view_rows n x ≡ restamp i (view_rows n m) →
       Turned seeking now n e₀ e l m x
   unfolding take_up restamp stamp raised with_rows

@@ -1,8 +1,10 @@
 -- The code's answers in the rules' terms.
-use Rattle.std.specs.Prelude.{ℕ, List, cond, ◌&&◌, ◌||◌, ltb, eqb, ◌≡◌, Option, None, Some}
+use Rattle.std.specs.Prelude.{ℕ, List, cond, ◌&&◌, ◌||◌, ltb, eqb, ◌≡◌, ◌+◌, ◌*◌, ◌≤◌, ◌<◌, length, Option, None, Some}
 use Rattle.rules.specs.Records.{Row, State, by_use, parked}
 use Rattle.rules.specs.Rows.{at_place, in_main, lowest_stamp, count_rows}
-use Rattle.rules.specs.Room.{Walk, Sought}
+use Rattle.rules.specs.Room.{Walk, Sought, visits_left}
+use Rattle.rules.specs.Memory.{view_rows}
+use Rattle.rules.specs.Layout.{head_size, number_limit, row_size}
 use Rattle.stamps.specs.declared.lowest.Best.{Best}
 use Rattle.stamps.specs.declared.lowest.LowestStamp.{LowestStamp}
 use Rattle.stamps.specs.declared.lowest.LowestOfMain.{LowestOfMain}
@@ -41,3 +43,8 @@ pub record MainIs (m : LowestOfMain) (rs : List Row) : Type 0 where
   pub parked : m.parked ≡ lowest_stamp parked rs
   pub by_use : m.by_use ≡ lowest_stamp by_use rs
   pub count : m.count ≡ count_rows in_main rs
+
+-- n rows are there, with their lowest stamps, and no stamp of a walk overflows
+abbrev pub Walkable : ℕ → ℕ → LowestOfMain → List ℕ → Type 0
+Walkable n time lowest l =
+    (head_size + n * row_size ≤ length l) × ((view_rows n l).seq + visits_left time (walk_from (view_rows n l) 0) < number_limit) × MainIs lowest (view_rows n l).rows

@@ -41,6 +41,7 @@ fn no_row(n: usize) -> Best
 }
 
 // The best so far stays if there is one and its stamp is before row i's.
+#[tactic(auto, unfolding(crate::specs::Walked::lower_best))]
 fn lower_of(best: Best, n: usize, i: usize, first: u64, seq: u64) -> Best
     ensures { result ≡ lower_best n best i first seq }
 {
@@ -50,6 +51,7 @@ fn lower_of(best: Best, n: usize, i: usize, first: u64, seq: u64) -> Best
     Best { row: i, first, seq }
 }
 
+#[tactic(auto, using(std::proofs::lemmas::Bool::Decides::nat_tests), unfolding(crate::specs::Walked::best_row))]
 fn row_of(best: Best, n: usize) -> Option<usize>
     ensures { result ≡ best_row n best }
 {
@@ -60,6 +62,7 @@ fn row_of(best: Best, n: usize) -> Option<usize>
 }
 
 // Row i against the best so far, if it is at this place.
+#[tactic(auto, using(std::proofs::lemmas::Bool::Decides::nat_tests), unfolding(crate::specs::Walked::lower_row, rules::specs::Rows::at_place))]
 fn lower_row(row: &Row<'_>, n: usize, i: usize, place: u8, best: Best) -> Best
     ensures { result ≡ lower_row n place i row.now best }
 {
@@ -72,6 +75,7 @@ fn lower_row(row: &Row<'_>, n: usize, i: usize, place: u8, best: Best) -> Best
 }
 
 // From the last row to the first, so that equal stamps go to the lower key.
+#[tactic(auto, using(crate::proofs::LowestLaws::passed), unfolding(rules::specs::Rows::at_place))]
 pub fn lowest_stamp(state: &[u8], n: usize, place: u8) -> LowestStamp
     requires { head_size + n * row_size ≤ length state.now }
     ensures { LowestIs place result (view_rows n state.now).rows }
@@ -90,6 +94,7 @@ pub fn lowest_stamp(state: &[u8], n: usize, place: u8) -> LowestStamp
 }
 
 // Both places of main, in one pass.
+#[tactic(auto, using(crate::proofs::LowestLaws::passed), unfolding(rules::specs::Rows::in_main))]
 pub fn lowest_of_main(state: &[u8], n: usize) -> LowestOfMain
     requires { head_size + n * row_size ≤ length state.now }
     ensures { MainIs result (view_rows n state.now).rows }

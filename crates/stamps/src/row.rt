@@ -11,6 +11,7 @@ use memory::codes::{BY_USE, PARKED, PROBATION};
 use memory::row::{Row, row_at};
 
 // first ≠ last_used
+#[tactic(auto, unfolding(rules::specs::Room::stale))]
 pub fn is_stale(row: &Row<'_>) -> bool
     ensures { result ≡ stale row.now }
 {
@@ -18,6 +19,7 @@ pub fn is_stale(row: &Row<'_>) -> bool
 }
 
 // Row i gets a place and a new stamp.
+#[tactic(auto, using(crate::proofs::StampedRows::drawn))]
 pub fn draw_stamp(state: &mut [u8], n: usize, i: usize, place: u8, first: u64)
     requires { (i < n) × (head_size + n * row_size ≤ length state.old) × ((view_rows n state.old).seq < largest_number) }
     ensures { view_rows n state.new ≡ stamp (stamped_as place first) i (view_rows n state.old) }
@@ -27,6 +29,7 @@ pub fn draw_stamp(state: &mut [u8], n: usize, i: usize, place: u8, first: u64)
 }
 
 // In main a filed row's place becomes ByUse.
+#[tactic(auto, using(std::proofs::lemmas::Bool::Decides::nat_tests))]
 fn filed_place(place: u8) -> u8
     ensures { result ≡ cond (ltb place probation) by_use place }
 {
@@ -34,6 +37,7 @@ fn filed_place(place: u8) -> u8
 }
 
 // Row i is stamped with last_used.
+#[tactic(auto, using(crate::proofs::StampedRows::restamped))]
 pub fn restamp(state: &mut [u8], n: usize, i: usize)
     requires { (i < n) × (head_size + n * row_size ≤ length state.old) × ((view_rows n state.old).seq < largest_number) }
     ensures { view_rows n state.new ≡ restamp i (view_rows n state.old) }
@@ -45,6 +49,7 @@ pub fn restamp(state: &mut [u8], n: usize, i: usize)
 }
 
 // Row i is parked, stamped with verified_until.
+#[tactic(auto, using(crate::proofs::StampedRows::parked_anew))]
 pub(crate) fn park(state: &mut [u8], n: usize, i: usize)
     requires { (i < n) × (head_size + n * row_size ≤ length state.old) × ((view_rows n state.old).seq < largest_number) }
     ensures { view_rows n state.new ≡ park i (view_rows n state.old) }

@@ -1,11 +1,10 @@
 // Seeking a victim.
-ghost use Rattle.std.specs.Prelude.{◌≡◌, ◌+◌, ◌*◌, ◌≤◌, ◌<◌, length};
+ghost use Rattle.std.specs.Prelude.{◌≡◌};
 ghost use Rattle.rules.specs.Records.{by_use};
 ghost use Rattle.rules.specs.Rows.{lowest_stamp};
 ghost use Rattle.rules.specs.Room.{visits_left, return_lapsed, next_victim};
 ghost use Rattle.rules.specs.Memory.{view_rows};
-ghost use Rattle.rules.specs.Layout.{head_size, number_limit, row_size};
-ghost use Rattle.stamps.specs.Walked.{walk_from, sought_of, MainIs};
+ghost use Rattle.stamps.specs.Walked.{walk_from, sought_of, Walkable};
 
 use crate::lowest::{LowestOfMain, lowest_of_main, lowest_stamp};
 use crate::row::{is_stale, park, restamp};
@@ -29,9 +28,11 @@ pub struct Victim {
 
 // Parked rows with until < now return to ByUse, lowest stamp first. `lowest` is of the rows as they are; the pass that finds none lapsed
 // has also found the lowest ByUse stamp.
+#[tactic(auto, using(crate::proofs::WalkLaws::returning))]
 fn return_lapsed(state: &mut [u8], n: usize, time: u64, lowest: LowestOfMain) -> Returned
-    requires { (head_size + n * row_size ≤ length state.old) × ((view_rows n state.old).seq + visits_left time (walk_from (view_rows n state.old) 0) < number_limit) × MainIs lowest (view_rows n state.old).rows }
-    ensures { (walk_from (view_rows n state.new) result.rows ≡ return_lapsed (visits_left time (walk_from (view_rows n state.old) 0)) time (walk_from (view_rows n state.old) 0)) × (result.next ≡ lowest_stamp by_use (view_rows n state.new).rows) }
+    requires { Walkable n time lowest state.old }
+    ensures walked { walk_from (view_rows n state.new) result.rows ≡ return_lapsed (visits_left time (walk_from (view_rows n state.old) 0)) time (walk_from (view_rows n state.old) 0) }
+    ensures next { result.next ≡ lowest_stamp by_use (view_rows n state.new).rows }
 {
     let mut rows: u64 = 0;
     let mut parked = lowest.parked;
@@ -55,8 +56,9 @@ fn return_lapsed(state: &mut [u8], n: usize, time: u64, lowest: LowestOfMain) ->
 
 // The walk over ByUse ends at the first entry that is neither restamped nor parked, and yields it. `lowest` is of the rows as they are;
 // each row that is taken up but not yielded costs a pass over the rows.
+#[tactic(auto, using(crate::proofs::WalkLaws::sought_on))]
 pub fn next_victim(state: &mut [u8], n: usize, time: u64, lowest: LowestOfMain) -> Victim
-    requires { (head_size + n * row_size ≤ length state.old) × ((view_rows n state.old).seq + visits_left time (walk_from (view_rows n state.old) 0) < number_limit) × MainIs lowest (view_rows n state.old).rows }
+    requires { Walkable n time lowest state.old }
     ensures { sought_of result (view_rows n state.new) ≡ next_victim time (walk_from (view_rows n state.old) 0) }
 {
     let returned = return_lapsed(state, n, time, lowest);

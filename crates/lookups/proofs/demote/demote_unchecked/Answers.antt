@@ -1,26 +1,11 @@
 -- A seq over LAST_SEQ is refusal 3; up to it the call is not refused, and its state is demoted_at i where find gives i, else the same state.
 use Rattle.rules.proofs.MemoryLaws.{all_bytes}
-use Rattle.refusals.proofs.SoundCalls.{head_there, searchable}
 use Rattle.refusals.proofs.SearchedKeys.{Searched, held, absent}
-use Rattle.lookups.proofs.DemotedRows.{demote_refused, demote_asked, demoted_at_lem, demoted_absent}
+use Rattle.lookups.proofs.DemotedRows.{demote_refused, demoted_at_lem, demoted_absent}
 use Rattle.lookups.proofs.demote.demote_unchecked.Goals as goal
-
-pub seq-requires : goal.seq-requires
-seq-requires c = head_there _ c.requires
 
 pub returns-then-seq-gt-LAST_SEQ : goal.returns-then-seq-gt-LAST_SEQ
 returns-then-seq-gt-LAST_SEQ c = demote_refused _ _ c.requires c.seq.ensures c.if-seq-gt-LAST_SEQ.true
-
-pub row_count-n-requires : goal.row_count-n-requires
-row_count-n-requires c = head_there _ c.requires
-
-pub search-at-requires : goal.search-at-requires
-search-at-requires c = searchable _ _ c.requires c.row_count-n.ensures
-
-pub demote_at-requires : goal.demote_at-requires
-demote_at-requires c =
-    let key_searched : Searched c.args.key c.row_count-n.result c.search-at.result c.args.state.now = record { sound = c.requires; counted = c.row_count-n.ensures; outcome = c.search-at.ensures } in
-    demote_asked c.seq.ensures c.if-seq-gt-LAST_SEQ.false (held key_searched c.in-Ok.is)
 
 pub returns-in-Ok : goal.returns-in-Ok
 returns-in-Ok c =

@@ -2,23 +2,11 @@
 use mathlib.Core.Path.{sym, ◌∙◌, ap}
 use Rattle.rules.specs.Lent.{Bytes}
 use Rattle.rules.proofs.MemoryLaws.{all_bytes}
-use Rattle.refusals.proofs.SoundCalls.{head_there, searchable}
-use Rattle.refusals.proofs.SearchedKeys.{Searched, held, absent, row_asked}
+use Rattle.refusals.proofs.SearchedKeys.{Searched, held, absent}
 use Rattle.lookups.proofs.FoundRows.{absent_stands, expired_stands, path_stands, get_left}
 use Rattle.rules.specs.Records.{Row}
 use Rattle.rules.specs.Entries.{expired}
 use Rattle.lookups.proofs.get.get_place.Goals as goal
-
-pub row_count-n-requires : goal.row_count-n-requires
-row_count-n-requires c = head_there _ c.requires
-
-pub search-at-requires : goal.search-at-requires
-search-at-requires c = searchable _ _ c.requires c.row_count-n.ensures
-
-pub row_at-requires : goal.row_at-requires
-row_at-requires c =
-    let key_searched : Searched c.args.key c.row_count-n.result c.search-at.result c.args.state.now = record { sound = c.requires; counted = c.row_count-n.ensures; outcome = c.search-at.ensures } in
-    row_asked (held key_searched c.in-Ok.is)
 
 pub returns-then-is_expired : goal.returns-then-is_expired
 returns-then-is_expired c =
@@ -26,11 +14,6 @@ returns-then-is_expired c =
     let bytes : Bytes c.args.state.now = all_bytes c.args.state.now (λ i. (c.shared_slice_known-1.given i).fits) in
     let f = held key_searched c.in-Ok.is in
     (expired_stands _ f (sym (c.is_expired.ensures ∙ ap (λ (r : Row). expired c.args.time r.entry) c.row_at.ensures) ∙ c.if-is_expired.true), get_left f _ bytes)
-
-pub path_place-requires : goal.path_place-requires
-path_place-requires c =
-    let key_searched : Searched c.args.key c.row_count-n.result c.search-at.result c.args.state.now = record { sound = c.requires; counted = c.row_count-n.ensures; outcome = c.search-at.ensures } in
-    row_asked (held key_searched c.in-Ok.is)
 
 pub returns-else-is_expired : goal.returns-else-is_expired
 returns-else-is_expired c =

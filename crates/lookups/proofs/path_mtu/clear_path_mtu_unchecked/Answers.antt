@@ -1,20 +1,8 @@
 -- A call without path or stamps is not refused on a sound memory; drop_mtu rewrites the row that find gives, or nothing where it gives none.
 use Rattle.rules.proofs.MemoryLaws.{all_bytes}
-use Rattle.refusals.proofs.SoundCalls.{head_there, searchable}
-use Rattle.refusals.proofs.SearchedKeys.{Searched, held, absent, row_asked}
+use Rattle.refusals.proofs.SearchedKeys.{Searched, held, absent}
 use Rattle.lookups.proofs.ClearedMtu.{clear_at, clear_absent}
 use Rattle.lookups.proofs.path_mtu.clear_path_mtu_unchecked.Goals as goal
-
-pub row_count-n-requires : goal.row_count-n-requires
-row_count-n-requires c = head_there _ c.requires
-
-pub search-at-requires : goal.search-at-requires
-search-at-requires c = searchable _ _ c.requires c.row_count-n.ensures
-
-pub drop_mtu-requires : goal.drop_mtu-requires
-drop_mtu-requires c =
-    let key_searched : Searched c.args.key c.row_count-n.result c.search-at.result c.args.state.now = record { sound = c.requires; counted = c.row_count-n.ensures; outcome = c.search-at.ensures } in
-    row_asked (held key_searched c.in-Ok.is)
 
 pub returns-in-Ok : goal.returns-in-Ok
 returns-in-Ok c =

@@ -1,27 +1,10 @@
 -- The search agrees with find; Removed says answer and memory, for a row taken out and for a key that has none.
 use Rattle.rules.proofs.MemoryLaws.{all_bytes}
-use Rattle.refusals.proofs.SoundCalls.{head_there, searchable}
-use Rattle.refusals.proofs.SearchedKeys.{Searched, held, absent, row_asked, removal_asked}
+use Rattle.refusals.proofs.SearchedKeys.{Searched, held, absent}
 use Rattle.lookups.proofs.RemovedRows.{removed_at, removed_absent}
 use mathlib.Core.Path.{ap, ◌∙◌}
 use Rattle.rules.specs.Records.{Row, entry_value}
 use Rattle.lookups.proofs.remove.remove_unchecked.Goals as goal
-
-pub row_count-n-requires : goal.row_count-n-requires
-row_count-n-requires c = head_there _ c.requires
-
-pub search-at-requires : goal.search-at-requires
-search-at-requires c = searchable _ _ c.requires c.row_count-n.ensures
-
-pub row_at-requires : goal.row_at-requires
-row_at-requires c =
-    let key_searched : Searched c.args.key c.row_count-n.result c.search-at.result c.args.state.now = record { sound = c.requires; counted = c.row_count-n.ensures; outcome = c.search-at.ensures } in
-    row_asked (held key_searched c.in-Ok.is)
-
-pub remove_row-requires : goal.remove_row-requires
-remove_row-requires c =
-    let key_searched : Searched c.args.key c.row_count-n.result c.search-at.result c.args.state.now = record { sound = c.requires; counted = c.row_count-n.ensures; outcome = c.search-at.ensures } in
-    removal_asked (held key_searched c.in-Ok.is)
 
 pub returns-in-Ok : goal.returns-in-Ok
 returns-in-Ok c =

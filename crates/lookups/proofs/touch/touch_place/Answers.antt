@@ -3,21 +3,9 @@ use Rattle.rules.specs.Lent.{Bytes}
 use Rattle.rules.proofs.Sizes.{small8}
 use Rattle.rules.proofs.MemoryLaws.{all_bytes}
 use Rattle.memory.proofs.OwnedValues.{owned_addr}
-use Rattle.refusals.proofs.SoundCalls.{head_there, searchable}
-use Rattle.refusals.proofs.SearchedKeys.{Searched, held, absent, removal_asked}
+use Rattle.refusals.proofs.SearchedKeys.{Searched, held, absent}
 use Rattle.lookups.proofs.PathPlaces.{placed_at, placed_absent}
 use Rattle.lookups.proofs.touch.touch_place.Goals as goal
-
-pub row_count-n-requires : goal.row_count-n-requires
-row_count-n-requires c = head_there _ c.requires
-
-pub search-at-requires : goal.search-at-requires
-search-at-requires c = searchable _ _ c.requires c.row_count-n.ensures
-
-pub touch_row-requires : goal.touch_row-requires
-touch_row-requires c =
-    let key_searched : Searched c.args.key c.row_count-n.result c.search-at.result c.args.state.now = record { sound = c.requires; counted = c.row_count-n.ensures; outcome = c.search-at.ensures } in
-    removal_asked (held key_searched c.in-Ok.is)
 
 pub returns-in-Ok : goal.returns-in-Ok
 returns-in-Ok c =

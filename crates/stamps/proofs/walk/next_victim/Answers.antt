@@ -7,49 +7,13 @@ use Rattle.rules.specs.Records.{Row, by_use}
 use Rattle.rules.specs.Entries.{verified}
 use Rattle.rules.specs.Room.{stale}
 use Rattle.rules.proofs.Loops.{seeking}
-use Rattle.stamps.proofs.WalkLaws.{Found, Turned, found_row, seek_start, some_left, stale_turn, park_turn, none_yielded, yielded}
+use Rattle.stamps.proofs.WalkLaws.{Found, Turned, found_row, seek_start, stale_turn, park_turn, none_yielded, yielded}
 use Rattle.stamps.proofs.walk.next_victim.Goals as goal
 
 pub loop-next-init : goal.loop-next-init
 loop-next-init c =
     let k = c.return_lapsed-returned.auto.state in
-    (seek_start c.args.state.now c.return_lapsed-returned.ensures.0 (omega arith) c.requires.1, c.return_lapsed-returned.ensures.1)
-
-pub overflow_add-examined : goal.overflow_add-examined
-overflow_add-examined c =
-    let found : let l = c.loop-next in
-    Found seeking by_use c.args.time c.args.n c.return_lapsed-returned.result.rows l.examined c.in-Some.i c.return_lapsed-returned.new.state l.state = let l = c.loop-next in found_row l.invariant.0 l.invariant.1 c.in-Some.is in
-    let f = found in omega (arith, some_left f, f.going.keys)
-
-pub row_at-row-requires : goal.row_at-row-requires
-row_at-row-requires c =
-    let found : let l = c.loop-next in
-    Found seeking by_use c.args.time c.args.n c.return_lapsed-returned.result.rows l.examined c.in-Some.i c.return_lapsed-returned.new.state l.state = let l = c.loop-next in found_row l.invariant.0 l.invariant.1 c.in-Some.is in
-    let f = found in (f.inside, f.going.size)
-
-pub restamp-requires : goal.restamp-requires
-restamp-requires c =
-    let found : let l = c.loop-next in
-    Found seeking by_use c.args.time c.args.n c.return_lapsed-returned.result.rows l.examined c.in-Some.i c.return_lapsed-returned.new.state l.state = let l = c.loop-next in found_row l.invariant.0 l.invariant.1 c.in-Some.is in
-    let f = found in (f.inside, f.going.size, omega (arith, some_left f, f.going.stamps))
-
-pub lowest_stamp-again-requires : goal.lowest_stamp-again-requires
-lowest_stamp-again-requires c =
-    let found : let l = c.loop-next in
-    Found seeking by_use c.args.time c.args.n c.return_lapsed-returned.result.rows l.examined c.in-Some.i c.return_lapsed-returned.new.state l.state = let l = c.loop-next in found_row l.invariant.0 l.invariant.1 c.in-Some.is in
-    let Goes : List ℕ → Type 0 = λ x. let l = c.loop-next in
-    Turned seeking c.args.time c.args.n c.return_lapsed-returned.result.rows l.examined c.return_lapsed-returned.new.state l.state x in
-    let restamped : Goes c.restamp.new.state = stale_turn found (c.is_stale.ensures ∙ ap stale c.row_at-row.ensures) c.if-is_stale.true c.restamp.auto.state c.restamp.ensures in
-    restamped.going.size
-
-pub loop-next-smaller-then-is_stale : goal.loop-next-smaller-then-is_stale
-loop-next-smaller-then-is_stale c =
-    let found : let l = c.loop-next in
-    Found seeking by_use c.args.time c.args.n c.return_lapsed-returned.result.rows l.examined c.in-Some.i c.return_lapsed-returned.new.state l.state = let l = c.loop-next in found_row l.invariant.0 l.invariant.1 c.in-Some.is in
-    let Goes : List ℕ → Type 0 = λ x. let l = c.loop-next in
-    Turned seeking c.args.time c.args.n c.return_lapsed-returned.result.rows l.examined c.return_lapsed-returned.new.state l.state x in
-    let restamped : Goes c.restamp.new.state = stale_turn found (c.is_stale.ensures ∙ ap stale c.row_at-row.ensures) c.if-is_stale.true c.restamp.auto.state c.restamp.ensures in
-    restamped.less
+    (seek_start c.args.state.now c.return_lapsed-returned.ensures.walked (omega arith) c.requires.1, c.return_lapsed-returned.ensures.next)
 
 pub loop-next-preserved-then-is_stale : goal.loop-next-preserved-then-is_stale
 loop-next-preserved-then-is_stale c =
@@ -59,30 +23,6 @@ loop-next-preserved-then-is_stale c =
     Turned seeking c.args.time c.args.n c.return_lapsed-returned.result.rows l.examined c.return_lapsed-returned.new.state l.state x in
     let restamped : Goes c.restamp.new.state = stale_turn found (c.is_stale.ensures ∙ ap stale c.row_at-row.ensures) c.if-is_stale.true c.restamp.auto.state c.restamp.ensures in
     (restamped.going, c.lowest_stamp-again.ensures.row)
-
-pub park-requires : goal.park-requires
-park-requires c =
-    let found : let l = c.loop-next in
-    Found seeking by_use c.args.time c.args.n c.return_lapsed-returned.result.rows l.examined c.in-Some.i c.return_lapsed-returned.new.state l.state = let l = c.loop-next in found_row l.invariant.0 l.invariant.1 c.in-Some.is in
-    let f = found in (f.inside, f.going.size, omega (arith, some_left f, f.going.stamps))
-
-pub lowest_stamp-again-requires-then-is_verified : goal.lowest_stamp-again-requires-then-is_verified
-lowest_stamp-again-requires-then-is_verified c =
-    let found : let l = c.loop-next in
-    Found seeking by_use c.args.time c.args.n c.return_lapsed-returned.result.rows l.examined c.in-Some.i c.return_lapsed-returned.new.state l.state = let l = c.loop-next in found_row l.invariant.0 l.invariant.1 c.in-Some.is in
-    let Goes : List ℕ → Type 0 = λ x. let l = c.loop-next in
-    Turned seeking c.args.time c.args.n c.return_lapsed-returned.result.rows l.examined c.return_lapsed-returned.new.state l.state x in
-    let parked : Goes c.park.new.state = park_turn found (c.is_stale.ensures ∙ ap stale c.row_at-row.ensures) c.if-is_stale.false (c.is_verified.ensures ∙ ap (λ (r : Row). verified c.args.time r.entry) c.row_at-row.ensures) c.if-is_verified.true c.park.auto.state c.park.ensures in
-    parked.going.size
-
-pub loop-next-smaller : goal.loop-next-smaller
-loop-next-smaller c =
-    let found : let l = c.loop-next in
-    Found seeking by_use c.args.time c.args.n c.return_lapsed-returned.result.rows l.examined c.in-Some.i c.return_lapsed-returned.new.state l.state = let l = c.loop-next in found_row l.invariant.0 l.invariant.1 c.in-Some.is in
-    let Goes : List ℕ → Type 0 = λ x. let l = c.loop-next in
-    Turned seeking c.args.time c.args.n c.return_lapsed-returned.result.rows l.examined c.return_lapsed-returned.new.state l.state x in
-    let parked : Goes c.park.new.state = park_turn found (c.is_stale.ensures ∙ ap stale c.row_at-row.ensures) c.if-is_stale.false (c.is_verified.ensures ∙ ap (λ (r : Row). verified c.args.time r.entry) c.row_at-row.ensures) c.if-is_verified.true c.park.auto.state c.park.ensures in
-    parked.less
 
 pub loop-next-preserved : goal.loop-next-preserved
 loop-next-preserved c =
@@ -94,11 +34,11 @@ loop-next-preserved c =
     (parked.going, c.lowest_stamp-again-then-is_verified.ensures.row)
 
 pub returns-in-None : goal.returns-in-None
-returns-in-None c = none_yielded _ c.loop-next.invariant.0 (sym c.loop-next.invariant.1 ∙ c.in-None.is) c.return_lapsed-returned.ensures.0
+returns-in-None c = none_yielded _ c.loop-next.invariant.0 (sym c.loop-next.invariant.1 ∙ c.in-None.is) c.return_lapsed-returned.ensures.walked
 
 pub returns-else-is_verified : goal.returns-else-is_verified
 returns-else-is_verified c =
     let found : let l = c.loop-next in
     Found seeking by_use c.args.time c.args.n c.return_lapsed-returned.result.rows l.examined c.in-Some.i c.return_lapsed-returned.new.state l.state = let l = c.loop-next in found_row l.invariant.0 l.invariant.1 c.in-Some.is in
     let r = c.return_lapsed-returned.ensures in
-    yielded found (c.is_stale.ensures ∙ ap stale c.row_at-row.ensures) c.if-is_stale.false (c.is_verified.ensures ∙ ap (λ (r : Row). verified c.args.time r.entry) c.row_at-row.ensures) _ c.if-is_verified.false r.0
+    yielded found (c.is_stale.ensures ∙ ap stale c.row_at-row.ensures) c.if-is_stale.false (c.is_verified.ensures ∙ ap (λ (r : Row). verified c.args.time r.entry) c.row_at-row.ensures) _ c.if-is_verified.false r.walked
