@@ -74,7 +74,6 @@ fn promote(state: &mut [u8], held: Held, hint: &Hint, weight: u8) -> Placed
     );
     remove_row(state, held.n, held.i);
     let room = make_room(state, held.n - 1, wide(weight), hint.time);
-    let victim = room.victim;
     // The charge is added only where room was made.
     let (place, segment, added) = if room.made {
         (BY_USE, Segment::Main, wide(weight))
@@ -84,7 +83,7 @@ fn promote(state: &mut [u8], held: Held, hint: &Hint, weight: u8) -> Placed
     file_in_room(
         state,
         room.rows,
-        victim,
+        room.victim,
         room.stored,
         hint.key,
         e,
@@ -131,27 +130,27 @@ fn grow(state: &mut [u8], held: Held, hint: &Hint, weight: u8, added: u64) -> Pl
     let w = wide(weight);
     let room = make_room(state, held.n - 1, w, hint.time);
     if room.made | hint.stated {
-        let victim = room.victim;
         file_in_room(
             state,
             room.rows,
-            victim,
+            room.victim,
             room.stored,
             hint.key,
             e,
             weight,
             BY_USE,
         );
-        return Placed {
+        Placed {
             outcome: held.outcome,
             added_weight: added,
             segment: Segment::Main,
             unfunded: false,
             examined: room.examined,
-        };
+        }
+    } else {
+        file_unchanged(state, room.rows, hint.key, saved);
+        reject(false, room.examined)
     }
-    file_unchanged(state, room.rows, hint.key, saved);
-    reject(false, room.examined)
 }
 
 // 5. In main.

@@ -36,9 +36,17 @@ fn new_in_probation(state: &mut [u8], n: usize, hint: &Hint, unfunded: bool, bef
 {
     let w = hint.weight();
     let room = make_probation_room(state, n);
-    let victim = room.victim;
     let e = new_entry(hint.path, hint.time, hint.ttl);
-    file_in_room(state, n, victim, room.stored, hint.key, e, w, PROBATION);
+    file_in_room(
+        state,
+        n,
+        room.victim,
+        room.stored,
+        hint.key,
+        e,
+        w,
+        PROBATION,
+    );
     inserted(0, Segment::Probation, unfunded, before + room.examined)
 }
 
@@ -50,11 +58,10 @@ fn new_in_main(state: &mut [u8], room: Room, hint: &Hint) -> Placed
 {
     let w = hint.weight();
     let e = new_entry(hint.path, hint.time, hint.ttl);
-    let victim = room.victim;
     file_in_room(
         state,
         room.rows,
-        victim,
+        room.victim,
         room.stored,
         hint.key,
         e,
