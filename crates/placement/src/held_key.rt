@@ -122,16 +122,17 @@ fn grow(state: &mut [u8], held: Held, hint: &Hint, weight: u8, added: u64) -> Pl
     let room = make_room(state, held.n - 1, w, hint.time);
     if room.made | hint.stated {
         file_in_room(state, room.rows, room.victim, hint.key, e, weight, BY_USE);
-        return Placed {
+        Placed {
             outcome: held.outcome,
             added_weight: added,
             segment: Segment::Main,
             unfunded: false,
             examined: room.examined,
-        };
+        }
+    } else {
+        file_unchanged(state, room.rows, hint.key, saved);
+        reject(false, room.examined)
     }
-    file_unchanged(state, room.rows, hint.key, saved);
-    reject(false, room.examined)
 }
 
 // 5. In main.

@@ -16,5 +16,5 @@ returns-then-room-hint c = grown_is (lifted (c.requires.0, c.requires.1) c.remov
 pub file_unchanged-requires : goal.file_unchanged-requires
 file_unchanged-requires c = goes_back_asks (lifted (c.requires.0, c.requires.1) c.remove_row.auto.state c.remove_row.ensures c.wide-w.ensures.0 c.make_room-room.auto.state c.make_room-room.ensures) c.save_row-saved.ensures c.if-room-hint.false
 
-pub returns : goal.returns
-returns c = goes_back (lifted (c.requires.0, c.requires.1) c.remove_row.auto.state c.remove_row.ensures c.wide-w.ensures.0 c.make_room-room.auto.state c.make_room-room.ensures) c.save_row-saved.ensures c.if-room-hint.false c.reject.ensures c.file_unchanged.ensures
+pub returns-else-room-hint : goal.returns-else-room-hint
+returns-else-room-hint c = goes_back (lifted (c.requires.0, c.requires.1) c.remove_row.auto.state c.remove_row.ensures c.wide-w.ensures.0 c.make_room-room.auto.state c.make_room-room.ensures) c.save_row-saved.ensures c.if-room-hint.false c.reject.ensures c.file_unchanged.ensures
