@@ -206,45 +206,45 @@ stays_as true true false = (λ h. h, λ h. h, λ h g. refl)
 module _ (h : Hint) (i : ℕ) (s : State) where
   pub stays_unstated : verified h.time (row_at i s.rows).entry && not h.stated ≡ true → place_held h i s ≡ rejected false 0 s
   unfolding place_held rule.place_held rule.stays_verified
-  stays_unstated e = rw ((stays_as (verified h.time (row_at i s.rows).entry) h.stated (same_path (row_at i s.rows).entry.path h.path)).0 e)
+  stays_unstated e = rw ((stays_as (verified h.time (row_at i s.rows).entry) h.stated (same_path (row_at i s.rows).entry.path h.path.now)).0 e)
 
-  pub stays_same : verified h.time (row_at i s.rows).entry && same_path (row_at i s.rows).entry.path h.path ≡ true → place_held h i s ≡ rejected false 0 s
+  pub stays_same : verified h.time (row_at i s.rows).entry && same_path (row_at i s.rows).entry.path h.path.now ≡ true → place_held h i s ≡ rejected false 0 s
   unfolding place_held rule.place_held rule.stays_verified
-  stays_same e = rw ((stays_as (verified h.time (row_at i s.rows).entry) h.stated (same_path (row_at i s.rows).entry.path h.path)).1 e)
+  stays_same e = rw ((stays_as (verified h.time (row_at i s.rows).entry) h.stated (same_path (row_at i s.rows).entry.path h.path.now)).1 e)
 
-  module _ (a : verified h.time (row_at i s.rows).entry && not h.stated ≡ false) (b : verified h.time (row_at i s.rows).entry && same_path (row_at i s.rows).entry.path h.path ≡ false) where
+  module _ (a : verified h.time (row_at i s.rows).entry && not h.stated ≡ false) (b : verified h.time (row_at i s.rows).entry && same_path (row_at i s.rows).entry.path h.path.now ≡ false) where
     pub goes_to_main : (row_at i s.rows).place < 2 → place_main h i s ≡ place_held h i s
     unfolding place_held place_main rule.place_held rule.stays_verified
-    goes_to_main e = rw ((stays_as (verified h.time (row_at i s.rows).entry) h.stated (same_path (row_at i s.rows).entry.path h.path)).2 a b, main_of (row_at i s.rows) e)
+    goes_to_main e = rw ((stays_as (verified h.time (row_at i s.rows).entry) h.stated (same_path (row_at i s.rows).entry.path h.path.now)).2 a b, main_of (row_at i s.rows) e)
 
     pub goes_to_probation : 2 ≤ (row_at i s.rows).place → place_probation h i s ≡ place_held h i s
     unfolding place_held place_probation rule.place_held rule.stays_verified
-    goes_to_probation e = rw ((stays_as (verified h.time (row_at i s.rows).entry) h.stated (same_path (row_at i s.rows).entry.path h.path)).2 a b, main_not (row_at i s.rows) e)
+    goes_to_probation e = rw ((stays_as (verified h.time (row_at i s.rows).entry) h.stated (same_path (row_at i s.rows).entry.path h.path.now)).2 a b, main_not (row_at i s.rows) e)
 
 -- ---- 4. in probation
 
 -- w: the charge
-pub probation_covered : (h : Hint) (w i : ℕ) (s : State) → w ≡ max (path_weight h.path) (row_at i s.rows).weight → covers h.funding w ≡ true → promote h w i s ≡ place_probation h i s
+pub probation_covered : (h : Hint) (w i : ℕ) (s : State) → w ≡ max (path_weight h.path.now) (row_at i s.rows).weight → covers h.funding w ≡ true → promote h w i s ≡ place_probation h i s
 unfolding place_probation promote rule.place_probation
 probation_covered h w i s e c = rw (← e, c)
 
-pub probation_uncovered : (h : Hint) (w i : ℕ) (s : State) → w ≡ max (path_weight h.path) (row_at i s.rows).weight → covers h.funding w ≡ false
+pub probation_uncovered : (h : Hint) (w i : ℕ) (s : State) → w ≡ max (path_weight h.path.now) (row_at i s.rows).weight → covers h.funding w ≡ false
     → refile_held h w Probation i s ≡ place_probation h i s
 unfolding place_probation refile_held held_outcome update rule.place_probation
 probation_uncovered h w i s e c = rw (← e, c)
 
 -- ---- 5. in main
 
-pub main_kept : (h : Hint) (i : ℕ) (s : State) → path_weight h.path ≤ (row_at i s.rows).weight → refile_held h (row_at i s.rows).weight Main i s ≡ place_main h i s
+pub main_kept : (h : Hint) (i : ℕ) (s : State) → path_weight h.path.now ≤ (row_at i s.rows).weight → refile_held h (row_at i s.rows).weight Main i s ≡ place_main h i s
 unfolding place_main refile_held held_outcome update rule.place_main
 main_kept h i s e = rw (le-leb _ _ e)
 
-module _ (h : Hint) (w i : ℕ) (s : State) (g : w ≡ path_weight h.path) (e : (row_at i s.rows).weight < w) where
+module _ (h : Hint) (w i : ℕ) (s : State) (g : w ≡ path_weight h.path.now) (e : (row_at i s.rows).weight < w) where
   pub main_grown : covers h.funding (w - (row_at i s.rows).weight) ≡ true → grow h w i s ≡ place_main h i s
   unfolding place_main grow rule.place_main
   main_grown c = rw (← g, lt-leb _ _ e, c)
 
-pub main_rejected : (h : Hint) (i : ℕ) (s : State) → (row_at i s.rows).weight < path_weight h.path → covers h.funding (path_weight h.path - (row_at i s.rows).weight) ≡ false
+pub main_rejected : (h : Hint) (i : ℕ) (s : State) → (row_at i s.rows).weight < path_weight h.path.now → covers h.funding (path_weight h.path.now - (row_at i s.rows).weight) ≡ false
     → place_main h i s ≡ rejected true 0 s
 unfolding place_main rule.place_main
 main_rejected h i s e c = rw (lt-leb _ _ e, c)

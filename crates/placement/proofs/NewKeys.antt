@@ -40,7 +40,7 @@ light p w = omega (arith, w.short)
 
 -- ---- the new key's place
 
-pub new_uncovered : (h : Hint) (s : State) → covers h.funding (path_weight h.path) ≡ false → new_in_probation h true 0 s ≡ place_new h s
+pub new_uncovered : (h : Hint) (s : State) → covers h.funding (path_weight h.path.now) ≡ false → new_in_probation h true 0 s ≡ place_new h s
 unfolding place_new new_in_probation new_entry rule.place_new
 new_uncovered h s c = rw c
 
@@ -48,7 +48,7 @@ new_uncovered h s c = rw c
 pub placed_in : Hint → Room → PlaceResult
 placed_in h m = cond m.made (new_in_main h m.examined m.state) (new_without_room h m)
 
-pub new_covered : (h : Hint) (s : State) → covers h.funding (path_weight h.path) ≡ true → place_new h s ≡ placed_in h (make_room h.time (path_weight h.path) s)
+pub new_covered : (h : Hint) (s : State) → covers h.funding (path_weight h.path.now) ≡ true → place_new h s ≡ placed_in h (make_room h.time (path_weight h.path.now) s)
 unfolding place_new placed_in new_in_main new_without_room new_entry rule.place_new
 new_covered h s c = rw c
 

@@ -85,10 +85,10 @@ rows_sound n l e c = rw (sound_memory l n e c).same e
 -- a hint that is not refused, of a memory with n rows
 pub record Allowed (h : Hint) (n : ℕ) (l : List ℕ) : Type 0 where
   pub sound : sound (capacity l) (view l) ≡ true
-  pub passed : Passed h.path (view l)
+  pub passed : Passed h.path.now (view l)
   pub counted : n ≡ (view_rows 0 l).row_count
 
-pub allowed : {h : Hint} {n : ℕ} {l : List ℕ} {a : Result (Unit {0}) Refusal} {u : Unit {0}} → sound (capacity l) (view l) ≡ true → a ≡ write_refusal h.path (view l) → a ≡ Ok u
+pub allowed : {h : Hint} {n : ℕ} {l : List ℕ} {a : Result (Unit {0}) Refusal} {u : Unit {0}} → sound (capacity l) (view l) ≡ true → a ≡ write_refusal h.path.now (view l) → a ≡ Ok u
     → n ≡ (view_rows 0 l).row_count → Allowed h n l
 allowed e w z c = record { sound = e; passed = passed _ _ w z; counted = c }
 
@@ -98,14 +98,14 @@ module _ {h : Hint} {n : ℕ} {l : List ℕ} (a : Allowed h n l) where
   seq_left = rw (sound_memory l n a.sound a.counted).same (ltb-false last_seq (view l).seq a.passed.stamps)
 
   placed : {d : Placed} {m : List ℕ} → Bytes m → length m ≡ length l → Placing (place_hint h (view_rows n l)) d m
-      → (q : Call) → Places q h.key h.path h.time h.ttl h.funding h.stated (view l) → (Hinted d ≡ (call l q).answer) × (m ≡ (call l q).memory)
+      → (q : Call) → Places q h.key h.path.now h.time h.ttl h.funding h.stated (view l) → (Hinted d ≡ (call l q).answer) × (m ≡ (call l q).memory)
   unfolding place_hint hinted gives
   placed {d} {m} bytes size u q g =
       let s = sound_memory l n a.sound a.counted in
       let p = place_hint h in
       let t : perform (view_rows n l) q ≡ hinted (p (view_rows n l)) = subst (λ (x : State). perform x q ≡ hinted (p x)) (sym s.same) g.does in
       let c : (perform (view_rows n l) q).state ≡ (p (view_rows n l)).state = ap (λ (x : Step). x.state) t in
-      let w = hint_allowed l q h.path a.sound g.path g.unverified a.passed in
+      let w = hint_allowed l q h.path.now a.sound g.path g.unverified a.passed in
       let b = done_with l n q m (length (p (view_rows n l)).state.rows) s w bytes size (ap (λ (x : State). length x.rows) c) (u.state ∙ sym c) in
       (sym (b.answer ∙ ap (λ (x : State). (perform x q).answer) (sym s.same) ∙ ap (λ (x : Step). x.answer) t ∙ ap Hinted (sym u.says)), sym b.memory)
 
@@ -118,9 +118,9 @@ module _ {h : Hint} {n : ℕ} {l : List ℕ} (a : Allowed h n l) where
 
     module _ {d : Placed} {x : List ℕ} (bytes : Bytes x) (size : length x ≡ length l) where
       pub held_placed : HeldAt h n i l m → Placing (place_held h i (view_rows n m)) d x
-          → (q : Call) → Places q h.key h.path h.time h.ttl h.funding h.stated (view l) → (Hinted d ≡ (call l q).answer) × (x ≡ (call l q).memory)
+          → (q : Call) → Places q h.key h.path.now h.time h.ttl h.funding h.stated (view l) → (Hinted d ≡ (call l q).answer) × (x ≡ (call l q).memory)
       held_placed at u = placed bytes size (rw at.placed (rw at.same at u))
 
       pub new_placed : NewIn h n i l m → Placing (place_new h (view_rows i m)) d x
-          → (q : Call) → Places q h.key h.path h.time h.ttl h.funding h.stated (view l) → (Hinted d ≡ (call l q).answer) × (x ≡ (call l q).memory)
+          → (q : Call) → Places q h.key h.path.now h.time h.ttl h.funding h.stated (view l) → (Hinted d ≡ (call l q).answer) × (x ≡ (call l q).memory)
       new_placed new u = placed bytes size (rw new.placed u)

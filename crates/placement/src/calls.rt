@@ -28,7 +28,7 @@ pub fn insert_unchecked(
     place_hint(
         state,
         key,
-        path,
+        &path,
         time,
         default_ttl,
         Funding::Uncharged,
@@ -54,7 +54,7 @@ pub fn insert_with_ttl_unchecked(
     requires { sound (capacity state.old) (view state.old) ≡ true }
     ensures { (said Hinted result ≡ (call state.old (InsertWithTtl key path time ttl)).answer) × (state.new ≡ (call state.old (InsertWithTtl key path time ttl)).memory) }
 {
-    place_hint(state, key, path, time, ttl, Funding::Uncharged, false)
+    place_hint(state, key, &path, time, ttl, Funding::Uncharged, false)
 }
 
 pub fn insert_with_ttl(
@@ -82,7 +82,7 @@ pub fn insert_funded_unchecked(
     ensures { (said Hinted result ≡ (call state.old (InsertFunded key path time funding)).answer) × (state.new ≡ (call state.old (InsertFunded key path time funding)).memory) }
 {
     let default_ttl = memory::head::default_ttl(state);
-    place_hint(state, key, path, time, default_ttl, funding, false)
+    place_hint(state, key, &path, time, default_ttl, funding, false)
 }
 
 pub fn insert_funded(
@@ -112,7 +112,7 @@ pub fn insert_stated_unchecked(
 {
     let default_ttl = memory::head::default_ttl(state);
     let stated = path.starts_at(key);
-    place_hint(state, key, path, time, default_ttl, funding, stated)
+    place_hint(state, key, &path, time, default_ttl, funding, stated)
 }
 
 pub fn insert_stated(

@@ -44,12 +44,18 @@ fn outcome_of(same: bool) -> HintOutcome
 
 // Updated and refiled at this weight, with nothing added.
 #[tactic(auto, using(room::proofs::RoomToFile::laid_out, filing::proofs::FiledInRoom::rows_there), unfolding(rules::specs::Placement::place_result, crate::specs::Operands::refile_held, crate::specs::Operands::held_outcome, crate::specs::Operands::update))]
-fn refile_held(state: &mut [u8], held: Held, hint: &Hint, weight: u8, segment: Segment) -> Placed
+fn refile_held(
+    state: &mut [u8],
+    held: Held,
+    hint: &Hint<'_>,
+    weight: u8,
+    segment: Segment,
+) -> Placed
     requires { HeldHint hint.now held state.old }
     ensures { Placing (refile_held hint.now weight segment held.i (view_rows held.n state.old)) result state.new }
 {
     update_in_place(
-        state, held.n, held.i, hint.path, hint.time, hint.ttl, weight,
+        state, held.n, held.i, *hint.path, hint.time, hint.ttl, weight,
     );
     Placed {
         outcome: held.outcome,
@@ -62,13 +68,13 @@ fn refile_held(state: &mut [u8], held: Held, hint: &Hint, weight: u8, segment: S
 
 // Covered: taken out, updated, and with room made filed in main, or without room back in probation.
 #[tactic(auto, using(room::proofs::RoomToFile::laid_out, filing::proofs::RoomSought::room_asks, crate::proofs::HeldKeys::weight_stored, crate::proofs::HeldKeys::taken_sound, rules::proofs::Others::take_out_seq))]
-fn promote(state: &mut [u8], held: Held, hint: &Hint, weight: u8) -> Placed
+fn promote(state: &mut [u8], held: Held, hint: &Hint<'_>, weight: u8) -> Placed
     requires { HeldHint hint.now held state.old × (in_main (row_in held.n held.i state.old) ≡ false) }
     ensures { Placing (promote hint.now weight held.i (view_rows held.n state.old)) result state.new }
 {
     let e = updated_entry(
         &row_at(state, held.n, held.i),
-        hint.path,
+        *hint.path,
         hint.time,
         hint.ttl,
     );
@@ -92,7 +98,7 @@ fn promote(state: &mut [u8], held: Held, hint: &Hint, weight: u8) -> Placed
 
 // 4. In probation.
 #[tactic(auto, using(room::proofs::RoomToFile::laid_out, crate::proofs::HeldKeys::probation_covered, crate::proofs::HeldKeys::probation_uncovered))]
-fn place_probation(state: &mut [u8], held: Held, hint: &Hint) -> Placed
+fn place_probation(state: &mut [u8], held: Held, hint: &Hint<'_>) -> Placed
     requires { HeldHint hint.now held state.old × (in_main (row_in held.n held.i state.old) ≡ false) }
     ensures { Placing (place_probation hint.now held.i (view_rows held.n state.old)) result state.new }
 {
@@ -106,13 +112,13 @@ fn place_probation(state: &mut [u8], held: Held, hint: &Hint) -> Placed
 
 // Growth to this weight: row out, room sought for it; without room an unstated one goes back unchanged but newly stamped.
 #[tactic(auto, using(room::proofs::RoomToFile::laid_out, filing::proofs::RoomSought::room_asks, crate::proofs::HeldKeys::weight_stored, crate::proofs::HeldKeys::taken_sound, rules::proofs::Others::take_out_seq))]
-fn grow(state: &mut [u8], held: Held, hint: &Hint, weight: u8, added: u64) -> Placed
+fn grow(state: &mut [u8], held: Held, hint: &Hint<'_>, weight: u8, added: u64) -> Placed
     requires { HeldHint hint.now held state.old × (in_main (row_in held.n held.i state.old) ≡ true) × (added ≡ weight - (row_in held.n held.i state.old).weight) }
     ensures { Placing (grow hint.now weight held.i (view_rows held.n state.old)) result state.new }
 {
     let e = updated_entry(
         &row_at(state, held.n, held.i),
-        hint.path,
+        *hint.path,
         hint.time,
         hint.ttl,
     );
@@ -137,7 +143,7 @@ fn grow(state: &mut [u8], held: Held, hint: &Hint, weight: u8, added: u64) -> Pl
 
 // 5. In main.
 #[tactic(auto, using(room::proofs::RoomToFile::laid_out, crate::proofs::HeldKeys::main_kept, crate::proofs::HeldKeys::main_grown, crate::proofs::HeldKeys::main_rejected, crate::proofs::HeldKeys::rejected_there))]
-fn place_main(state: &mut [u8], held: Held, hint: &Hint) -> Placed
+fn place_main(state: &mut [u8], held: Held, hint: &Hint<'_>) -> Placed
     requires { HeldHint hint.now held state.old × (in_main (row_in held.n held.i state.old) ≡ true) }
     ensures { Placing (place_main hint.now held.i (view_rows held.n state.old)) result state.new }
 {
@@ -156,7 +162,7 @@ fn place_main(state: &mut [u8], held: Held, hint: &Hint) -> Placed
 // 3. A verified key is Rejected, unless stated and differing. The paths are compared at most once, and not for a verified key that
 // isn't stated.
 #[tactic(auto, using(room::proofs::RoomToFile::laid_out, crate::proofs::HeldKeys::stays_unstated, crate::proofs::HeldKeys::stays_same, crate::proofs::HeldKeys::goes_to_main, crate::proofs::HeldKeys::goes_to_probation, crate::proofs::HeldKeys::main_of, crate::proofs::HeldKeys::main_not, crate::proofs::HeldKeys::rejected_there), unfolding(crate::specs::Operands::held_outcome, rules::specs::Placement::held_outcome))]
-pub fn place_held(state: &mut [u8], n: usize, i: usize, hint: &Hint) -> Placed
+pub fn place_held(state: &mut [u8], n: usize, i: usize, hint: &Hint<'_>) -> Placed
     requires { Holds hint.now.key n i state.old × ((view_rows n state.old).seq ≤ last_seq) }
     ensures { Placing (place_held hint.now i (view_rows n state.old)) result state.new }
 {
@@ -165,7 +171,7 @@ pub fn place_held(state: &mut [u8], n: usize, i: usize, hint: &Hint) -> Placed
     if verified & !hint.stated {
         return reject(false, 0);
     }
-    let same = path_is(&row, &hint.path);
+    let same = path_is(&row, hint.path);
     if verified & same {
         return reject(false, 0);
     }

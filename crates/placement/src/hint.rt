@@ -27,7 +27,7 @@ pub enum KeyRow {
 
 // 1. The key's row; an expired one is removed, and the key is new.
 #[tactic(auto, using(room::proofs::RoomToFile::rises, room::proofs::RoomToFile::laid_out, crate::proofs::HeldKeys::weight_stored, crate::proofs::PlacedHints::found_inside, crate::proofs::PlacedHints::new_missing))]
-fn remove_expired(state: &mut [u8], n: usize, hint: &Hint) -> KeyRow
+fn remove_expired(state: &mut [u8], n: usize, hint: &Hint<'_>) -> KeyRow
     requires { sound (capacity state.old) (view_rows n state.old) ≡ true }
     ensures { Stands result hint.now n state.old state.new }
 {
@@ -42,21 +42,21 @@ fn remove_expired(state: &mut [u8], n: usize, hint: &Hint) -> KeyRow
 }
 
 // A hint of one of the four calls, with the operands that such a call gives: refused by 2 or 3, or placed. A path is a thousand bytes, so
-// the functions that place it are lent the hint.
+// it is lent, and copied where it is written.
 #[tactic(auto, using(refusals::proofs::SoundCalls::head_there, crate::proofs::PlacedHints::rows_sound))]
 pub fn place_hint(
     state: &mut [u8],
     key: NodeAddr,
-    path: Path,
+    path: &Path,
     time: u64,
     ttl: u64,
     funding: Funding,
     stated: bool,
 ) -> Result<Placed, Refusal>
     requires { sound (capacity state.old) (view state.old) ≡ true }
-    ensures { (q : Call) → Places q key path time ttl funding stated (view state.old) → (said Hinted result ≡ (call state.old q).answer) × (state.new ≡ (call state.old q).memory) }
+    ensures { (q : Call) → Places q key path.now time ttl funding stated (view state.old) → (said Hinted result ≡ (call state.old q).answer) × (state.new ≡ (call state.old q).memory) }
 {
-    write_refusal(state, path)?;
+    write_refusal(state, *path)?;
     let hint = Hint {
         key,
         path,

@@ -30,32 +30,38 @@ fn inserted(added: u64, segment: Segment, unfunded: bool, examined: u64) -> Plac
 
 // To probation, with room made there; `before` keys were examined already.
 #[tactic(auto, using(room::proofs::RoomToFile::laid_out, crate::proofs::NewKeys::probation_few, crate::proofs::NewKeys::probation_takes), unfolding(crate::specs::Operands::new_in_probation, crate::specs::Operands::new_entry, rules::specs::Placement::new_in_probation, rules::specs::Placement::place_result))]
-fn new_in_probation(state: &mut [u8], n: usize, hint: &Hint, unfunded: bool, before: u64) -> Placed
+fn new_in_probation(
+    state: &mut [u8],
+    n: usize,
+    hint: &Hint<'_>,
+    unfunded: bool,
+    before: u64,
+) -> Placed
     requires { Without hint.now.key n state.old × StampsLeft n state.old × (before ≤ 2 * max_rows) }
     ensures { Placing (new_in_probation hint.now unfunded before (view_rows n state.old)) result state.new }
 {
     let w = hint.weight();
     let room = make_probation_room(state, n);
-    let e = new_entry(hint.path, hint.time, hint.ttl);
+    let e = new_entry(*hint.path, hint.time, hint.ttl);
     file_in_room(state, n, room.victim, hint.key, e, w, PROBATION);
     inserted(0, Segment::Probation, unfunded, before + room.examined)
 }
 
 // Covered, and room was made: to main, at its weight.
 #[tactic(auto, unfolding(crate::specs::Operands::new_in_main, crate::specs::Operands::new_entry, rules::specs::Placement::place_result))]
-fn new_in_main(state: &mut [u8], room: Room, hint: &Hint) -> Placed
+fn new_in_main(state: &mut [u8], room: Room, hint: &Hint<'_>) -> Placed
     requires { Takes hint.now.key room.victim room.rows state.old }
     ensures { Placing (new_in_main hint.now room.examined (without_victim room.victim (view_rows room.rows state.old))) result state.new }
 {
     let w = hint.weight();
-    let e = new_entry(hint.path, hint.time, hint.ttl);
+    let e = new_entry(*hint.path, hint.time, hint.ttl);
     file_in_room(state, room.rows, room.victim, hint.key, e, w, BY_USE);
     inserted(raw::numbers::wide(w), Segment::Main, false, room.examined)
 }
 
 // No room: Upto to probation, but not unfunded; Uncharged is Rejected.
 #[tactic(auto, using(filing::proofs::FiledInRoom::rows_there), unfolding(crate::specs::Operands::new_without_room, crate::specs::Operands::new_in_probation, rules::specs::Placement::new_without_room, rules::specs::Placement::place_result, rules::specs::Placement::rejected))]
-fn new_without_room(state: &mut [u8], room: Room, hint: &Hint) -> Placed
+fn new_without_room(state: &mut [u8], room: Room, hint: &Hint<'_>) -> Placed
     requires { Without hint.now.key room.rows state.old × StampsLeft room.rows state.old × (room.examined ≤ 2 * max_rows) }
     ensures { Placing (new_without_room hint.now (no_room (view_rows room.rows state.old) room.examined)) result state.new }
 {
@@ -80,7 +86,7 @@ pub fn reject(unfunded: bool, examined: u64) -> Placed
 
 // Not covered, to probation, unfunded; covered and room made, to main.
 #[tactic(auto, using(room::proofs::RoomToFile::laid_out, filing::proofs::RoomSought::stamps_left, filing::proofs::RoomSought::room_asks, crate::proofs::NewKeys::new_uncovered, crate::proofs::NewKeys::new_covered, crate::proofs::NewKeys::in_made, crate::proofs::NewKeys::in_unmade, crate::proofs::NewKeys::made_takes))]
-pub fn place_new(state: &mut [u8], n: usize, hint: &Hint) -> Placed
+pub fn place_new(state: &mut [u8], n: usize, hint: &Hint<'_>) -> Placed
     requires { Without hint.now.key n state.old × ((view_rows n state.old).seq ≤ last_seq) }
     ensures { Placing (place_new hint.now (view_rows n state.old)) result state.new }
 {

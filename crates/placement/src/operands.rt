@@ -10,21 +10,21 @@ use types::placed::Funding;
 
 // A hint whose path can be written: 2 did not refuse it.
 #[derive(Clone, Copy)]
-pub struct Hint {
+pub struct Hint<'a> {
     pub key: NodeAddr,
-    pub path: Path,
+    pub path: &'a Path,
     pub time: u64,
     pub ttl: u64,
     pub funding: Funding,
     pub stated: bool,
-    ghost writable: { Writable path },
+    ghost writable: { Writable path.now },
 }
 
-impl Hint {
+impl<'a> Hint<'a> {
     // What its path weighs, as a row holds it.
     #[tactic(auto, using(crate::proofs::NewKeys::light))]
     pub fn weight(&self) -> u8
-        ensures { (result ≡ path_weight self.now.path) × (result ≤ weight_limit) }
+        ensures { (result ≡ path_weight self.now.path.now) × (result ≤ weight_limit) }
     {
         self.path.weight() as u8
     }
