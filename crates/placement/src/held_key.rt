@@ -1,5 +1,5 @@
 // A held key: 3. verified, 4. in probation, 5. in main.
-ghost use Rattle.std.specs.Prelude.{◌≡◌, true, false, cond, ◌-◌, ◌≤◌, ◌<◌, max};
+ghost use Rattle.std.specs.Prelude.{◌≡◌, true, false, cond, ◌-◌, ◌≤◌};
 ghost use Rattle.types.specs.declared.placed.HintOutcome.TheVariants.{Changed, Unchanged};
 ghost use Rattle.rules.specs.Rows.{in_main};
 ghost use Rattle.rules.specs.Refusals.{last_seq};
