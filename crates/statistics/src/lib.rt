@@ -17,6 +17,7 @@ use entries::times::is_expired;
 use memory::row::{Row, Rows};
 use state::check::check_sound;
 use types::refusal::Refusal;
+use types::reply::LARGEST_NUMBER;
 use types::stats::CacheStats;
 
 // Each row adds 0 or 1, so that no branch hangs on it.
@@ -36,11 +37,8 @@ fn age(row: &Row<'_>, time: u64) -> u64
     time.saturating_sub(row.created_at())
 }
 
-// Two to the 32nd.
-const HALF: u64 = 0x1_0000_0000;
-
-// The exact total can pass 2^64, so the high and the low halves of the ages are summed apart, and divided at the end.
-#[tactic(auto, using(crate::proofs::Means::sum_fits, crate::proofs::Means::high_fits, crate::proofs::Means::ages_end, std::proofs::lemmas::Grind::common_steps), unfolding(rules::specs::Statistics::mean))]
+// The exact total can pass 2^64; one that does not is divided as a number of 64 bits, which takes less time.
+#[tactic(auto, using(crate::proofs::Means::mean_fits, crate::proofs::Means::mean_of), unfolding(rules::specs::Rows::total, rules::specs::Statistics::total_age, rules::specs::Statistics::mean))]
 fn mean_age(state: &[u8], n: usize, time: u64) -> u64
     requires { (n ≤ max_rows) × (head_size + n * row_size ≤ length state.now) }
     ensures { result ≡ mean (total_age time (view_rows n state.now).rows) n }
@@ -48,16 +46,14 @@ fn mean_age(state: &[u8], n: usize, time: u64) -> u64
     if n == 0 {
         return 0;
     }
-    let count = n as u64;
-    let mut high: u64 = 0;
-    let mut low: u64 = 0;
+    let mut total: u128 = 0;
     for row in Rows::of(state, n) {
-        let a = age(&row, time);
-        high += a / HALF;
-        low += a % HALF;
+        total += age(&row, time) as u128;
     }
-    let rest = high % count * HALF + low;
-    high / count * HALF + rest / count
+    if total <= LARGEST_NUMBER as u128 {
+        return total as u64 / n as u64;
+    }
+    (total / n as u128) as u64
 }
 
 // Statistics of n rows.
