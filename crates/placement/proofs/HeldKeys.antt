@@ -109,7 +109,7 @@ module _ {k : NodeAddr} {n i : ℕ} {l m : List ℕ} (u : Out k n i l m) where
         (rw (free_state k (n - 1) m x time w r out_without so v) (omega (arith, ap probation_of limits_kept, made.probations, a, whole.probations)))
 
     -- what filing asks
-    pub out_takes : {p : Path} {o : HintOutcome} {b : Bool} → HeldHint k p o b n i l → Takes k r.victim r.stored r.rows x
+    pub out_takes : {p : Path} {o : HintOutcome} {b : Bool} → HeldHint k p o b n i l → Takes k r.victim r.rows x
     out_takes {b = b} h = takes k (n - 1) m x time w r out_without so (freed b h.main) (out_seq h.seq)
 
     -- nothing was made, and no victim left

@@ -36,7 +36,7 @@ light p w = omega (arith, w.short)
 -- ---- room in main
 
 module _ {k : NodeAddr} {n time w : ℕ} {r : RoomAnswer} {l m : List ℕ} (wo : Without k n l) (q : (view_rows n l).seq ≤ last_seq) (so : Sought l m n time w r) where
-  pub made_takes : r.made ≡ true → Takes k r.victim r.stored r.rows m
+  pub made_takes : r.made ≡ true → Takes k r.victim r.rows m
   made_takes d = takes k n l m time w r wo so (made_in_main k n l m time w r wo so d) q
 
   pub unmade_leaves : r.made ≡ false → Without k r.rows m × StampsLeft r.rows m × (r.examined ≤ 2 * max_rows)
@@ -52,7 +52,7 @@ pub record RoomInProbation (k : NodeAddr) (n : ℕ) (r : ProbationRoom) (l m : L
   pub stamps : StampsLeft n l
   pub size : length m ≡ length l
   pub walk : walk_from (without_victim r.victim (view_rows n m)) r.examined ≡ make_probation_room (view_rows n l)
-  pub leaves : Leaves r.victim r.stored (view_rows n l).rows (view_rows n m).rows
+  pub leaves : Leaves r.victim (view_rows n l).rows (view_rows n m).rows
 
 module _ {k : NodeAddr} {n : ℕ} {r : ProbationRoom} {l m : List ℕ} (s : RoomInProbation k n r l m) where
   made : ProbationRoomMade (capacity l) (view_rows n l) (make_probation_room (view_rows n l))
@@ -74,7 +74,7 @@ module _ {k : NodeAddr} {n : ℕ} {r : ProbationRoom} {l m : List ℕ} (s : Room
       let h = reached_without k l m n (make_probation_room (view_rows n l)).state (record { size = s.size; state = g }) u.sound a in
       (h, free_in_probation n m h.sound (rw g made.few))
 
-  pub probation_takes : Takes k r.victim r.stored n m
+  pub probation_takes : Takes k r.victim n m
   probation_takes =
       let u = made.evicted in
       let v = victim_seq r.victim (view_rows n m) in

@@ -112,9 +112,8 @@ fn promote(
     let e = updated_entry(&row_at(state, n, i), path, time, ttl);
     remove_row(state, n, i);
     let room = make_room(state, n - 1, wide(weight), time);
-    let victim = room.victim;
     let place = place_for(room.made);
-    file_in_room(state, room.rows, victim, room.stored, key, e, weight, place);
+    file_in_room(state, room.rows, room.victim, key, e, weight, place);
     promoted(outcome, room.made, wide(weight), room.examined)
 }
 
@@ -163,17 +162,7 @@ fn grow(
     let w = wide(weight);
     let room = make_room(state, n - 1, w, time);
     if room.made | stated {
-        let victim = room.victim;
-        file_in_room(
-            state,
-            room.rows,
-            victim,
-            room.stored,
-            key,
-            e,
-            weight,
-            BY_USE,
-        );
+        file_in_room(state, room.rows, room.victim, key, e, weight, BY_USE);
         return Placed {
             outcome: outcome,
             added_weight: added,

@@ -18,7 +18,7 @@ use entries::new_entry::new_entry;
 use filing::in_room::file_in_room;
 use memory::codes::{BY_USE, PROBATION};
 use room::probation::make_probation_room;
-use room::victims::make_room;
+use room::victims::{Victim, make_room};
 use types::coord::Path;
 use types::node_addr::NodeAddr;
 use types::placed::{Funding, HintOutcome, Placed, Segment};
@@ -61,9 +61,8 @@ fn new_in_probation(
 {
     let w = row_weight(path);
     let room = make_probation_room(state, n);
-    let victim = room.victim;
     let e = new_entry(path, time, ttl);
-    file_in_room(state, n, victim, room.stored, key, e, w, PROBATION);
+    file_in_room(state, n, room.victim, key, e, w, PROBATION);
     inserted(0, Segment::Probation, unfunded, before + room.examined)
 }
 
@@ -72,20 +71,19 @@ fn new_in_probation(
 fn new_in_main(
     state: &mut [u8],
     n: usize,
-    victim: Option<usize>,
-    stored: u64,
+    victim: Option<Victim>,
     key: NodeAddr,
     path: Path,
     time: u64,
     ttl: u64,
     examined: u64,
 ) -> Placed
-    requires { Takes key victim stored n state.old × Writable path }
+    requires { Takes key victim n state.old × Writable path }
     ensures { Placing (place_result Inserted (path_weight path) Main false examined (file_new key (new_entry path time ttl) (path_weight path) by_use (without_victim victim (view_rows n state.old)))) result state.new }
 {
     let w = row_weight(path);
     let e = new_entry(path, time, ttl);
-    file_in_room(state, n, victim, stored, key, e, w, BY_USE);
+    file_in_room(state, n, victim, key, e, w, BY_USE);
     inserted(raw::numbers::wide(w), Segment::Main, false, examined)
 }
 
@@ -142,12 +140,10 @@ pub fn place_new(
     }
     let room = make_room(state, n, w, time);
     if room.made {
-        let victim = room.victim;
         return new_in_main(
             state,
             room.rows,
-            victim,
-            room.stored,
+            room.victim,
             key,
             path,
             time,
