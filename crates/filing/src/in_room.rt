@@ -1,11 +1,11 @@
 // A row filed once room was sought: in the place of the victim that was left for it, or in a free row.
-ghost use Rattle.std.specs.Prelude.{◌≡◌, ◌≤◌, length};
+ghost use Rattle.std.specs.Prelude.{◌≤◌};
 ghost use Rattle.types.specs.Paths.{path_places};
 ghost use Rattle.rules.specs.Room.{file_new};
 ghost use Rattle.rules.specs.Memory.{view_rows};
 ghost use Rattle.room.specs.Rooms.{without_victim};
 ghost use Rattle.entries.specs.NewEntries.{entry_from};
-ghost use Rattle.filing.specs.InRoom.{Takes};
+ghost use Rattle.filing.specs.InRoom.{Takes, Shows};
 
 use crate::file::{file_new, file_over_victim};
 use entries::new_entry::NewEntry;
@@ -23,7 +23,7 @@ pub fn file_in_room(
     place: u8,
 )
     requires { Takes key victim n state.old × (e.path.len ≤ path_places) }
-    ensures { view_rows (length (file_new key (entry_from e) weight place (without_victim victim (view_rows n state.old))).rows) state.new ≡ file_new key (entry_from e) weight place (without_victim victim (view_rows n state.old)) }
+    ensures { Shows (file_new key (entry_from e) weight place (without_victim victim (view_rows n state.old))) state.new }
 {
     match victim {
         None => file_new(state, n, key, e, weight, place),

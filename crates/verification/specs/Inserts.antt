@@ -1,5 +1,5 @@
 -- What a verified insert meets that is done, and what it leaves: its answer, and its state in the memory.
-use Rattle.std.specs.Prelude.{◌≡◌, ◌≤◌, ℕ, List, true, false, length}
+use Rattle.std.specs.Prelude.{◌≡◌, ◌≤◌, ℕ, List, true, false}
 use Rattle.types.specs.declared.node_addr.NodeAddr.{NodeAddr}
 use Rattle.types.specs.declared.coord.Path.{Path}
 use Rattle.types.specs.declared.placed.VerifiedInsert.{VerifiedInsert}
@@ -9,6 +9,7 @@ use Rattle.rules.specs.Room.{Walk}
 use Rattle.rules.specs.Refusals.{last_seq, no_place_for}
 use Rattle.rules.specs.Memory.{capacity, view_rows}
 use Rattle.filing.specs.Filings.{Writable}
+use Rattle.filing.specs.InRoom.{Shows}
 
 -- n rows of a sound state, with stamps left, and a place in main for path p of key k
 pub record Allowed (k : NodeAddr) (p : Path) (time n : ℕ) (l : List ℕ) : Type 0 where
@@ -19,4 +20,4 @@ pub record Allowed (k : NodeAddr) (p : Path) (time n : ℕ) (l : List ℕ) : Typ
 
 pub record Inserting (v : Walk) (p : Path) (r : VerifiedInsert) (m : List ℕ) : Type 0 where
   pub says : r ≡ record { weight = path_weight p; examined = v.examined }
-  pub state : view_rows (length v.state.rows) m ≡ v.state
+  pub state : Shows v.state m

@@ -95,7 +95,11 @@ pub fn verify_in_place(
     mtu: Option<u16>,
     weight: u8,
 )
-    requires { (sound (capacity state.old) (view_rows n state.old) ≡ true) × (i < n) × (in_main (row_at i (view_rows n state.old).rows) ≡ true) × ((view_rows n state.old).seq < largest_number) × (path.len ≤ path_places) }
+    requires sound { sound (capacity state.old) (view_rows n state.old) ≡ true }
+    requires inside { i < n }
+    requires main { in_main (row_at i (view_rows n state.old).rows) ≡ true }
+    requires seq { (view_rows n state.old).seq < largest_number }
+    requires path { path.len ≤ path_places }
     ensures { (k : Address) → searched k (view_rows n state.old).rows ≡ Ok i → view_rows n state.new ≡ file_new k (verified_entry k path time mtu (view_rows n state.old)) weight by_use (take_out i (view_rows n state.old)) }
 {
     let ttl = head::default_ttl(state);
