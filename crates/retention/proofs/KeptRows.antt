@@ -141,13 +141,11 @@ swept {n = n} {j = j} {w = w} {l = l} {m = m} x k u v test t =
 
 -- ---- where no row leaves
 
-pub none_leaves : (test : Row → Bool) → kept_rows test [] ≡ []
-unfolding kept_rows keep_rows
-none_leaves test = refl
-
-pub stays : (test : Row → Bool) (r : Row) (rs : List Row) → false ≡ test r → kept_rows test rs ≡ rs → kept_rows test (r ∷ rs) ≡ r ∷ rs
-unfolding kept_rows keep_rows
-stays test r rs e h = let k = sym e in rw k (ap (λ (xs : List Row). r ∷ xs) h)
+pub all_kept : {R : Row → Bool → Type 0} {n i : ℕ} {l : List ℕ} → Kept R n i i l l → n ≤ i → (test : Row → Bool) → Tests R test → kept_rows test (view_rows n l).rows ≡ (view_rows n l).rows
+all_kept {R} {n} {i} {l} q h =
+    let e : i ≡ n = omega (arith, q.within) in
+    let k = kept_end (subst (λ (x : ℕ). Kept R n x x l l) e q) (omega arith) in
+    λ test t. k.tested test t ∙ sym k.only.rows
 
 pub only_rows : (rs : List Row) (s : State) → length rs ≡ length s.rows → s.stored_weight ≡ weigh_rows in_main rs → s.row_count ≡ length s.rows →
     with_rows rs s ≡ with_only_rows rs s

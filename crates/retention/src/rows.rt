@@ -70,7 +70,8 @@ fn any_leaves<F: Fn(&Row<'_>) -> bool>(state: &[u8], n: usize, leaves: &F) -> bo
     requires callable { (row : _) → PathFit row.now → F.pre leaves.now row }
     ensures { result ≡ false → (test : RowSeen → Bool) → Tests (FnReturnsAt F.Fn leaves.now) test → kept_rows test (view_rows n state.now).rows ≡ (view_rows n state.now).rows }
 {
-    for row in Rows::of(state, n) {
+    for i in 0..n {
+        let row = row_at(state, n, i);
         if leaves(&row) {
             return true;
         }
