@@ -54,7 +54,7 @@ fn weight_with(stored: u64, weight: u8, place: u8) -> u64
     ensures { result ≡ stored + cond (ltb place probation) weight 0 }
 {
     if place < PROBATION {
-        stored + raw::numbers::wide(weight)
+        stored + weight as u64
     } else {
         stored
     }

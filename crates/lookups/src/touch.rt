@@ -40,7 +40,7 @@ fn touch_at(state: &mut [u8], n: usize, i: usize, time: u64) -> Option<u64>
         memory::rows::remove_row(state, n, i);
         return None;
     }
-    let len = raw::numbers::wide(row.path_len());
+    let len = row.path_len() as u64;
     refresh_at(state, n, i, time);
     Some(len)
 }

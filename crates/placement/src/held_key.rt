@@ -18,7 +18,6 @@ use filing::refile::update_in_place;
 use memory::codes::{BY_USE, PROBATION};
 use memory::row::row_at;
 use memory::rows::remove_row;
-use raw::numbers::wide;
 use room::victims::make_room;
 use rows::saved::save_row;
 use types::placed::{HintOutcome, Placed, Segment};
@@ -79,10 +78,10 @@ fn promote(state: &mut [u8], held: Held, hint: &Hint<'_>, weight: u8) -> Placed
         hint.ttl,
     );
     remove_row(state, held.n, held.i);
-    let room = make_room(state, held.n - 1, wide(weight), hint.time);
+    let room = make_room(state, held.n - 1, weight as u64, hint.time);
     // The charge is added only where room was made.
     let (place, segment, added) = if room.made {
-        (BY_USE, Segment::Main, wide(weight))
+        (BY_USE, Segment::Main, weight as u64)
     } else {
         (PROBATION, Segment::Probation, 0)
     };
@@ -103,7 +102,7 @@ fn place_probation(state: &mut [u8], held: Held, hint: &Hint<'_>) -> Placed
     ensures { Placing (place_probation hint.now held.i (view_rows held.n state.old)) result state.new }
 {
     let w = hint.weight().max(row_at(state, held.n, held.i).weight());
-    if hint.funding.covers(wide(w)) {
+    if hint.funding.covers(w as u64) {
         promote(state, held, hint, w)
     } else {
         refile_held(state, held, hint, w, Segment::Probation)
@@ -124,7 +123,7 @@ fn grow(state: &mut [u8], held: Held, hint: &Hint<'_>, weight: u8, added: u64) -
     );
     let saved = save_row(state, held.n, held.i);
     remove_row(state, held.n, held.i);
-    let w = wide(weight);
+    let w = weight as u64;
     let room = make_room(state, held.n - 1, w, hint.time);
     if room.made | hint.stated {
         file_in_room(state, room.rows, room.victim, hint.key, e, weight, BY_USE);
@@ -152,7 +151,7 @@ fn place_main(state: &mut [u8], held: Held, hint: &Hint<'_>) -> Placed
     if w <= old {
         return refile_held(state, held, hint, old, Segment::Main);
     }
-    let added = wide(w) - wide(old);
+    let added = w as u64 - old as u64;
     if !hint.funding.covers(added) {
         return reject(true, 0);
     }

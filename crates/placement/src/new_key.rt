@@ -56,7 +56,7 @@ fn new_in_main(state: &mut [u8], room: Room, hint: &Hint<'_>) -> Placed
     let w = hint.weight();
     let e = new_entry(*hint.path, hint.time, hint.ttl);
     file_in_room(state, room.rows, room.victim, hint.key, e, w, BY_USE);
-    inserted(raw::numbers::wide(w), Segment::Main, false, room.examined)
+    inserted(w as u64, Segment::Main, false, room.examined)
 }
 
 // No room: Upto to probation, but not unfunded; Uncharged is Rejected.

@@ -3,13 +3,6 @@ ghost use Rattle.std.specs.Prelude.{◌≡◌, ◌+◌, ◌≤◌, ◌<◌, leng
 ghost use Rattle.std.proofs.lemmas.List.Edits.{sets};
 ghost use Rattle.rules.specs.Memory.{cut, le_number, le_bytes};
 
-// A byte as a wide number; a caller learns that it is below 256.
-pub fn wide(x: u8) -> u64
-    ensures { (result ≡ x) × (result < 256) }
-{
-    x as u64
-}
-
 #[tactic(auto, using(crate::proofs::NumberLaws::word_number))]
 pub fn read_u64(s: &[u8], at: usize) -> u64
     requires { at + 8 ≤ length s.now }

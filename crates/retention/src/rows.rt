@@ -45,7 +45,7 @@ fn weight_in_main(row: &Row<'_>) -> u64
     ensures { (result ≡ cond (in_main row.now) row.now.weight 0) × (result < 256) }
 {
     if row.place() < codes::PROBATION {
-        raw::numbers::wide(row.weight())
+        row.weight() as u64
     } else {
         0
     }

@@ -64,7 +64,7 @@ pub fn room_can_be_made(state: &[u8], n: usize, w: u64, time: u64) -> bool
     for row in Rows::of(state, n) {
         if is_verified_in_main(&row, time) {
             count += 1;
-            weight += raw::numbers::wide(row.weight());
+            weight += row.weight() as u64;
         }
     }
     has_room(max, count, weight, cut)

@@ -92,7 +92,7 @@ fn choose_victims(state: &mut [u8], n: usize, lowest: LowestOfMain, w: u64, time
             }
             Some(i) => {
                 left -= 1;
-                stored -= raw::numbers::wide(row_at(state, n, i).weight());
+                stored -= row_at(state, n, i).weight() as u64;
                 set_place(state, n, i, ASIDE);
                 if has_room(max, left, stored, w) {
                     let chosen = Chosen {

@@ -52,7 +52,7 @@ fn stored_without(state: &[u8], n: usize, i: usize) -> u64
     ensures { result ≡ weigh_rows in_main (without_row i (view_rows n state.now).rows) }
 {
     let stored = head::stored_weight(state);
-    let own = raw::numbers::wide(row::row_at(state, n, i).weight());
+    let own = row::row_at(state, n, i).weight() as u64;
     stored - own
 }
 
@@ -103,7 +103,7 @@ pub fn verify_in_place(
     ensures { (k : Address) → searched k (view_rows n state.old).rows ≡ Ok i → view_rows n state.new ≡ file_new k (verified_entry k path time mtu (view_rows n state.old)) weight by_use (take_out i (view_rows n state.old)) }
 {
     let ttl = head::default_ttl(state);
-    let stored = stored_without(state, n, i) + raw::numbers::wide(weight);
+    let stored = stored_without(state, n, i) + weight as u64;
     update_in_place(state, n, i, path, time, ttl, weight);
     mark_verified(state, n, i, time);
     set_given_mtu(state, n, i, mtu);

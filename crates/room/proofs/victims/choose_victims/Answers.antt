@@ -19,11 +19,11 @@ victim : (c : In-Some) → Victim (record { now = c.args.time; w = c.args.w; n =
 victim c = let v = c.loop-i.invariant in (came v.0 v.2 c.next_victim-sought.auto.state c.next_victim-sought.ensures).victim c.in-Some.is
 
 gone : (c : After-set_place) → Gone (record { now = c.args.time; w = c.args.w; n = c.args.n; memory = c.args.state.now; max = c.max_entries-max.result; mains = c.args.lowest.count })
-    (c.loop-i.left - 1) (c.loop-i.stored - c.wide-stored.result) (c.loop-i.examined + c.next_victim-sought.result.examined) c.in-Some.i c.set_place.new.state
+    (c.loop-i.left - 1) (c.loop-i.stored - c.weight.result) (c.loop-i.examined + c.next_victim-sought.result.examined) c.in-Some.i c.set_place.new.state
 gone c =
     let v = c.loop-i.invariant in
     ((came v.0 v.2 c.next_victim-sought.auto.state c.next_victim-sought.ensures).victim c.in-Some.is).goes
-    (c.wide-stored.ensures.0 ∙ c.weight.ensures ∙ ap (λ (r : Row). r.weight) c.row_at.ensures) c.set_place.auto.state c.set_place.ensures
+    (c.weight.ensures ∙ ap (λ (r : Row). r.weight) c.row_at.ensures) c.set_place.auto.state c.set_place.ensures
 
 pub loop-i-init : goal.loop-i-init
 loop-i-init c =
@@ -44,7 +44,7 @@ pub row_at-requires : goal.row_at-requires
 row_at-requires c = let v = victim (goal.at.row_at-requires c).In-Some in (v.inside, v.size)
 
 pub overflow_sub-stored : goal.overflow_sub-stored
-overflow_sub-stored c = let v = victim (goal.at.overflow_sub-stored c).In-Some in omega (arith, v.enough, c.wide-stored.ensures.0 ∙ c.weight.ensures ∙ ap (λ (r : Row). r.weight) c.row_at.ensures)
+overflow_sub-stored c = let v = victim (goal.at.overflow_sub-stored c).In-Some in omega (arith, v.enough, c.weight.ensures ∙ ap (λ (r : Row). r.weight) c.row_at.ensures)
 
 pub set_place-requires : goal.set_place-requires
 set_place-requires c = let v = victim (goal.at.set_place-requires c).In-Some in (v.inside, v.size)
