@@ -12,6 +12,7 @@ ghost use Rattle.rules.specs.Calls.{Stats, NextExpiry, StatsGiven, ExpiryGiven};
 ghost use Rattle.rules.specs.Answers.{said};
 ghost use Rattle.rules.specs.Layout.{head_size, row_size};
 ghost use Rattle.rules.specs.Records.{max_rows};
+ghost use Rattle.types.specs.Values.{largest_number};
 
 use entries::times::is_expired;
 use memory::row::{Row, Rows};
@@ -20,14 +21,11 @@ use types::refusal::Refusal;
 use types::reply::LARGEST_NUMBER;
 use types::stats::CacheStats;
 
-// Each row adds 0 or 1, so that no branch hangs on it.
-fn count_expired(state: &[u8], n: usize, time: u64) -> u64
-    requires { head_size + n * row_size ≤ length state.now }
-    ensures { result ≡ count_rows (λ x. expired time x.entry) (view_rows n state.now).rows }
-{
-    Rows::of(state, n)
-        .map(|row| is_expired(&row, time) as u64)
-        .sum()
+// What one pass over the rows adds up: those that are expired, and the ages of all.
+#[derive(Clone, Copy)]
+struct Totals {
+    expired: u64,
+    age: u128,
 }
 
 // max(now − created_at, 0)
@@ -37,18 +35,35 @@ fn age(row: &Row<'_>, time: u64) -> u64
     time.saturating_sub(row.created_at())
 }
 
-// The exact total can pass 2^64; one that does not is divided as a number of 64 bits, which takes less time.
-#[tactic(auto, using(crate::proofs::Means::mean_fits, crate::proofs::Means::mean_of), unfolding(rules::specs::Rows::total, rules::specs::Statistics::total_age, rules::specs::Statistics::mean))]
-fn mean_age(state: &[u8], n: usize, time: u64) -> u64
+// Each row adds 0 or 1 to those that are expired, so that no branch hangs on it. The sum of the ages can pass 2^64.
+#[tactic(auto, unfolding(rules::specs::Rows::count_rows, rules::specs::Rows::total, rules::specs::Statistics::total_age))]
+fn add_up(state: &[u8], n: usize, time: u64) -> Totals
     requires { (n ≤ max_rows) × (head_size + n * row_size ≤ length state.now) }
-    ensures { result ≡ mean (total_age time (view_rows n state.now).rows) n }
+    ensures expired { result.expired ≡ count_rows (λ x. expired time x.entry) (view_rows n state.now).rows }
+    ensures age { result.age ≡ total_age time (view_rows n state.now).rows }
+    ensures fits { result.age ≤ n * largest_number }
+{
+    let mut expired: u64 = 0;
+    let mut total: u128 = 0;
+    for row in Rows::of(state, n) {
+        expired += is_expired(&row, time) as u64;
+        total += age(&row, time) as u128;
+    }
+    Totals {
+        expired,
+        age: total,
+    }
+}
+
+// The exact mean of n numbers of 64 bits whose sum this is, rounded down; 0 of none. A sum that fits 64 bits is divided as such, which
+// takes less time.
+#[tactic(auto, using(crate::proofs::Means::mean_fits, crate::proofs::Means::mean_of), unfolding(rules::specs::Statistics::mean))]
+fn mean(total: u128, n: usize) -> u64
+    requires { total ≤ n * largest_number }
+    ensures { result ≡ mean total n }
 {
     if n == 0 {
         return 0;
-    }
-    let mut total: u128 = 0;
-    for row in Rows::of(state, n) {
-        total += age(&row, time) as u128;
     }
     if total <= LARGEST_NUMBER as u128 {
         return total as u64 / n as u64;
@@ -63,13 +78,12 @@ fn stats_of(state: &[u8], n: usize, time: u64) -> CacheStats
     ensures { result ≡ stats time (view_rows n state.now) }
 {
     let max = memory::head::max_entries(state);
-    let expired = count_expired(state, n, time);
-    let mean = mean_age(state, n, time);
+    let totals = add_up(state, n, time);
     CacheStats {
         entries: n as u64,
         max_entries: max,
-        expired: expired,
-        avg_age_ms: mean,
+        expired: totals.expired,
+        avg_age_ms: mean(totals.age, n),
     }
 }
 

@@ -10,6 +10,7 @@ ghost use Rattle.verification.specs.Forms.{verified_call};
 use crate::insert::file_verified;
 use crate::no_place::no_place_for;
 use refusals::write::write_refusal;
+use search::keys::search;
 use state::check::check_sound;
 use types::coord::Path;
 use types::node_addr::NodeAddr;
@@ -30,10 +31,11 @@ fn verify(
 {
     write_refusal(state, path)?;
     let n = memory::head::row_count(state) as usize;
-    if no_place_for(state, n, key, path, time) {
+    let at = search(state, n, key);
+    if no_place_for(state, n, at, key, path, time) {
         return Err(Refusal::NoPlace);
     }
-    Ok(file_verified(state, n, key, path, time, mtu))
+    Ok(file_verified(state, n, at, key, path, time, mtu))
 }
 
 pub fn insert_verified_unchecked(

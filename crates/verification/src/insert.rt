@@ -17,7 +17,6 @@ use memory::codes::BY_USE;
 use memory::row::row_at;
 use memory::rows::remove_row;
 use room::victims::make_room;
-use search::keys::search;
 use types::coord::Path;
 use types::node_addr::NodeAddr;
 use types::placed::VerifiedInsert;
@@ -96,20 +95,20 @@ fn file_anew(
     }
 }
 
-// Where the key's row would go back to where it stands, it doesn't leave.
+// `at` is where the key's row stands. Where it would go back to where it stands, it doesn't leave.
 #[tactic(auto, using(room::proofs::RoomToFile::laid_out, room::proofs::RoomToFile::rises, crate::proofs::NoPlace::row_inside, rules::proofs::Others::weight_ok, room::proofs::RoomToFile::shown, crate::proofs::RowKept::room_told, crate::proofs::RowKept::kept_said, crate::proofs::RowKept::kept_left))]
 pub fn file_verified(
     state: &mut [u8],
     n: usize,
+    at: Result<usize, usize>,
     key: NodeAddr,
     path: Path,
     time: u64,
     mtu: Option<u16>,
 ) -> VerifiedInsert
-    requires { Allowed key path time n state.old }
+    requires { Allowed key path time n state.old × (at ≡ searched key (view_rows n state.old).rows) }
     ensures { Inserting (insert_verified key path time mtu (view_rows n state.old)) path result state.new }
 {
-    let at = search(state, n, key);
     match at {
         Ok(i) => {
             let weight = path.weight();

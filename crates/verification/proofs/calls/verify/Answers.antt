@@ -1,11 +1,15 @@
 -- 2 and 3 are write_refusal's and 4 is no_place_for's; where none is given the call is done, and file_verified leaves its state.
 use Rattle.rules.proofs.MemoryLaws.{all_bytes}
+use Rattle.refusals.proofs.SoundCalls.{searchable}
 use Rattle.refusals.proofs.WriteRefusals.{passed}
 use Rattle.verification.proofs.VerifiedCalls.{Underway, refused_early, insert_done}
 use Rattle.verification.proofs.calls.verify.Goals as goal
 
 pub returns-in_err-write_refusal : goal.returns-in_err-write_refusal
 returns-in_err-write_refusal c = refused_early c.args.key _ c.args.time c.args.mtu _ _ c.requires c.write_refusal.ensures (c.in_err-write_refusal.was {u = tt}) c.from_residual.ensures.1
+
+pub search-at-requires : goal.search-at-requires
+search-at-requires c = searchable _ _ c.requires c.row_count-n.ensures
 
 pub returns : goal.returns
 returns c =
