@@ -1,15 +1,14 @@
 // An entry by value, as the calls make it (the original's entry.rs).
-#![tactic(auto, unfolding(crate::specs::NewEntries::entry_from, rules::specs::Entries::new_entry, rules::specs::Entries::update, rules::specs::Entries::mark_verified, rules::specs::Entries::set_mtu, types::specs::Values::source_code))]
+#![tactic(auto, unfolding(crate::specs::NewEntries::entry_from, rules::specs::Entries::new_entry, rules::specs::Entries::update, rules::specs::Entries::mark_verified, rules::specs::Entries::set_mtu))]
 
 ghost use Rattle.std.specs.Prelude.{◌≡◌};
 ghost use Rattle.rules.specs.Entries.{new_entry, update, mark_verified, set_mtu};
 ghost use Rattle.entries.specs.NewEntries.{entry_from};
 
 use crate::times::{VERIFIED_TTL_MS, add_times};
-use memory::codes::{NO_MTU, SOME_MTU};
+use memory::codes::{HINT, NO_MTU, SOME_MTU, VERIFIED};
 use memory::row::Row;
 use types::coord::Path;
-use types::entry::CoordSource;
 
 #[derive(Clone, Copy)]
 pub struct NewEntry {
@@ -19,7 +18,7 @@ pub struct NewEntry {
     pub expires_at: u64,
     pub mtu_mark: u8,
     pub mtu: u16,
-    pub source: CoordSource,
+    pub source: u8,
     pub verified_until: u64,
 }
 
@@ -34,7 +33,7 @@ pub fn new_entry(path: Path, time: u64, ttl: u64) -> NewEntry
         expires_at: expires,
         mtu_mark: NO_MTU,
         mtu: 0,
-        source: CoordSource::Hint,
+        source: HINT,
         verified_until: 0,
     }
 }
@@ -54,7 +53,7 @@ pub fn updated_entry(row: &Row<'_>, path: Path, time: u64, ttl: u64) -> NewEntry
         expires_at: expires,
         mtu_mark: mark,
         mtu: mtu,
-        source: CoordSource::Hint,
+        source: HINT,
         verified_until: 0,
     }
 }
@@ -63,7 +62,7 @@ pub fn verified_entry(e: NewEntry, time: u64) -> NewEntry
     ensures { (entry_from result ≡ mark_verified time (entry_from e)) × (result.path ≡ e.path) }
 {
     let mut v = e;
-    v.source = CoordSource::Verified;
+    v.source = VERIFIED;
     v.verified_until = add_times(time, VERIFIED_TTL_MS);
     v
 }

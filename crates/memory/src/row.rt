@@ -3,7 +3,6 @@
 ghost use Rattle.std.specs.Prelude.{◌≡◌, ◌+◌, ◌*◌, ◌≤◌, ◌<◌, length};
 ghost use Rattle.std.proofs.lemmas.List.Edits.{sets};
 ghost use Rattle.std.specs.Iterator.{YieldsFirst, item_count};
-ghost use Rattle.types.specs.Values.{source_code};
 ghost use Rattle.rules.specs.Records.{empty_entry, with_mtu, with_source, with_times};
 ghost use Rattle.rules.specs.Rows.{row_at, change_row, with_rows};
 ghost use Rattle.rules.specs.Entries.{mark_hint, drop_mtu};
@@ -13,11 +12,10 @@ ghost use Rattle.rules.specs.Lent.{Small};
 ghost use Rattle.rules.specs.Layout.{byte_size, head_size, number_size, row_size, source_in_row};
 ghost use Rattle.memory.specs.Edits.{stamped_as, with_weight};
 
-use crate::codes::NO_MTU;
+use crate::codes::{HINT, NO_MTU};
 use raw::layout;
 use raw::layout::{HEAD, ROW};
 use std::marker::Model;
-use types::entry::CoordSource;
 
 // A row, read where it stands.
 #[derive(Drop)]
@@ -197,12 +195,12 @@ impl<'a> Iterator for Rows<'a> {
 
 // Source and verified_until of the row whose first byte is at `at`.
 #[tactic(auto, using(crate::proofs::StoreRuns::two_from, rules::proofs::MemoryLaws::length_le))]
-pub fn write_source(s: &mut [u8], at: usize, source: CoordSource, until: u64)
+pub fn write_source(s: &mut [u8], at: usize, source: u8, until: u64)
     requires { at + row_size ≤ length s.old }
-    ensures s_after { s.new ≡ sets s.old (at + source_in_row) (source_bytes (with_source (source_code source) until (empty_entry 0))) }
-    ensures small { Small byte_size (source_code source) × Small number_size until }
+    ensures s_after { s.new ≡ sets s.old (at + source_in_row) (source_bytes (with_source source until (empty_entry 0))) }
+    ensures small { Small byte_size source × Small number_size until }
 {
-    raw::numbers::write_u8(s, at + layout::SOURCE, u8::from(source));
+    raw::numbers::write_u8(s, at + layout::SOURCE, source);
     raw::numbers::write_u64(s, at + layout::VERIFIED_UNTIL, until);
 }
 
@@ -218,20 +216,20 @@ pub fn set_times(state: &mut [u8], n: usize, i: usize, used: u64, expires: u64)
 
 // The entry's source and verified_until.
 #[tactic(auto, using(crate::proofs::Fields::source_store))]
-pub fn set_source(state: &mut [u8], n: usize, i: usize, source: CoordSource, until: u64)
+pub fn set_source(state: &mut [u8], n: usize, i: usize, source: u8, until: u64)
     requires { (i < n) × (head_size + n * row_size ≤ length state.old) }
-    ensures { view_rows n state.new ≡ rewrite (with_source (source_code source) until) i (view_rows n state.old) }
+    ensures { view_rows n state.new ≡ rewrite (with_source source until) i (view_rows n state.old) }
 {
     write_source(state, HEAD + i * ROW, source, until);
 }
 
 // The entry becomes a hint.
-#[tactic(auto, unfolding(rules::specs::Entries::mark_hint, types::specs::Values::source_code))]
+#[tactic(auto, unfolding(rules::specs::Entries::mark_hint))]
 pub fn mark_hint(state: &mut [u8], n: usize, i: usize)
     requires { (i < n) × (head_size + n * row_size ≤ length state.old) }
     ensures { view_rows n state.new ≡ rewrite mark_hint i (view_rows n state.old) }
 {
-    set_source(state, n, i, CoordSource::Hint, 0);
+    set_source(state, n, i, HINT, 0);
 }
 
 // The entry's MTU, and the mark that it has one.

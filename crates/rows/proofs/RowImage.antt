@@ -6,7 +6,6 @@ use native.Mathlib.Omega.{arith}
 use lib.ListN.{length-append}
 use lib.Seq.{sets}
 use Rattle.types.specs.Paths.{as_written, path_places}
-use Rattle.types.specs.Values.{source_code}
 use Rattle.rules.specs.Records.{empty_entry, with_mtu, with_source, with_times}
 use Rattle.rules.specs.Memory.{entry_bytes, le_bytes, marks_bytes, path_bytes, row_bytes, times_bytes}
 use Rattle.rules.specs.Lent.{Small, AddrFits, PathFits}
@@ -26,7 +25,7 @@ abbrev times : NewRow → List ℕ
 times r = times_bytes (with_times r.last_used r.expires_at (empty_entry r.created_at))
 
 abbrev marks : NewRow → List ℕ
-marks r = marks_bytes (with_source (source_code r.source) r.verified_until (with_mtu r.mtu_mark r.mtu (empty_entry 0)))
+marks r = marks_bytes (with_source r.source r.verified_until (with_mtu r.mtu_mark r.mtu (empty_entry 0)))
 
 abbrev stamp : NewRow → List ℕ
 stamp r = le_bytes byte_size r.place ++ (le_bytes number_size r.stamp_first ++ (le_bytes number_size r.stamp_seq ++ le_bytes byte_size r.weight))
@@ -44,7 +43,7 @@ row_stored l at r k p h =
     ∙ ap (sets l at) (row_parts r)
 
 pub new_row_fits : (r : NewRow) → AddrFits r.key → PathFits r.path → r.path.len ≤ path_places → Small number_size r.created_at × Small number_size r.last_used × Small number_size r.expires_at
-    → Small byte_size r.mtu_mark × Small mtu_size r.mtu × Small byte_size (source_code r.source) × Small number_size r.verified_until → Small byte_size r.place × Small number_size r.stamp_first × Small number_size r.stamp_seq × Small byte_size r.weight → RowFits (row_from r)
+    → Small byte_size r.mtu_mark × Small mtu_size r.mtu × Small byte_size r.source × Small number_size r.verified_until → Small byte_size r.place × Small number_size r.stamp_first × Small number_size r.stamp_seq × Small byte_size r.weight → RowFits (row_from r)
 unfolding row_from
 new_row_fits r k p h t m s =
     record {

@@ -1,6 +1,5 @@
 -- A row by value, as a row of the state; a state with a row inserted or exchanged.
 use Rattle.std.specs.Prelude.{ℕ, suc, ◌+◌, ◌≡◌, ◌∷◌, ◌++◌, length, take, drop}
-use Rattle.types.specs.Values.{source_code}
 use Rattle.rules.specs.Records.{Row, State, whole_entry, with_held}
 use Rattle.rules.specs.Rows.{without_row, with_rows}
 use Rattle.rules.specs.Layout.{row_size}
@@ -11,7 +10,7 @@ unfoldable pub row_from : NewRow → Row
 row_from r =
     record {
       key = r.key;
-      entry = whole_entry r.path r.created_at r.last_used r.expires_at r.mtu_mark r.mtu (source_code r.source) r.verified_until;
+      entry = whole_entry r.path r.created_at r.last_used r.expires_at r.mtu_mark r.mtu r.source r.verified_until;
       place = r.place;
       stamp_first = r.stamp_first;
       stamp_seq = r.stamp_seq;

@@ -2,7 +2,6 @@
 ghost use Rattle.std.specs.Prelude.{◌≡◌, ◌++◌, ◌+◌, ◌≤◌, length};
 ghost use Rattle.std.proofs.lemmas.List.Edits.{sets};
 ghost use Rattle.types.specs.Paths.{path_places};
-ghost use Rattle.types.specs.Values.{source_code};
 ghost use Rattle.rules.specs.Records.{empty_entry, with_mtu, with_source, with_times};
 ghost use Rattle.rules.specs.Memory.{le_bytes, marks_bytes, row_bytes, times_bytes};
 ghost use Rattle.rules.specs.Lent.{Small};
@@ -13,7 +12,6 @@ ghost use Rattle.rows.specs.Insertions.{row_from};
 use crate::values;
 use raw::layout;
 use types::coord::Path;
-use types::entry::CoordSource;
 use types::node_addr::NodeAddr;
 
 #[derive(Clone, Copy)]
@@ -25,7 +23,7 @@ pub struct NewRow {
     pub expires_at: u64,
     pub mtu_mark: u8,
     pub mtu: u16,
-    pub source: CoordSource,
+    pub source: u8,
     pub verified_until: u64,
     pub place: u8,
     pub stamp_first: u64,
@@ -45,10 +43,10 @@ fn write_times(s: &mut [u8], at: usize, created: u64, used: u64, expires: u64)
 }
 
 #[tactic(auto, using(memory::proofs::StoreRuns::three_from, rules::proofs::MemoryLaws::length_le, crate::proofs::RowImage::joined))]
-fn write_marks(s: &mut [u8], at: usize, mark: u8, mtu: u16, source: CoordSource, until: u64)
+fn write_marks(s: &mut [u8], at: usize, mark: u8, mtu: u16, source: u8, until: u64)
     requires { at + row_size ≤ length s.old }
-    ensures s_after { s.new ≡ sets s.old (at + mtu_mark_in_row) (marks_bytes (with_source (source_code source) until (with_mtu mark mtu (empty_entry 0)))) }
-    ensures small { Small byte_size mark × Small mtu_size mtu × Small byte_size (source_code source) × Small number_size until }
+    ensures s_after { s.new ≡ sets s.old (at + mtu_mark_in_row) (marks_bytes (with_source source until (with_mtu mark mtu (empty_entry 0)))) }
+    ensures small { Small byte_size mark × Small mtu_size mtu × Small byte_size source × Small number_size until }
 {
     raw::numbers::write_u8(s, at + layout::MTU_MARK, mark);
     raw::numbers::write_u16(s, at + layout::MTU, mtu);

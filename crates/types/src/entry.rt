@@ -1,6 +1,6 @@
 // An entry of the cache as `remove` hands it back.
 ghost use Rattle.std.specs.Prelude.{◌≡◌};
-ghost use Rattle.types.specs.Values.{source_code, source_of};
+ghost use Rattle.types.specs.Values.{source_of};
 
 use crate::coord::Path;
 
@@ -33,15 +33,5 @@ impl From<u8> for CoordSource {
             0 => CoordSource::Verified,
             _ => CoordSource::Hint,
         }
-    }
-}
-
-// The number of a kind, as a row has it.
-impl From<CoordSource> for u8 {
-    ghost from_gives = { λ source code. code ≡ source_code source };
-
-    #[tactic(auto, unfolding(crate::specs::Values::source_code))]
-    fn from(source: CoordSource) -> u8 {
-        source as u8
     }
 }

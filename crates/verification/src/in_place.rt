@@ -17,20 +17,19 @@ ghost use Rattle.verification.specs.Mtu.{given_mtu};
 
 use entries::times::{VERIFIED_TTL_MS, add_times};
 use filing::refile::update_in_place;
-use memory::codes::{PROBATION, SOME_MTU};
+use memory::codes::{PROBATION, SOME_MTU, VERIFIED};
 use memory::{head, row};
 use room::closed_form::{cut_to_bound, has_room, main_len};
 use types::coord::Path;
-use types::entry::CoordSource;
 
 // Row i's entry becomes Verified.
-#[tactic(auto, using(crate::proofs::Marks::verified_source_lem), unfolding(types::specs::Values::source_code))]
+#[tactic(auto, using(crate::proofs::Marks::verified_source_lem))]
 fn mark_verified(state: &mut [u8], n: usize, i: usize, time: u64)
     requires { (i < n) × (head_size + n * row_size ≤ length state.old) }
     ensures { view_rows n state.new ≡ rewrite (mark_verified time) i (view_rows n state.old) }
 {
     let until = add_times(time, VERIFIED_TTL_MS);
-    row::set_source(state, n, i, CoordSource::Verified, until);
+    row::set_source(state, n, i, VERIFIED, until);
 }
 
 // Row i's entry gets the MTU, if one is given.
