@@ -1,8 +1,8 @@
 -- The exact mean of ages, and the smallest expiry, as loops make them.
-use mathlib.Core.Path.{◌≡◌, refl, ap, ◌∙◌}
-use Prim.Native.Nat.{ℕ, zero, suc, ◌*◌, ◌-◌, ◌/◌, ◌≤◌, ◌<◌, min}
+use mathlib.Core.Path.{◌≡◌, refl, sym, ap, ◌∙◌}
+use Prim.Native.Nat.{ℕ, zero, suc, ◌+◌, ◌*◌, ◌-◌, ◌/◌, ◌%◌, ◌≤◌, ◌<◌, min}
 use native.Mathlib.Omega.{arith}
-use native.Mathlib.Nat.{div-le_of_le-mul}
+use native.Mathlib.Nat.{mul_comm, mul_assoc, div-add-mod', mul-add-div_right, div-le_of_le-mul}
 use mathlib.Core.List.{List, [], ◌∷◌, map}
 use Rattle.std.proofs.Common.{Some, None}
 use Rattle.std.specs.List.{fold, reduce}
@@ -24,6 +24,23 @@ pub mean_of : (t n : ℕ) → 0 < n → t / n ≡ mean t n
 unfolding mean
 mean_of t zero k = absurd (let z : ⊥ = omega arith in z)
 mean_of t (suc n) k = refl
+
+-- 2^32
+abbrev half : ℕ
+half = 4294967296
+
+-- a number as a multiple of the count and what is over
+over : (n q r : ℕ) → q * half + r ≡ q / n * half * n + (q % n * half + r)
+over n q r =
+    let d = div-add-mod' q n in
+    let s : q / n * half * n ≡ q / n * n * half = mul_assoc (q / n) half n ∙ ap (λ (x : ℕ). q / n * x) (mul_comm half n) ∙ sym (mul_assoc (q / n) n half) in
+    omega (arith, d, s)
+
+-- divided by its high part and its low half
+pub by_halves : (t n : ℕ) → 0 < n → t / n ≡ t / half / n * half + (t / half % n * half + t % half) / n
+by_halves t n h =
+    let e : t ≡ t / half / n * half * n + (t / half % n * half + t % half) = omega (arith, over n (t / half) (t % half)) in
+    ap (λ (x : ℕ). x / n) e ∙ mul-add-div_right h (t / half / n * half) (t / half % n * half + t % half)
 
 -- ---- the smallest expiry
 

@@ -55,20 +55,28 @@ fn add_up(state: &[u8], n: usize, time: u64) -> Totals
     }
 }
 
-// The exact mean of n numbers of 64 bits whose sum this is, rounded down; 0 of none. A sum that fits 64 bits is divided as such, which
-// takes less time.
+// Two to the 32nd.
+const HALF: u64 = 0x1_0000_0000;
+
+// The exact mean of n numbers of 64 bits whose sum this is, rounded down; 0 of none. A sum past 2^64 is divided by its high part and
+// its low half: a division of 128 bits would be a function that the library asks of its surroundings.
 #[tactic(auto, using(crate::proofs::Means::mean_fits, crate::proofs::Means::mean_of), unfolding(rules::specs::Statistics::mean))]
 fn mean(total: u128, n: usize) -> u64
-    requires { total ≤ n * largest_number }
+    requires few { n ≤ max_rows }
+    requires fits { total ≤ n * largest_number }
     ensures { result ≡ mean total n }
 {
     if n == 0 {
         return 0;
     }
+    let count = n as u64;
     if total <= LARGEST_NUMBER as u128 {
-        return total as u64 / n as u64;
+        return total as u64 / count;
     }
-    (total / n as u128) as u64
+    let high = (total / HALF as u128) as u64;
+    let low = (total % HALF as u128) as u64;
+    let rest = high % count * HALF + low;
+    high / count * HALF + rest / count
 }
 
 // Statistics of n rows.
