@@ -90,7 +90,7 @@ def find(root):
         for m in re.finditer(r'^( *)while (.*) \{$', text, re.M):
             places['3 loop'].append(f'{path}:{text[:m.start()].count(chr(10)) + 1} while {m[2]}')
         # 4: comparison, conversion, printing, the lesser of two
-        for m in re.finditer(r'^ *(?:pub(?:\(crate\))? )?fn (same_as|from_code|code|lesser|larger|one_more|up_one|same|zeros|order_to|address_before|coord_entry_at|hex_digit|digit|stop_code|word|number|last|is_full|is_six)\(|^impl (?:\w+) \{\n(?:.*\n)*?    pub fn reply\(', text, re.M):
+        for m in re.finditer(r'^ *(?:pub(?:\(crate\))? )?fn (same_as|from_code|code|lesser|larger|one_more|up_one|same|zeros|order_to|address_before|key_rises|coord_entry_at|hex_digit|digit|stop_code|word|number|last|is_full|is_six)\(|^impl (?:\w+) \{\n(?:.*\n)*?    pub fn reply\(', text, re.M):
             places['4 by hand'].append(f'{path}:{text[:m.start()].count(chr(10)) + 1} {m[1] or "reply"}')
         # 6: an array with a length beside, bytes at an offset
         for where, line, name, fields in structs(path, text):

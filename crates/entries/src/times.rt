@@ -6,10 +6,6 @@ ghost use Rattle.rules.specs.Entries.{expired, add_times, verified};
 
 use memory::codes::VERIFIED;
 use memory::row::Row;
-use types::reply::LARGEST_NUMBER;
-
-// Where sums of times stop.
-const LAST_TIME: u64 = LARGEST_NUMBER;
 
 // How long a verified entry outranks a hint, in milliseconds.
 pub const VERIFIED_TTL_MS: u64 = 300000;
@@ -21,11 +17,11 @@ pub fn is_expired(row: &Row<'_>, time: u64) -> bool
     row.expires_at() < time
 }
 
-// A sum of times.
+// A sum of times, which stops at 2^64 − 1.
 pub fn add_times(a: u64, b: u64) -> u64
     ensures { result ≡ add_times a b }
 {
-    if LAST_TIME - a < b { LAST_TIME } else { a + b }
+    a.saturating_add(b)
 }
 
 // Source Verified, and now ≤ verified_until.

@@ -12,6 +12,5 @@ const PROBATION_DIVISOR: u64 = 32;
 pub fn probation_bound(max: u64) -> u64
     ensures { result ≡ probation_bound max }
 {
-    let q = max / PROBATION_DIVISOR;
-    if q < 1 { 1 } else { q }
+    (max / PROBATION_DIVISOR).max(1)
 }

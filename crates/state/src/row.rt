@@ -18,7 +18,7 @@ const LEAST: u8 = ADDRS_PER_ENTRY as u8;
 fn path_weight(len: u8) -> u8
     ensures { result ≡ max addrs_per_entry len }
 {
-    if len < LEAST { LEAST } else { len }
+    len.max(LEAST)
 }
 
 // One expression with no branch, in the order of the rules; seq is the head's.

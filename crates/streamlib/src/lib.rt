@@ -6,7 +6,6 @@ use entries::addr::load_coord_entry;
 use raw::layout::{BYTE, ELEMENT, PATH};
 use std::array;
 use stream::run::Ran;
-use stream::stop::Stop;
 use types::coord::{PLACES, Path};
 use types::reply::Tally;
 use types::sender::Sender;
@@ -36,20 +35,11 @@ fn store(pending: &mut [u8], sender: Sender) {
     }
 }
 
-fn stop_code(stop: Stop) -> u64 {
-    match stop {
-        Stop::End => 0,
-        Stop::Cut => 1,
-        Stop::Full => 2,
-        Stop::Six => 3,
-    }
-}
-
 fn told(ran: Ran) -> [u64; REPORT] {
     [
         ran.used as u64,
         ran.written as u64,
-        stop_code(ran.stop),
+        ran.stop as u64,
         ran.tally.done,
         ran.tally.refused,
     ]
