@@ -5,9 +5,6 @@ use Rattle.rules.specs.Rows.{at_place}
 use Rattle.retention.specs.Sweep.{kept_rows}
 use Rattle.room.proofs.victims.drop_aside.Goals as goal
 
-pub retain_rows-requires : goal.retain_rows-requires
-retain_rows-requires c = record { rows = c.requires; callable = λ y f. search rules }
-
 pub returns : goal.returns
 unfolding kept_rows at_place
 returns c =

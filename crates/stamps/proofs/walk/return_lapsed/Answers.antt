@@ -6,11 +6,6 @@ use Rattle.rules.proofs.Loops.{waking}
 use Rattle.stamps.proofs.WalkLaws.{Found, Turned, found_row, lapsed_turn, lapsed_rests, lapsed_ends}
 use Rattle.stamps.proofs.walk.return_lapsed.Goals as goal
 
-pub loop-parked-init : goal.loop-parked-init
-loop-parked-init c =
-    let s = c.requires in
-    (record { long = refl; size = s.0; same = refl; keys = omega (arith, s.1); stamps = s.1 }, s.2.parked, s.2.by_use)
-
 pub returns-in-None : goal.returns-in-None
 returns-in-None c =
     let v = c.loop-parked.invariant in record { walked = lapsed_ends v.0 (sym v.1 ∙ c.in-None.is); next = v.2 }

@@ -10,13 +10,10 @@ use Rattle.rules.specs.Rows.{row_at}
 use Rattle.rules.specs.Sound.{leads, row_sound}
 use Rattle.rules.specs.Memory.{view_rows}
 use Rattle.rules.proofs.Foreign.{view_length}
-use Rattle.state.proofs.PassLaws.{passing_start, passing_turn, row_stops, key_stops}
+use Rattle.state.proofs.PassLaws.{passing_turn, row_stops, key_stops}
 use Rattle.state.proofs.KeyLaws.{leads_next, leads_none}
 use Rattle.state.proofs.pass.rows_are_sound.Goals.{else-j-n-via-then-j-n+else-not-key_rises, else-j-n-via-else-j-n}
 use Rattle.state.proofs.pass.rows_are_sound.Goals as goal
-
-pub loop-i-init : goal.loop-i-init
-loop-i-init c = passing_start _ _
 
 pub returns-then-not-row_is_sound : goal.returns-then-not-row_is_sound
 returns-then-not-row_is_sound c =
