@@ -11,8 +11,10 @@ ghost use Rattle.rules.specs.Layout.{memory_size};
 
 use calls::{CALLS, Call, FRESH_2, FRESH_3, Said};
 use memory::bounds::MAX_ROWS;
+use output::Output;
 use raw::layout::{HEAD, ROW};
 use states::{Kind, SPOILT, make, spoil, zeroed};
+use std::fmt::Write;
 
 // The bytes of a memory of 3 rows, with some behind the last row.
 const SIZE: usize = 4096;
@@ -28,14 +30,14 @@ fn sum(bytes: &[u8]) -> u32 {
 }
 
 // What the calls, and fresh, answer on a state, and a sum over the memory that each leaves.
-fn answers(rt: &impl Print, kind: Kind) {
+fn answers(kind: Kind) {
     let number = kind as u8;
     for (nth, call) in CALLS.into_iter().chain([FRESH_2]).enumerate() {
         let mut memory = zeroed::<SIZE>();
         make(&mut memory, kind);
         let Said { refusal, value } = call.ask(&mut memory);
         let sum = sum(&memory);
-        let _ = println!(rt; "{number} {nth} {refusal} {value} {sum}");
+        let _ = writeln!(Output, "{number} {nth} {refusal} {value} {sum}");
     }
 }
 
@@ -62,7 +64,7 @@ fn renews(memory: &mut [u8]) -> bool {
 }
 
 // How many calls refuse each unsound state; whether fresh makes it sound, and a sum over the memory then.
-fn bad_states(rt: &impl Print) {
+fn bad_states() {
     let number = Kind::Bad as u8;
     for (nth, changes) in SPOILT.into_iter().enumerate() {
         let mut memory = zeroed::<SIZE>();
@@ -72,7 +74,7 @@ fn bad_states(rt: &impl Print) {
         let refused = refusals(&mut memory, &before);
         let renewed = renews(&mut memory) as u8;
         let sum = sum(&memory);
-        let _ = println!(rt; "{number} {nth} {refused} {renewed} {sum}");
+        let _ = writeln!(Output, "{number} {nth} {refused} {renewed} {sum}");
     }
 }
 
@@ -84,7 +86,7 @@ fn length_refusals(memory: &mut [u8], before: &[u8]) -> u64
 }
 
 // How many calls were refused, over all lengths up to that of 3 rows.
-fn short_lengths(rt: &impl Print) {
+fn short_lengths() {
     let number = Kind::Short as u8;
     let mut memory = zeroed::<SIZE>();
     make(&mut memory, Kind::Short);
@@ -93,7 +95,7 @@ fn short_lengths(rt: &impl Print) {
     for length in 0..LAST + 1 {
         count += length_refusals(&mut memory[..length], &before[..length]);
     }
-    let _ = println!(rt; "{number} {count}");
+    let _ = writeln!(Output, "{number} {count}");
 }
 
 // A row more than there may be.
@@ -106,21 +108,21 @@ fn long_memory() -> [u8; LONG]
 }
 
 // A fresh head for 2 entries and no rows: only that R is over MAX_ROWS is wrong.
-fn long_length(rt: &impl Print) {
+fn long_length() {
     let number = Kind::Long as u8;
     let mut memory = long_memory();
     make(&mut memory, Kind::Long);
     let before = memory;
     let count = length_refusals(&mut memory, &before);
-    let _ = println!(rt; "{number} {count}");
+    let _ = writeln!(Output, "{number} {count}");
 }
 
 // What cannot be written is dropped.
-fn main(rt: HostRuntime) {
-    answers(&rt, Kind::Fresh);
-    answers(&rt, Kind::Full);
-    answers(&rt, Kind::Foreign);
-    bad_states(&rt);
-    short_lengths(&rt);
-    long_length(&rt);
+fn main() {
+    answers(Kind::Fresh);
+    answers(Kind::Full);
+    answers(Kind::Foreign);
+    bad_states();
+    short_lengths();
+    long_length();
 }

@@ -1,4 +1,5 @@
 pub mod Operands
+pub mod UnknownCodes
 pub mod FundingKind
 pub mod TypedCommands
 pub mod CommandLaws

@@ -27,6 +27,16 @@ pub unknown_none : (cs : List Code) (b : ℕ) (bs : List ℕ) → code_of b cs �
 unfolding decode_in
 unknown_none cs b bs e = rw e
 
+-- cut, or what the operands say is no command
+module _ (cs : List Code) (b : ℕ) (bs : List ℕ) (c : Code) (k : code_of b cs ≡ Some c) where
+  pub cut_none : length bs < c.width → decode_in cs b bs ≡ None
+  unfolding decode_in
+  cut_none h = rw (k, lt-leb c.width (length bs) h)
+
+  pub bad_none : c.width ≤ length bs → reads c (take c.width bs) ≡ None → decode_in cs b bs ≡ None
+  unfolding decode_in
+  bad_none h e = rw (k, le-leb c.width (length bs) h, e)
+
 -- an element is read of its own bytes
 pub element_in : (o : List ℕ) → coord_entry_of (cut 0 coord_entry_size o) ≡ coord_entry_of o
 unfolding coord_entry_of

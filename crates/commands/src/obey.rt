@@ -41,6 +41,8 @@ pub(crate) fn write(state: &mut [u8], path: Path, write: Write) -> Reply
     }
 }
 
+// A call that takes none. It is not laid into its caller, which the compiler then sees through: a copy less of what the sender has.
+#[inline(never)]
 #[tactic(auto, using(lookups::proofs::PartReply::got_reply), unfolding(crate::specs::Reading::call_named))]
 pub(crate) fn obey(state: &mut [u8], call: Call) -> Reply
     requires { sound (capacity state.old) (view state.old) ≡ true }

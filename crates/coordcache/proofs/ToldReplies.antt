@@ -22,7 +22,7 @@ module _ {r : Reply} {n : ℕ} {vs : List ℕ} (a : n ≡ r.refusal) (b : vs ≡
   pub handed : ◌≡◌ {A = Reply} (record { refusal = n; values = vs }) r
   handed = let w : ◌≡◌ {A = Reply} (record { refusal = n; values = vs }) (record { refusal = r.refusal; values = r.values }) = rw (a, b) in w
 
-  told : (t : Lent) {m : List ℕ} → r ≡ reply t.answer → m ≡ t.memory → Told t n vs m
+  pub told : (t : Lent) {m : List ℕ} → r ≡ reply t.answer → m ≡ t.memory → Told t n vs m
   told t e d = record { says = handed ∙ e; leaves = d }
 
   -- the call q was made, and q is the call q' that the operands name

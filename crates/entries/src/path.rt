@@ -13,6 +13,25 @@ use std::ops::Range;
 use types::coord::{CoordEntry, PLACES, Path};
 use types::node_addr::NodeAddr;
 
+// Where a stored path stands in the memory: its first byte, and the one behind its last. A Range can't be copied.
+#[derive(Clone, Copy)]
+pub struct PathPlace {
+    pub start: usize,
+    pub end: usize,
+}
+
+impl PathPlace {
+    // Where no path is.
+    pub const NOWHERE: PathPlace = PathPlace { start: 0, end: 0 };
+
+    // The memory is indexed by it.
+    pub fn range(self) -> Range<usize>
+        ensures { (result.start ≡ self.start) × (result.end ≡ self.end) }
+    {
+        self.start..self.end
+    }
+}
+
 // Whether the row's path and this one are the same, element by element, where it stands.
 #[tactic(auto, using(crate::proofs::PathElements::elements_count, crate::proofs::PathElements::path_turn, types::proofs::PathLaws::entries_end, types::proofs::PathLaws::lengths_differ), unfolding(types::specs::Paths::same_path))]
 pub fn path_is(row: &Row<'_>, path: &Path) -> bool
@@ -60,14 +79,17 @@ pub fn root_is(row: &Row<'_>, a: NodeAddr) -> bool
 }
 
 // Where the elements of row i of n stand, up to the length.
-pub fn path_place(state: &[u8], n: usize, i: usize) -> Range<usize>
+pub fn path_place(state: &[u8], n: usize, i: usize) -> PathPlace
     requires { (i < n) × (head_size + n * row_size ≤ length state.now) }
     ensures starts { result.start ≡ head_size + i * row_size + (entry_offset + places_offset) }
     ensures ends { result.end ≡ result.start + (row_at i (view_rows n state.now).rows).entry.path.len * coord_entry_size }
 {
     let len = row_at(state, n, i).path_len() as usize;
     let start = HEAD + i * ROW + PATH_PLACES;
-    start..start + len * ELEMENT
+    PathPlace {
+        start,
+        end: start + len * ELEMENT,
+    }
 }
 
 // All places and the length.

@@ -20,7 +20,7 @@ const SHORT: usize = HEAD + FEW as usize * ROW;
 const LONG: usize = HEAD + MAX_ROWS as usize * ROW;
 
 // Only the last line is printed.
-fn make(rt: &impl Print, memory: &mut [u8], calls: Calls) {
+fn make(memory: &mut [u8], calls: Calls) {
     let Calls {
         list,
         call,
@@ -31,7 +31,7 @@ fn make(rt: &impl Print, memory: &mut [u8], calls: Calls) {
         call.on(memory, key);
     }
     let reply = call.on(memory, first.max(last));
-    print::reply(rt, memory, list, reply);
+    print::reply(memory, list, reply);
 }
 
 // The low byte of row 0's stamp, seq.
@@ -41,16 +41,16 @@ fn stamp(memory: &mut [u8], seq: u64) {
     }
 }
 
-fn take(rt: &impl Print, memory: &mut [u8], step: Step) {
+fn take(memory: &mut [u8], step: Step) {
     match step {
-        Step::PrintRow => print::row(rt, memory),
+        Step::PrintRow => print::row(memory),
         Step::Stamp(seq) => stamp(memory, seq),
-        Step::Calls(calls) => make(rt, memory, calls),
+        Step::Calls(calls) => make(memory, calls),
     }
 }
 
 // The lists, on a memory of so many rows.
-fn run(rt: &impl Print, text: &[u8], memory: &mut [u8], rows: u64)
+fn run(text: &[u8], memory: &mut [u8], rows: u64)
     requires { memory_size rows ≡ length memory.old }
 {
     let mut only = None;
@@ -60,7 +60,7 @@ fn run(rt: &impl Print, text: &[u8], memory: &mut [u8], rows: u64)
     for line in lines {
         match Line::parse(line) {
             Some(Line::Only(for_rows)) => only = for_rows,
-            Some(Line::Step(step)) if only.unwrap_or(rows) == rows => take(rt, memory, step),
+            Some(Line::Step(step)) if only.unwrap_or(rows) == rows => take(memory, step),
             _ => {}
         }
     }
@@ -74,12 +74,12 @@ fn zeroed<const N: usize>() -> [u8; N]
 }
 
 // What cannot be read is the end of the text, and what cannot be written is dropped.
-fn main(rt: HostRuntime) {
+fn main() {
     let mut space = io::large_buffer();
     let n = io::read_full(0, &mut space);
     let text = &space[..n];
     let mut few = zeroed::<SHORT>();
     let mut most = zeroed::<LONG>();
-    run(&rt, text, &mut few, FEW);
-    run(&rt, text, &mut most, MAX_ROWS);
+    run(text, &mut few, FEW);
+    run(text, &mut most, MAX_ROWS);
 }

@@ -24,7 +24,7 @@ use Rattle.rules.proofs.Public.{sound_memory}
 use Rattle.rules.proofs.GotPart.{RefreshedRow, refreshed_row, find_gone}
 use Rattle.rules.specs.Layout.{coord_entry_size}
 use Rattle.rules.proofs.Foreign.{view_length}
-use Rattle.std.specs.declared.ops.Range.{Range}
+use Rattle.entries.specs.declared.path.PathPlace.{PathPlace}
 use Rattle.refusals.proofs.SearchedKeys.{Found, inside}
 use Rattle.lookups.specs.Steps.{path_start, touched_at, touch_says, touched_place, StandsAt}
 use Rattle.lookups.proofs.FoundRows.{absent_stands, path_stands, touch_sound}
@@ -33,19 +33,19 @@ use Rattle.lookups.proofs.TouchedRows.{touched_at_lem, touched_absent}
 -- ---- row i
 
 -- the path's place in row i
-abbrev standing : ℕ → State → Range ℕ
+abbrev standing : ℕ → State → PathPlace
 standing i s = record { start = path_start i; end = path_start i + (row_at i s.rows).entry.path.len * coord_entry_size }
 
-abbrev nowhere : Range ℕ
+abbrev nowhere : PathPlace
 nowhere = record { start = 0; end = 0 }
 
 module _ (i time : ℕ) (s : State) {a : Option ℕ} (e : a ≡ touch_says i time s) where
-  pub placed : (p : Range ℕ) {n : ℕ} → a ≡ Some n → p.start ≡ path_start i → p.end ≡ p.start + (row_at i s.rows).entry.path.len * coord_entry_size
+  pub placed : (p : PathPlace) {n : ℕ} → a ≡ Some n → p.start ≡ path_start i → p.end ≡ p.start + (row_at i s.rows).entry.path.len * coord_entry_size
       → p ≡ touched_place i time s
   unfolding touch_says touched_place
   placed p {n} f x y = go (expired time (row_at i s.rows).entry) (sym f ∙ e)
     where
-      g : ◌≡◌ {A = Range ℕ} (record { start = p.start; end = p.end }) (standing i s)
+      g : ◌≡◌ {A = PathPlace} (record { start = p.start; end = p.end }) (standing i s)
       g = rw (y, x)
 
       go : (b : Bool) → Some n ≡ cond b None (Some (row_at i s.rows).entry.path.len) → p ≡ cond b nowhere (standing i s)
@@ -63,7 +63,7 @@ module _ (i time : ℕ) (s : State) {a : Option ℕ} (e : a ≡ touch_says i tim
 -- ---- the call
 
 -- what touch_place tells
-abbrev pub Placed : List ℕ → NodeAddr → ℕ → Range ℕ → List ℕ → Type 0
+abbrev pub Placed : List ℕ → NodeAddr → ℕ → PathPlace → List ℕ → Type 0
 Placed l k time r m = StandsAt k time m r.start r.end × (m ≡ (call l (GetAndTouch k time)).memory)
 
 refreshed_count : (n : ℕ) (l m : List ℕ) (i time : ℕ) → view_rows n m ≡ rewrite (refresh time (view_rows n l).default_ttl) i (view_rows n l) → (view_rows 0 m).row_count ≡ (view_rows n l).row_count
@@ -79,7 +79,7 @@ unfolding view_rows take_out with_only_rows
 out_count j i s m e v = e ∙ sym (ap (λ (x : State). x.row_count) v)
 
 module _ {k : NodeAddr} {n : ℕ} {l : List ℕ} (time : ℕ) where
-  module _ {i : ℕ} (f : Found k n (Some i) l) (r : Range ℕ) (m : List ℕ) where
+  module _ {i : ℕ} (f : Found k n (Some i) l) (r : PathPlace) (m : List ℕ) where
     -- a row that stays: its path stands where it stood
     kept_stands : time ≤ last_time → sound (capacity m) (view m) ≡ true → view_rows n m ≡ rewrite (refresh time (view_rows n l).default_ttl) i (view_rows n l)
         → r ≡ standing i (view_rows n l) → StandsAt k time m r.start r.end
@@ -89,8 +89,8 @@ module _ {k : NodeAddr} {n : ℕ} {l : List ℕ} (time : ℕ) where
         let c : n ≡ (view_rows 0 m).row_count = sym (refreshed_count n l m i time v ∙ f.memory.sound.counted ∙ f.memory.rows) in
         let g : Found k n (Some i) m = record { sound = h; memory = sound_memory m n h c; row = d.held } in
         let y = e ∙ ap (λ (p : Path). record { start = path_start i; end = path_start i + p.len * coord_entry_size }) (sym d.path) in
-        let a = ap (λ (p : Range ℕ). p.start) y in
-        path_stands time g d.unexpired a (ap (λ (p : Range ℕ). p.end) y ∙ rw a)
+        let a = ap (λ (p : PathPlace). p.start) y in
+        path_stands time g d.unexpired a (ap (λ (p : PathPlace). p.end) y ∙ rw a)
 
     -- a row that leaves: its key has none
     out_stands : (j : ℕ) → sound (capacity m) (view m) ≡ true → j ≡ length (take_out i (view_rows n l)).rows → view_rows j m ≡ take_out i (view_rows n l) → r ≡ nowhere

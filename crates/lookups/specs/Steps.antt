@@ -1,6 +1,6 @@
 -- Parts of the calls' rules, by row.
 use Rattle.std.specs.Prelude.{ℕ, Option, None, Some, ◌+◌, ◌-◌, ◌*◌, ◌≤◌, ◌≡◌, List, cond, length}
-use Rattle.std.specs.declared.ops.Range.{Range}
+use Rattle.entries.specs.declared.path.PathPlace.{PathPlace}
 use Rattle.types.specs.declared.node_addr.NodeAddr.{NodeAddr}
 use Rattle.rules.specs.Cases.{maybe}
 use Rattle.rules.specs.Records.{State}
@@ -35,7 +35,7 @@ pub record StandsAt (k : NodeAddr) (now : ℕ) (l : List ℕ) (start end : ℕ) 
   pub own : start ≡ place_found k now l
 
 -- where the path of row i stands after it; nowhere where the row leaves
-unfoldable pub touched_place : ℕ → ℕ → State → Range ℕ
+unfoldable pub touched_place : ℕ → ℕ → State → PathPlace
 touched_place i now s =
     cond (expired now (row_at i s.rows).entry)
     (record { start = 0; end = 0 })

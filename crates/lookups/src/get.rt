@@ -7,13 +7,13 @@ ghost use Rattle.rules.specs.Memory.{capacity, view};
 ghost use Rattle.rules.specs.Lent.{call, got_part};
 ghost use Rattle.lookups.specs.Steps.{StandsAt};
 
+use entries::path::PathPlace;
 use memory::row::row_at;
 use state::check::check_sound;
-use std::ops::Range;
 use types::node_addr::NodeAddr;
 
 // Where the path that get hands back stands in the memory; no bytes where nothing is found.
-pub fn get_place(state: &[u8], key: NodeAddr, time: u64) -> Range<usize>
+pub fn get_place(state: &[u8], key: NodeAddr, time: u64) -> PathPlace
     requires { sound (capacity state.now) (view state.now) ≡ true }
     ensures { StandsAt key time state.now result.start result.end × (state.now ≡ (call state.now (Get key time)).memory) }
 {
@@ -22,11 +22,11 @@ pub fn get_place(state: &[u8], key: NodeAddr, time: u64) -> Range<usize>
     match at {
         Ok(i) => {
             if entries::times::is_expired(&row_at(state, n, i), time) {
-                return 0..0;
+                return PathPlace::NOWHERE;
             }
             entries::path::path_place(state, n, i)
         }
-        Err(_) => 0..0,
+        Err(_) => PathPlace::NOWHERE,
     }
 }
 
@@ -36,7 +36,7 @@ pub fn get_unchecked<'a>(state: &'a [u8], key: NodeAddr, time: u64) -> &'a [u8]
     ensures left { state.now ≡ (call state.now (Get key time)).memory }
 {
     let place = get_place(state, key, time);
-    &state[place]
+    &state[place.range()]
 }
 
 // The number lent beside the state is the refusal, 0 if done.

@@ -12,9 +12,9 @@ ghost use Rattle.rules.specs.Lent.{call, got_part};
 ghost use Rattle.rules.specs.Layout.{head_size, row_size};
 ghost use Rattle.lookups.specs.Steps.{touched_at, touch_says, touched_place, StandsAt};
 
+use entries::path::PathPlace;
 use memory::row::row_at;
 use state::check::check_sound;
-use std::ops::Range;
 use types::node_addr::NodeAddr;
 use types::refusal::Refusal;
 
@@ -71,7 +71,7 @@ pub fn touch(state: &mut [u8], key: NodeAddr, time: u64) -> Result<Option<u64>, 
 
 // Row i is touched; where its path then stands.
 #[tactic(auto, using(crate::proofs::PathPlaces::unplaced))]
-fn touch_row(state: &mut [u8], n: usize, i: usize, time: u64) -> Range<usize>
+fn touch_row(state: &mut [u8], n: usize, i: usize, time: u64) -> PathPlace
     requires { (i < n) × (head_size + n * row_size ≤ length state.old) × ((view_rows n state.old).stored_weight ≡ main_weight (view_rows n state.old)) }
     ensures place { result ≡ touched_place i time (view_rows n state.old) }
     ensures left { view_rows (length (touched_at i time (view_rows n state.old)).rows) state.new ≡ touched_at i time (view_rows n state.old) }
@@ -79,12 +79,12 @@ fn touch_row(state: &mut [u8], n: usize, i: usize, time: u64) -> Range<usize>
     let place = entries::path::path_place(state, n, i);
     match touch_at(state, n, i, time) {
         Some(_) => place,
-        None => 0..0,
+        None => PathPlace::NOWHERE,
     }
 }
 
 // What touch does, and where the path that get_and_touch hands back stands in the memory after it.
-pub fn touch_place(state: &mut [u8], key: NodeAddr, time: u64) -> Range<usize>
+pub fn touch_place(state: &mut [u8], key: NodeAddr, time: u64) -> PathPlace
     requires { sound (capacity state.old) (view state.old) ≡ true }
     ensures { StandsAt key time state.new result.start result.end × (state.new ≡ (call state.old (GetAndTouch key time)).memory) }
 {
@@ -92,7 +92,7 @@ pub fn touch_place(state: &mut [u8], key: NodeAddr, time: u64) -> Range<usize>
     let at = search::keys::search(state, n, key);
     match at {
         Ok(i) => touch_row(state, n, i, time),
-        Err(_) => 0..0,
+        Err(_) => PathPlace::NOWHERE,
     }
 }
 
@@ -104,7 +104,7 @@ pub fn get_and_touch_unchecked<'a>(state: &'a mut [u8], key: NodeAddr, time: u64
 {
     let place = touch_place(state, key, time);
     let after = &state[..];
-    &after[place]
+    &after[place.range()]
 }
 
 #[tactic(auto, using(crate::proofs::UnsoundLookups::told))]

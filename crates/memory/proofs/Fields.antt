@@ -105,6 +105,47 @@ module _ (c : List ℕ) where
   unfolding row_of
   weight_is = refl
 
+-- w bytes at o of row i of a memory, as a number
+abbrev number_in : List ℕ → ℕ → ℕ → ℕ → ℕ
+number_in l i o w = le_number (cut (head_size + i * row_size + o) w l)
+
+-- every number of row i, where it is read of the memory
+pub record Numbers (l : List ℕ) (i : ℕ) (r : Row) : Type 0 where
+  pub path_length : number_in l i entry_offset byte_size ≡ r.entry.path.len
+  pub created_at : number_in l i created_at_in_row number_size ≡ r.entry.created_at
+  pub last_used : number_in l i last_used_in_row number_size ≡ r.entry.last_used
+  pub expires_at : number_in l i expires_at_in_row number_size ≡ r.entry.expires_at
+  pub mtu_mark : number_in l i mtu_mark_in_row byte_size ≡ r.entry.mtu_mark
+  pub mtu : number_in l i mtu_in_row mtu_size ≡ r.entry.mtu
+  pub source : number_in l i source_in_row byte_size ≡ r.entry.source
+  pub verified_until : number_in l i verified_until_in_row number_size ≡ r.entry.verified_until
+  pub place : number_in l i place_offset byte_size ≡ r.place
+  pub stamp_first : number_in l i stamp_first_offset number_size ≡ r.stamp_first
+  pub stamp_seq : number_in l i stamp_seq_offset number_size ≡ r.stamp_seq
+  pub weight : number_in l i weight_offset byte_size ≡ r.weight
+
+module _ (l : List ℕ) (n i : ℕ) (h : i < n) where
+  in_memory : (get : Row → ℕ) (o w : ℕ) → ((c : List ℕ) → number_at c o w ≡ get (row_of c)) → o + w ≤ row_size → number_in l i o w ≡ get (row_at i (view_rows n l).rows)
+  in_memory get o w law k =
+      ap le_number (sym (cut_cut (head_size + i * row_size) row_size o w l k)) ∙ law (cut (head_size + i * row_size) row_size l) ∙ ap get (sym (row_at_lem n i l h))
+
+  pub field_read : Numbers l i (row_at i (view_rows n l).rows)
+  field_read =
+      record {
+        path_length = in_memory (λ r. r.entry.path.len) entry_offset byte_size path_len_is (omega arith);
+        created_at = in_memory (λ r. r.entry.created_at) created_at_in_row number_size created_at_is (omega arith);
+        last_used = in_memory (λ r. r.entry.last_used) last_used_in_row number_size last_used_is (omega arith);
+        expires_at = in_memory (λ r. r.entry.expires_at) expires_at_in_row number_size expires_at_is (omega arith);
+        mtu_mark = in_memory (λ r. r.entry.mtu_mark) mtu_mark_in_row byte_size mtu_mark_is (omega arith);
+        mtu = in_memory (λ r. r.entry.mtu) mtu_in_row mtu_size mtu_is (omega arith);
+        source = in_memory (λ r. r.entry.source) source_in_row byte_size source_is (omega arith);
+        verified_until = in_memory (λ r. r.entry.verified_until) verified_until_in_row number_size verified_until_is (omega arith);
+        place = in_memory (λ r. r.place) place_offset byte_size place_is (omega arith);
+        stamp_first = in_memory (λ r. r.stamp_first) stamp_first_offset number_size stamp_first_is (omega arith);
+        stamp_seq = in_memory (λ r. r.stamp_seq) stamp_seq_offset number_size stamp_seq_is (omega arith);
+        weight = in_memory (λ r. r.weight) weight_offset byte_size weight_is (omega arith);
+      }
+
 -- a row is before the others
 pub first_row : (n : ℕ) (l : List ℕ) → 0 < n → rows_of n l ≡ row_of (take row_size l) ∷ rows_of (n - 1) (drop row_size l)
 unfolding rows_of

@@ -152,7 +152,7 @@ unfolding take_out
 out_view n i l m h o = only_shrunk n (n - 1) (without_row i (view_rows n l).rows) l m (omega arith) (length_without i (view_rows n l).rows (omega (arith, view_length n l)) ∙ ap (λ (x : ℕ). x - 1) (view_length n l)) o
 
 -- the stored weight without row i
-weight_out : (i : ℕ) (rs : List Row) → i < length rs → weigh_rows in_main (without_row i rs) + cond (ltb (row_at i rs).place 2) (row_at i rs).weight 0 ≡ weigh_rows in_main rs
+pub weight_out : (i : ℕ) (rs : List Row) → i < length rs → weigh_rows in_main (without_row i rs) + cond (ltb (row_at i rs).place 2) (row_at i rs).weight 0 ≡ weigh_rows in_main rs
 unfolding in_main
 weight_out i rs h = total_without (λ r. cond (ltb r.place 2) r.weight 0) i rs h
 

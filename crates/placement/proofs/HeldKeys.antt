@@ -54,7 +54,7 @@ pub weight_stored : (n : ℕ) (l : List ℕ) → sound (capacity l) (view_rows n
 weight_stored n l h = (shown n l h).stored_weight
 
 -- its bytes, saved
-saved_row : (n i : ℕ) (l : List ℕ) {b : List ℕ} → i < n → b ≡ cut (head_size + i * row_size) row_size l → row_of b ≡ row_in n i l
+pub saved_row : (n i : ℕ) (l : List ℕ) {b : List ℕ} → i < n → b ≡ cut (head_size + i * row_size) row_size l → row_of b ≡ row_in n i l
 saved_row n i l h e = ap row_of e ∙ sym (row_at_lem n i l h)
 
 -- ---- taken out
@@ -145,7 +145,7 @@ module _ {h : Hint} {at : Held} {b : Bool} {w : ℕ} {r : RoomAnswer} {l m x : L
   out_takes = takes h.key (at.n - 1) m x h.time w r without so (freed b t.main) (out_seq u t.held.seq)
 
   -- the room that was sought, by the rules
-  room_there : room_of r (view_rows r.rows x) ≡ make_room h.time w (take_out at.i (view_rows at.n l))
+  pub room_there : room_of r (view_rows r.rows x) ≡ make_room h.time w (take_out at.i (view_rows at.n l))
   room_there = t.room ∙ rw t.out
 
   -- filed in main or in probation: to is where, in which segment, and the charge that is added
@@ -173,7 +173,7 @@ module _ {h : Hint} {at : Held} {b : Bool} {w : ℕ} {r : RoomAnswer} {l m x : L
 
   -- no room was made, and the hint is not stated: a, the row's bytes, go back
   module _ {a : List ℕ} (ea : a ≡ cut (head_size + at.i * row_size) row_size l) (c : r.made || h.stated ≡ false) where
-    unmade : (d : Bool) → r.made ≡ d → r.victim ≡ None
+    pub unmade : (d : Bool) → r.made ≡ d → r.victim ≡ None
     unmade true e = contradiction (rw e) c
     unmade false e = t.none e
 

@@ -49,6 +49,11 @@ pub at_most : (v : ℕ) → length (decimal v) ≤ 20
 unfolding decimal
 at_most v = digits_most 20 v
 
+-- a number below 10 is its digit
+pub one_digit : (v : ℕ) → v < 10 → decimal v ≡ (48 + v) ∷ []
+unfolding decimal decimal_digits
+one_digit v h = rw (lt-ltb v 10 h)
+
 -- a number from 10^k up to ten times as much has k + 1 digits
 power : (k : ℕ) → 1 ≤ 10 ^ k
 power zero = omega arith

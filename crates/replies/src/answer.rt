@@ -1,16 +1,16 @@
 // 01's number and five values for what a call returns.
-#![tactic(auto, unfolding(rules::specs::Commands::reply, rules::specs::Answers::touch_reply, types::specs::Values::placed_reply, types::specs::Values::verified_reply, types::specs::Values::stats_reply, types::specs::Values::bit))]
+#![tactic(auto, unfolding(rules::specs::Commands::reply, rules::specs::Answers::touch_reply, rules::specs::Answers::touch_number_reply, types::specs::Values::placed_reply, types::specs::Values::verified_reply, types::specs::Values::stats_reply, types::specs::Values::bit))]
 
 ghost use Rattle.std.specs.Prelude.{◌≡◌, ℕ, Bool, Option, Result};
 ghost use Rattle.types.specs.declared.entry.CacheEntry.{CacheEntry as Entry};
-ghost use Rattle.rules.specs.Answers.{said, done, touch_reply};
+ghost use Rattle.rules.specs.Answers.{said, number_said, done, touch_reply, touch_number_reply};
 ghost use Rattle.rules.specs.Calls.{Answer, Hinted, VerifiedDone, EntryRemoved, KeyHeld, RowsRemoved, StatsGiven, ExpiryGiven};
 ghost use Rattle.rules.specs.Commands.{reply};
 
 use types::entry::CacheEntry;
 use types::placed::{Placed, VerifiedInsert};
 use types::refusal::Refusal;
-use types::reply::{Reply, says};
+use types::reply::{Reply, refused, says};
 use types::stats::CacheStats;
 
 // What a call that was done tells: an answer of the rules, and the five values that stand for it.
@@ -113,6 +113,16 @@ pub fn reply<T: Told>(answer: Result<T, Refusal>) -> Reply
     }
 }
 
+// The same where a refusal is told by its number, which may be any.
+pub fn number_reply<T: Told>(answer: Result<T, u8>) -> Reply
+    ensures { result ≡ reply (number_said T.answer answer) }
+{
+    match answer {
+        Ok(value) => value.reply(),
+        Err(number) => refused(number),
+    }
+}
+
 // touch: found, and the length.
 pub fn touch_reply(answer: Result<Option<u64>, Refusal>) -> Reply
     ensures { result ≡ touch_reply answer }
@@ -121,5 +131,16 @@ pub fn touch_reply(answer: Result<Option<u64>, Refusal>) -> Reply
         Ok(Some(len)) => says(1, len, 0, 0, 0),
         Ok(None) => says(0, 0, 0, 0, 0),
         Err(refusal) => Reply::from(refusal),
+    }
+}
+
+// The same where a refusal is told by its number.
+pub fn touch_number_reply(answer: Result<Option<u64>, u8>) -> Reply
+    ensures { result ≡ touch_number_reply answer }
+{
+    match answer {
+        Ok(Some(len)) => says(1, len, 0, 0, 0),
+        Ok(None) => says(0, 0, 0, 0, 0),
+        Err(n) => refused(n),
     }
 }

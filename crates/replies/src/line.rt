@@ -25,11 +25,16 @@ fn count_digits(v: u64) -> usize
 }
 
 // The digits from the last to the first; where the text goes on.
-#[tactic(auto, using(crate::proofs::Digits::all_digits, crate::proofs::Digits::at_most, crate::proofs::Texts::digit_turn), unfolding(crate::proofs::Digits::last_digits))]
+#[tactic(auto, using(crate::proofs::Digits::all_digits, crate::proofs::Digits::at_most, crate::proofs::Digits::one_digit, crate::proofs::Texts::digit_turn), unfolding(crate::proofs::Digits::last_digits))]
 fn put_decimal(out: &mut [u8], at: usize, v: u64) -> usize
     requires { at + 20 ≤ length out.old }
     ensures { (result ≡ at + length (decimal v)) × (out.new ≡ sets out.old at (decimal v)) }
 {
+    // most numbers of a reply have one
+    if v < 10 {
+        out[at] = 48 + v as u8;
+        return at + 1;
+    }
     let n = count_digits(v);
     let mut rest = v;
     for i in (0..n).rev() {

@@ -1,21 +1,32 @@
--- A call on a sound lent memory leaves a sound one; whether it is sound after fresh.
+-- A call on a sound lent memory leaves a sound one; whether it is sound after fresh; what a call that returns nothing replies.
 use mathlib.Core.Path.{◌≡◌, refl, sym, ◌∙◌, ap}
 use Prim.Native.Nat.{ℕ}
 use mathlib.Core.List.{List}
 use Rattle.std.specs.Prelude.{None}
 use mathlib.Core.Bool.{Bool, true, false, ◌||◌, or-false, or-true}
 use lib.Dec.{eqb}
+use Rattle.types.specs.Values.{says, refuses}
 use Rattle.rules.specs.Sound.{sound}
 use Rattle.rules.specs.Memory.{capacity, view}
-use Rattle.rules.specs.Calls.{Call, Done, was_refused}
-use Rattle.rules.specs.Refusals.{Request, Fresh, Asked, bad_size, refusal, serve, gives, perform_request}
+use Rattle.rules.specs.Calls.{Call, Answer, Done, was_refused}
+use Rattle.rules.specs.Refusals.{Request, Step, Fresh, Asked, bad_size, refusal, serve, gives, perform_request}
 use Rattle.rules.specs.Answers.{refusal_of}
 use Rattle.rules.specs.Lent.{Bytes, Small, Typed, TypedRequest, lent, call}
-use Rattle.rules.proofs.Refused.{fresh_refusal}
+use Rattle.rules.specs.Commands.{reply}
+use Rattle.rules.proofs.Refused.{by_serve, fresh_refusal}
 use Rattle.rules.proofs.SoundKept.{step_sound}
 use Rattle.rules.proofs.LentMemory.{lent_request, refused_leaves, capacity_same, freshened}
 use Rattle.rules.proofs.Public.{fresh_refused, unsound_one}
 use Rattle.rules.specs.Layout.{number_size}
+
+-- ---- calls that return nothing: their number is all they say
+
+pub number_reply : (l : List ℕ) (x : Request) → ((perform_request (capacity l) (view l) x).answer ≡ Done) → reply (lent l x).answer ≡ refuses (refusal_of (lent l x).answer)
+unfolding lent gives reply refusal_of refuses says
+number_reply l x d = by_serve (capacity l) (view l) x (λ (t : Step). reply t.answer ≡ refuses (refusal_of t.answer)) (λ n e. refl) (λ e. go (perform_request (capacity l) (view l) x).answer d)
+  where
+    go : (a : Answer) → a ≡ Done → reply a ≡ refuses (refusal_of a)
+    go a e = rw e
 
 -- ---- a sound memory stays sound
 

@@ -10,6 +10,11 @@ abbrev pub said : {A : Type 0} → (A → Answer) → Result A Refusal → Answe
 said f (Ok a) = f a
 said f (Err r) = Refused (refusal_code r)
 
+-- the same where the refusal is a number, which may be any
+abbrev pub number_said : {A : Type 0} → (A → Answer) → Result A ℕ → Answer
+number_said f (Ok a) = f a
+number_said f (Err n) = Refused n
+
 -- fresh, clear and clear_path_mtu say nothing but that they are done
 abbrev pub done : Unit {0} → Answer
 done u = Done
@@ -32,6 +37,12 @@ unfoldable pub touch_reply : Result (Option ℕ) Refusal → Reply
 touch_reply (Err r) = refuses (refusal_code r)
 touch_reply (Ok (Some len)) = says 1 len 0 0 0
 touch_reply (Ok None) = says 0 0 0 0 0
+
+-- the same where the refusal is a number
+unfoldable pub touch_number_reply : Result (Option ℕ) ℕ → Reply
+touch_number_reply (Err n) = refuses n
+touch_number_reply (Ok (Some len)) = says 1 len 0 0 0
+touch_number_reply (Ok None) = says 0 0 0 0 0
 
 -- the same result with its refusal's number in place of the refusal
 abbrev pub numbered : {A : Type 0} → Result A Refusal → Result A ℕ

@@ -45,7 +45,9 @@ fn order_to(row: &Row<'_>, key: NodeAddr) -> Ordering
 }
 
 // How many of n rows stand between two keys so far apart, were keys spread evenly, as hashes are.
-fn rows_in(n: usize, gap: u64) -> usize {
+fn rows_in(n: usize, gap: u64) -> usize
+    ensures { result < 65536 }
+{
     let count = (n % 65536) as u64;
     (gap / 0x1_0000_0000 * count / 0x1_0000_0000) as usize
 }

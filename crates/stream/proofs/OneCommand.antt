@@ -63,6 +63,14 @@ takes_operands cs b bs d e =
       reads = r;
     }
 
+-- A COMMAND CUT SHORT IS NONE
+pub cut_none : (cs : List Code) (b : ℕ) (bs : List ℕ) → cut_short_in cs b bs ≡ true → decode_in cs b bs ≡ None
+cut_none cs b bs h = go (decode_in cs b bs) refl
+  where
+    go : (o : Option Decoded) → decode_in cs b bs ≡ o → decode_in cs b bs ≡ None
+    go None e = e
+    go (Some d) e = contradiction h (takes_operands cs b bs d e).not_cut
+
 -- ---- bytes behind it
 
 -- the same command, with more bytes left

@@ -87,7 +87,7 @@ unfolding prefixed lines_text tally_after
 start last m i o p t = record { turns = length i; enough = omega arith; done = record { lines = []; whole = none_before _ ∙ ap (λ (n : ℕ). prefixed [] 0 (run_part (length i) last n (session m p) i)) (let z : length o ≡ length o - 0 = omega arith in z); text = refl; end = refl; inside = omega arith; counted = refl } }
 
 -- what was done so far is the whole
-ended : {e : RunEnd} (why : Stop) {m : List ℕ} {p : Sender} {o : List ℕ} {t : Tally} {at put : ℕ} {counts : Tally} {o' : List ℕ} → SoFar e (stopped why (session m p)) o t at put counts o'
+pub ended : {e : RunEnd} (why : Stop) {m : List ℕ} {p : Sender} {o : List ℕ} {t : Tally} {at put : ℕ} {counts : Tally} {o' : List ℕ} → SoFar e (stopped why (session m p)) o t at put counts o'
     → EndsAs e t (record { used = at; written = put; sender = p; tally = counts; stop = why }) m o o'
 unfolding prefixed stopped
 ended {e} why {o = o} {t = t} {at = at} s =
@@ -116,7 +116,7 @@ at_end {e} {last} {i} {o} {t} {at} {put} {p} {counts} {m} {o'} g k =
     nothing (suc n) room (b ∷ bs) z = absurd (let w : ⊥ = omega arith in w)
 
 -- a line more
-advanced : (e x : RunEnd) (l : Line) (k : ℕ) (o : List ℕ) (t : Tally) (at put at' put' : ℕ) (counts counts' : Tally) (o' o'' : List ℕ) → SoFar e (and_then l k x) o t at put counts o'
+pub advanced : (e x : RunEnd) (l : Line) (k : ℕ) (o : List ℕ) (t : Tally) (at put at' put' : ℕ) (counts counts' : Tally) (o' o'' : List ℕ) → SoFar e (and_then l k x) o t at put counts o'
     → at' ≡ at + k → put' ≡ put + length (line_text l) → put + length (line_text l) ≤ length o → o'' ≡ sets o' put (line_text l) → counts' ≡ tallied counts l.reply.refusal → SoFar e x o t at' put' counts' o''
 unfolding prefixed and_then
 advanced e x l k o t at put at' put' counts counts' o' o'' s ea ep b eo ec =
@@ -137,12 +137,12 @@ turn_left (suc k) h = (k, refl)
 module _ {e : RunEnd} {last : Bool} {i o : List ℕ} {t : Tally} {at put : ℕ} {p : Sender} {counts : Tally} {m o' : List ℕ}
     (g : Going e last i o t at put p counts m o') (h : at < length i) where
   -- the command at `at` is the next one
-  record Front : Type 0 where
+  pub record Front : Type 0 where
     pub turns : ℕ
     pub enough : length (drop (at + 1) i) ≤ turns
     pub done : SoFar e (run_part (suc turns) last (length o - put) (session m p) (get_or i at 0 ∷ drop (at + 1) i)) o t at put counts o'
 
-  front : Front
+  pub front : Front
   front =
       let c : drop at i ≡ get_or i at 0 ∷ drop (at + 1) i = rw add-one (drop-cons i at 0 h) in
       let l : length (drop at i) ≡ suc (length (drop (at + 1) i)) = ap (λ (x : List ℕ). length x) c in

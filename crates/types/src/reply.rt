@@ -24,16 +24,22 @@ pub fn says(a: u64, b: u64, c: u64, d: u64, e: u64) -> Reply
     }
 }
 
-// A refused command has nothing to report but why.
+// A refused command has nothing to report but why: a number, which may be any.
+#[tactic(auto, unfolding(crate::specs::Values::refuses))]
+pub fn refused(n: u8) -> Reply
+    ensures { result ≡ refuses n }
+{
+    Reply {
+        refusal: n,
+        values: [0u64; 5],
+    }
+}
+
 impl From<Refusal> for Reply {
     ghost from_gives = { λ refusal reply. reply ≡ refuses (refusal_code refusal) };
 
-    #[tactic(auto, unfolding(crate::specs::Values::refuses))]
     fn from(refusal: Refusal) -> Reply {
-        Reply {
-            refusal: u8::from(refusal),
-            values: [0u64; 5],
-        }
+        refused(u8::from(refusal))
     }
 }
 

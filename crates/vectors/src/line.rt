@@ -1,4 +1,5 @@
 // The lines of the recorded text, each with its newline.
+ghost use Rattle.std.specs.Prelude.{◌≤◌, length};
 
 // One that stands for something, by the byte that it begins with. Bytes are in hex: none where the line ends before they could begin.
 #[derive(Clone, Copy)]
@@ -63,7 +64,9 @@ fn digit(b: u8) -> u8 {
 }
 
 // The bytes of hex digits, at the front of a buffer: none where there is no room for all. A digit without another is left out.
-pub fn decode<'a>(digits: &[u8], buffer: &'a mut [u8]) -> &'a [u8] {
+pub fn decode<'a>(digits: &[u8], buffer: &'a mut [u8]) -> &'a [u8]
+    ensures { length result.now ≤ length buffer.old }
+{
     let pairs = digits.as_chunks::<2>().0;
     match buffer.get_mut(..pairs.len()) {
         Some(bytes) => {

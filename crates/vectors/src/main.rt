@@ -36,9 +36,8 @@ fn size(rows: u64) -> usize {
 }
 
 // Runs the commands of a line, from an empty pending path: how many bytes of the output they wrote.
-fn run(memory: &mut [u8], digits: &[u8], output: &mut [u8]) -> usize {
-    let mut buffer = io::buffer();
-    let commands = decode(digits, &mut buffer);
+fn run(memory: &mut [u8], digits: &[u8], buffer: &mut [u8], output: &mut [u8]) -> usize {
+    let commands = decode(digits, buffer);
     let tally = Tally {
         done: 0,
         refused: 0,
@@ -49,9 +48,9 @@ fn run(memory: &mut [u8], digits: &[u8], output: &mut [u8]) -> usize {
 
 // A line of the stream that has this memory. Each stream begins on what the one before left.
 fn take(
-    rt: &impl Print,
     line: Line<'_>,
     memory: &mut [u8],
+    buffer: &mut [u8],
     output: &mut [u8],
     session: &mut Session,
 ) {
@@ -60,23 +59,20 @@ fn take(
             let fresh = state::fresh::fresh(memory, start.max, start.ttl);
             session.expect(fresh.is_ok(), Difference::Text);
         }
-        Line::In(Some(digits)) => session.run(run(memory, digits, output)),
+        Line::In(Some(digits)) => session.run(run(memory, digits, buffer, output)),
         Line::In(None) => {}
         Line::Out(answer) => session.answer(answer, output),
         Line::Head(head) => session.expect(compare::same_head(memory, head), Difference::Head),
-        Line::Row(Some(digits)) => {
-            let mut buffer = io::buffer();
-            session.row(memory, decode(digits, &mut buffer));
-        }
+        Line::Row(Some(digits)) => session.row(memory, decode(digits, buffer)),
         Line::Row(None) => session.row(memory, &[]),
-        Line::End => session.end(rt, memory),
+        Line::End => session.end(memory),
     }
 }
 
 fn replay(
-    rt: &impl Print,
     line: &[u8],
     memory: &mut [u8],
+    buffer: &mut [u8],
     output: &mut [u8],
     session: &mut Session,
 ) {
@@ -89,20 +85,22 @@ fn replay(
     }
     session.advance(line);
     if let Some(memory) = memory.get_mut(..session.size()) {
-        take(rt, line, memory, output, session);
+        take(line, memory, buffer, output, session);
     }
 }
 
 // What cannot be read is the end of the text, and what cannot be written is dropped.
-fn main(rt: HostRuntime) {
+fn main() {
     let mut memory = whole_memory();
     let mut space = io::large_buffer();
     let mut output = io::large_buffer();
     let n = io::read_full(0, &mut space);
+    // the bytes of a line in hex
+    let mut buffer = io::buffer();
     let mut session = Session::new();
     let lines = space[..n].split_inclusive(|b| *b == b'\n');
     for line in lines.filter(|line| !line.starts_with(b"#")) {
-        replay(&rt, line, &mut memory, &mut output, &mut session);
+        replay(line, &mut memory, &mut buffer, &mut output, &mut session);
     }
-    session.close(&rt);
+    session.close();
 }

@@ -1,7 +1,9 @@
 // What the lines so far came to: of the stream that is being read, and of all.
 use crate::compare;
 use crate::line::Line;
+use output::Output;
 use std::fmt;
+use std::fmt::Write;
 
 // What a stream's first difference is in. Lines of the output and rows are counted from 1.
 #[derive(Clone, Copy)]
@@ -18,11 +20,11 @@ pub enum Difference {
 impl fmt::Display for Difference {
     fn fmt<W: fmt::Write>(&self, f: &mut fmt::Formatter<W>) -> fmt::Result {
         match *self {
-            Difference::Text => write!(f, "text"),
-            Difference::Line(nth) => write!(f, "line {nth}"),
-            Difference::Head => write!(f, "head"),
-            Difference::Row(nth) => write!(f, "row {nth}"),
-            Difference::Rest => write!(f, "rest"),
+            Difference::Text => write!(f, ": text"),
+            Difference::Line(nth) => write!(f, ": line {nth}"),
+            Difference::Head => write!(f, ": head"),
+            Difference::Row(nth) => write!(f, ": row {nth}"),
+            Difference::Rest => write!(f, ": rest"),
         }
     }
 }
@@ -168,16 +170,16 @@ impl Session {
     }
 
     // A line of the output that was not recorded is a difference too.
-    pub fn end(&mut self, rt: &impl Print, memory: &[u8]) {
+    pub fn end(&mut self, memory: &[u8]) {
         let stream = self.stream;
         let nth = stream.lines.saturating_add(1);
         self.expect(stream.compared == stream.written, Difference::Line(nth));
         self.expect(compare::rest_is_zero(memory, stream.rows), Difference::Rest);
-        self.report(rt);
+        self.report();
     }
 
     // The line of the stream that has ended. A stream that ends twice is told twice, and differs once.
-    fn report(&mut self, rt: &impl Print) {
+    fn report(&mut self) {
         let nth = self.streams;
         let Stream {
             lines,
@@ -187,24 +189,27 @@ impl Session {
         } = self.stream;
         match difference {
             None => {
-                let _ = println!(rt; "stream {nth}: {lines} commands, {rows} rows, same");
+                let _ = writeln!(Output, "stream {nth}: {lines} commands, {rows} rows, same");
             }
             Some(difference) => {
                 self.differences = self.differences.saturating_add(1).min(nth);
-                let _ = println!(rt; "stream {nth}: {difference} differs");
+                let _ = writeln!(Output, "stream {nth}{difference} differs");
             }
         }
     }
 
     // The line of all streams. A text that ends inside a stream has a stream that differs.
-    pub fn close(mut self, rt: &impl Print) {
+    pub fn close(mut self) {
         if self.stage != Stage::Ended {
             self.expect(false, Difference::Text);
-            self.report(rt);
+            self.report();
         }
         let streams = self.streams;
         let commands = self.commands;
         let differences = self.differences;
-        let _ = println!(rt; "{streams} streams, {commands} commands, {differences} differences");
+        let _ = writeln!(
+            Output,
+            "{streams} streams, {commands} commands, {differences} differences"
+        );
     }
 }

@@ -3,4 +3,4 @@ use Rattle.std.proofs.Common.{◌≤◌, ◌*◌}
 use Rattle.checks.proofs.short_lengths.Given as goal
 
 abbrev pub invariant-loop-length : goal.invariant-loop-length
-invariant-loop-length g l = l.count ≤ 22 * l.length
+invariant-loop-length l = l.count ≤ 22 * l.length
