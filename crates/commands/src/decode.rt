@@ -43,7 +43,7 @@ fn funding(operands: &[u8]) -> Option<Funding>
 }
 
 // What a code says by its operands, which are there.
-#[tactic(auto, using(std::proofs::lemmas::Bool::Decides::nat_tests, crate::proofs::FundingKind::funded_is, crate::proofs::Operands::element_in), unfolding(rules::specs::Commands::codes, rules::specs::Commands::code, rules::specs::Commands::code_of, rules::specs::Commands::read_as, crate::specs::Reading::named, crate::specs::Reading::command_named, crate::specs::Reading::write_named, crate::specs::Reading::call_named, crate::specs::Reading::command_in))]
+#[tactic(auto, using(std::proofs::lemmas::Bool::Decides::nat_tests, crate::proofs::FundingKind::funding_read, crate::proofs::Operands::element_in), unfolding(rules::specs::Commands::codes, rules::specs::Commands::code, rules::specs::Commands::code_of, rules::specs::Commands::read_as, crate::specs::Reading::funding_in, crate::specs::Reading::named, crate::specs::Reading::command_named, crate::specs::Reading::write_named, crate::specs::Reading::call_named, crate::specs::Reading::command_in))]
 fn read(code: u8, operands: &[u8]) -> Option<Command>
     requires { HoldsOperands code (length operands.now) }
     ensures { named result ≡ command_in code operands.now }

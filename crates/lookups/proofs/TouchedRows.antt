@@ -24,7 +24,7 @@ use Rattle.rules.specs.Answers.{numbered, refusal_of, touch_answer, touch_reply}
 use Rattle.rules.specs.Commands.{reply}
 use Rattle.rules.specs.Memory.{capacity, view_rows, view}
 use Rattle.rules.specs.Lent.{Bytes, lent, call}
-use Rattle.refusals.proofs.RefusalsSaid.{one_said}
+use Rattle.refusals.proofs.RefusalsSaid.{one_said, err_is, unsound_kept}
 use Rattle.memory.proofs.RowLaws.{view_length}
 use Rattle.memory.proofs.Fields.{row_at_lem}
 use Rattle.entries.proofs.PathElements.{elements_length}
@@ -144,3 +144,14 @@ one_touched l k time (Ok v) e h w = absurd w
 one_touched l k time (Err y) e h w =
     let u = one_said l e (GetAndTouch k time) (h ∙ ap (λ (z : Refusal). Err z) (sym w)) in
     told l k time (Err y) l (ap touch_answer u.0) u.1
+
+-- `one_touched`, an equation each, of the refusal that `check_sound` gives
+module _ (l : List ℕ) (k : NodeAddr) (time : ℕ) {x : Refusal} {r : Result (Option ℕ) Refusal}
+    (e : ◌≡◌ {A = Result (Unit {0}) Refusal} (Err x) (cond (sound (capacity l) (view l)) (Ok tt) (Err UnsoundState))) (w : r ≡ Err x) where
+  pub unsound_replied : touch_reply r ≡ reply (call l (GetAndTouch k time)).answer
+  unsound_replied = rw w ((one_touched l k time (Err x) e refl refl).replied)
+
+  pub unsound_answered : numbered r ≡ touch_answer (call l (GetAndTouch k time)).answer
+  unsound_answered = rw w ((one_touched l k time (Err x) e refl refl).answered)
+
+pub ruleset unsound_touched = (err_is, unsound_replied, unsound_answered, unsound_kept)

@@ -46,6 +46,7 @@ pub fn demote_unchecked(state: &mut [u8], key: NodeAddr) -> Result<bool, Refusal
     }
 }
 
+#[tactic(auto, using(refusals::proofs::RefusalsSaid::unsound_told))]
 pub fn demote(state: &mut [u8], key: NodeAddr) -> Result<bool, Refusal>
     ensures { (said KeyHeld result ≡ (call state.old (Demote key)).answer) × (state.new ≡ (call state.old (Demote key)).memory) }
 {

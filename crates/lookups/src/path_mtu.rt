@@ -22,6 +22,7 @@ pub fn clear_path_mtu_unchecked(state: &mut [u8], key: NodeAddr)
     }
 }
 
+#[tactic(auto, using(refusals::proofs::RefusalsSaid::unsound_told))]
 pub fn clear_path_mtu(state: &mut [u8], key: NodeAddr) -> Result<(), Refusal>
     ensures { (said done result ≡ (call state.old (ClearPathMtu key)).answer) × (state.new ≡ (call state.old (ClearPathMtu key)).memory) }
 {

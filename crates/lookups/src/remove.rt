@@ -28,6 +28,7 @@ pub fn remove_unchecked(state: &mut [u8], key: NodeAddr) -> Option<CacheEntry>
     }
 }
 
+#[tactic(auto, using(refusals::proofs::RefusalsSaid::unsound_told))]
 pub fn remove(state: &mut [u8], key: NodeAddr) -> Result<Option<CacheEntry>, Refusal>
     ensures { (said EntryRemoved result ≡ (call state.old (Remove key)).answer) × (state.new ≡ (call state.old (Remove key)).memory) }
 {

@@ -60,6 +60,7 @@ pub fn touch_unchecked(state: &mut [u8], key: NodeAddr, time: u64) -> Option<u64
     }
 }
 
+#[tactic(auto, using(crate::proofs::TouchedRows::unsound_touched))]
 pub fn touch(state: &mut [u8], key: NodeAddr, time: u64) -> Result<Option<u64>, Refusal>
     ensures replied { touch_reply result ≡ reply (call state.old (GetAndTouch key time)).answer }
     ensures answered { numbered result ≡ touch_answer (call state.old (GetAndTouch key time)).answer }

@@ -57,14 +57,17 @@ pub fn remove_row(state: &mut [u8], n: usize, i: usize)
     shrink(state, n, n - 1, stored);
 }
 
-// The bytes of row i go to row j, which stands before it.
+// The bytes of row i go to row j, which stands before it; in a loop, as `raw::moves` has it.
+#[tactic(auto, using(raw::proofs::MoveLaws::copied_step))]
 pub fn copy_row(state: &mut [u8], n: usize, i: usize, j: usize)
     requires { (j < i) × (i < n) × (head_size + n * row_size ≤ length state.old) }
     ensures { state.new ≡ sets state.old (head_size + j * row_size) (cut (head_size + i * row_size) row_size state.old) }
 {
     let from = HEAD + i * ROW;
     let to = HEAD + j * ROW;
-    state[to..from + ROW].copy_within(from - to.., 0);
+    for k in 0..ROW {
+        state[to + k] = state[from + k];
+    }
 }
 
 // Both limits are set, and everything else up to the end of row R becomes zero.

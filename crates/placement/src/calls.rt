@@ -36,6 +36,7 @@ pub fn insert_unchecked(
     )
 }
 
+#[tactic(auto, using(refusals::proofs::RefusalsSaid::unsound_told))]
 pub fn insert(state: &mut [u8], key: NodeAddr, path: Path, time: u64) -> Result<Placed, Refusal>
     ensures { (said Hinted result ≡ (call state.old (Insert key path time)).answer) × (state.new ≡ (call state.old (Insert key path time)).memory) }
 {
@@ -57,6 +58,7 @@ pub fn insert_with_ttl_unchecked(
     place_hint(state, key, &path, time, ttl, Funding::Uncharged, false)
 }
 
+#[tactic(auto, using(refusals::proofs::RefusalsSaid::unsound_told))]
 pub fn insert_with_ttl(
     state: &mut [u8],
     key: NodeAddr,
@@ -85,6 +87,7 @@ pub fn insert_funded_unchecked(
     place_hint(state, key, &path, time, default_ttl, funding, false)
 }
 
+#[tactic(auto, using(refusals::proofs::RefusalsSaid::unsound_told))]
 pub fn insert_funded(
     state: &mut [u8],
     key: NodeAddr,
@@ -115,6 +118,7 @@ pub fn insert_stated_unchecked(
     place_hint(state, key, &path, time, default_ttl, funding, stated)
 }
 
+#[tactic(auto, using(refusals::proofs::RefusalsSaid::unsound_told))]
 pub fn insert_stated(
     state: &mut [u8],
     key: NodeAddr,

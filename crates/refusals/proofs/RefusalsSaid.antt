@@ -49,3 +49,18 @@ module _ (l : List ℕ) {a : Result (Unit {0}) Refusal} (e : a ≡ cond (sound (
   pub one_numbered : (q : Call) {r : Refusal} {n : ℕ} → a ≡ Err r → n ≡ refusal_code r → (n ≡ refusal_of (call l q).answer) × (l ≡ (call l q).memory)
   unfolding refusal_of
   one_numbered q h e = let u = one_said q h in (e ∙ ap refusal_of u.0, u.1)
+
+-- what `?` hands on is the refusal that it met
+pub err_is : {A : Type 0} {r : Result A Refusal} {x : Refusal} → IsErrAnd r (λ y. y ≡ x) → r ≡ Err x
+err_is {r = Ok v} w = absurd w
+err_is {r = Err y} w = ap (λ z. Err z) w
+
+-- `one_told`, an equation each, of the refusal that `check_sound` gives
+module _ (l : List ℕ) (q : Call) {x : Refusal} where
+  pub unsound_said : {A : Type 0} (f : A → Answer) {r : Result A Refusal} → ◌≡◌ {A = Result (Unit {0}) Refusal} (Err x) (cond (sound (capacity l) (view l)) (Ok tt) (Err UnsoundState)) → r ≡ Err x → said_as f r ≡ (call l q).answer
+  unsound_said f e w = rw w ((one_told l e f q (Err x) refl refl).0)
+
+  pub unsound_kept : ◌≡◌ {A = Result (Unit {0}) Refusal} (Err x) (cond (sound (capacity l) (view l)) (Ok tt) (Err UnsoundState)) → l ≡ (call l q).memory
+  unsound_kept e = (one_said l e q refl).1
+
+pub ruleset unsound_told = (err_is, unsound_said, unsound_kept)

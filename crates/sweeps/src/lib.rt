@@ -60,6 +60,7 @@ pub fn invalidate_other_roots_unchecked(state: &mut [u8], addr: NodeAddr) -> u64
     sweep(state, |row| !root_is(row, addr))
 }
 
+#[tactic(auto, using(refusals::proofs::RefusalsSaid::unsound_told))]
 pub fn clear(state: &mut [u8]) -> Result<(), Refusal>
     ensures { (said done result ≡ (call state.old Clear).answer) × (state.new ≡ (call state.old Clear).memory) }
 {
@@ -68,6 +69,7 @@ pub fn clear(state: &mut [u8]) -> Result<(), Refusal>
     Ok(())
 }
 
+#[tactic(auto, using(refusals::proofs::RefusalsSaid::unsound_told))]
 pub fn purge_expired(state: &mut [u8], time: u64) -> Result<u64, Refusal>
     ensures { (said RowsRemoved result ≡ (call state.old (PurgeExpired time)).answer) × (state.new ≡ (call state.old (PurgeExpired time)).memory) }
 {
@@ -75,6 +77,7 @@ pub fn purge_expired(state: &mut [u8], time: u64) -> Result<u64, Refusal>
     Ok(purge_expired_unchecked(state, time))
 }
 
+#[tactic(auto, using(refusals::proofs::RefusalsSaid::unsound_told))]
 pub fn invalidate_via_node(state: &mut [u8], addr: NodeAddr) -> Result<u64, Refusal>
     ensures { (said RowsRemoved result ≡ (call state.old (InvalidateViaNode addr)).answer) × (state.new ≡ (call state.old (InvalidateViaNode addr)).memory) }
 {
@@ -82,6 +85,7 @@ pub fn invalidate_via_node(state: &mut [u8], addr: NodeAddr) -> Result<u64, Refu
     Ok(invalidate_via_node_unchecked(state, addr))
 }
 
+#[tactic(auto, using(refusals::proofs::RefusalsSaid::unsound_told))]
 pub fn invalidate_other_roots(state: &mut [u8], addr: NodeAddr) -> Result<u64, Refusal>
     ensures { (said RowsRemoved result ≡ (call state.old (InvalidateOtherRoots addr)).answer) × (state.new ≡ (call state.old (InvalidateOtherRoots addr)).memory) }
 {

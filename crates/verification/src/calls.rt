@@ -50,6 +50,7 @@ pub fn insert_verified_unchecked(
     verify(state, key, path, time, None)
 }
 
+#[tactic(auto, using(refusals::proofs::RefusalsSaid::unsound_told))]
 pub fn insert_verified(
     state: &mut [u8],
     key: NodeAddr,
@@ -75,6 +76,7 @@ pub fn insert_verified_with_path_mtu_unchecked(
     verify(state, key, path, time, Some(mtu))
 }
 
+#[tactic(auto, using(refusals::proofs::RefusalsSaid::unsound_told))]
 pub fn insert_verified_with_path_mtu(
     state: &mut [u8],
     key: NodeAddr,

@@ -1,7 +1,6 @@
--- What takes the pending path is equal under a λ, where `grind` does not look: each operand is read as the table of codes reads it.
+-- What takes the pending path is equal under a λ, where `grind` does not look: each operand is read as the table of codes reads it. Commands 0x12 and 0x13 have laws in `FundingKind`.
 use Rattle.rules.specs.Commands.{code, codes, code_of, read_as}
 use Rattle.commands.specs.Reading.{named, command_named, write_named, command_in}
-use Rattle.commands.proofs.FundingKind.{funded_is}
 use Rattle.commands.proofs.decode.read.Goals as goal
 
 pub returns-in-16 : goal.returns-in-16
@@ -11,14 +10,6 @@ returns-in-16 c = rw (c.in-16.is, c.key.ensures, c.time.ensures)
 pub returns-in-17 : goal.returns-in-17
 unfolding named command_named write_named command_in code_of codes code read_as
 returns-in-17 c = rw (c.in-17.is, c.key-in-17.ensures, c.time-in-17.ensures, c.read_u64-in-17.ensures)
-
-pub returns-in_ok-funding-in-18 : goal.returns-in_ok-funding-in-18
-unfolding named command_named write_named command_in code_of codes code read_as
-returns-in_ok-funding-in-18 c = rw (c.in-18.is, funded_is, ← c.funding.ensures, c.in_ok-funding-in-18.was, c.key-in-18.ensures, c.time-in-18.ensures)
-
-pub returns-in_ok-funding-in-19 : goal.returns-in_ok-funding-in-19
-unfolding named command_named write_named command_in code_of codes code read_as
-returns-in_ok-funding-in-19 c = rw (c.in-19.is, funded_is, ← c.funding-in-19.ensures, c.in_ok-funding-in-19.was, c.key-in-19.ensures, c.time-in-19.ensures)
 
 pub returns-in-20 : goal.returns-in-20
 unfolding named command_named write_named command_in code_of codes code read_as

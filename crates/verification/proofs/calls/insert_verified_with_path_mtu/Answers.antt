@@ -1,7 +1,0 @@
--- An unsound state is refused by 1.
-use Rattle.rules.specs.Calls.{VerifiedDone}
-use Rattle.refusals.proofs.RefusalsSaid.{one_told}
-use Rattle.verification.proofs.calls.insert_verified_with_path_mtu.Goals as goal
-
-pub returns-in_err-check_sound : goal.returns-in_err-check_sound
-returns-in_err-check_sound c = one_told _ c.check_sound.ensures VerifiedDone _ _ (c.in_err-check_sound.was {u = tt}) c.from_residual.ensures.1
